@@ -1,7 +1,7 @@
 -- Where nothing is lost, each body is answered.
-use Rattle.std.proofs.Common.{◌≡◌, ◌↔◌, ℕ, ◌+◌, List, [], ◌∷◌, length, map, Option, Some, None}
-use Rattle.std.proofs.Common.{refl, sym, ap, subst}
-use Rattle.std.specs.List.{AllByRecursion, zip}
+use Rattle.std.proofs.Common.{◌≡◌, ◌↔◌, ℕ, ◌+◌, List, [], ◌∷◌, length, Option, Some, None}
+use Rattle.std.proofs.Common.{refl, sym, ap, subst, drop, get_or}
+use Rattle.std.specs.List.{AllByRecursion}
 use Rattle.ipb_base.specs.Word.{AreWords}
 use Rattle.ipb_base.proofs.AllLemmas.{all-map}
 use Rattle.transaction_codec.specs.declared.request.Request.{Request}
@@ -21,7 +21,7 @@ use Rattle.script_plans.specs.declared.board_run.ClientPart.{ClientPart}
 use Rattle.script_plans.specs.declared.board_run.BoardRun.{BoardRun}
 use Rattle.script_plans.specs.Plan.{ClientBodies, AreSpelled}
 use Rattle.lane_record.specs.Outcomes.{place_of}
-use Rattle.transcript.specs.Ends.{told_of, end_of, told_by}
+use Rattle.transcript.specs.Ends.{told_of, end_of, ends_with, told_by}
 use Rattle.board_history.specs.InTurn.{outcomes_from}
 use Rattle.board_history.specs.Runs.{parts_in_turn, plans_on, greeting_of, opening_of, board_run}
 use Rattle.board_history.specs.Answering.{IsAnswered, AreAnswered, AsksRequests, AskRequests, OpensWithWords}
@@ -70,16 +70,18 @@ Joins = (body reply : List ℕ) (list : List Answer) → AreWords body → AreWo
 abbrev pub ToldPart : ClientPart → Type 0
 ToldPart p = Both IsTold p.planned.bodies p.outcomes
 
-end_answered : (body : List ℕ) (outcome : Outcome) → IsTold body outcome → IsAnswered (end_of (body, outcome))
-end_answered body outcome is =
-    subst (λ (o : Outcome). IsAnswered (record { place = place_of o; told = told_of body o })) (sym is.is)
+end_answered : (body : List ℕ) (outcome : Outcome) (late : Option (List ℕ)) → IsTold body outcome
+    → IsAnswered (end_of body outcome late)
+end_answered body outcome late is =
+    subst (λ (o : Outcome). IsAnswered (record { place = place_of o; told = told_of body o late })) (sym is.is)
     (record { place' = is.place'; placed = refl; answers = is.list; answered = ap told_by is.found })
 
-ends_answered : (bodies : List (List ℕ)) (outcomes : List Outcome) → Both IsTold bodies outcomes
-    → AllByRecursion IsAnswered (map end_of (zip bodies outcomes))
-ends_answered [] outcomes both = tt
-ends_answered (b ∷ bs) [] both = absurd both
-ends_answered (b ∷ bs) (o ∷ os) both = (end_answered b o both.0, ends_answered bs os both.1)
+ends_answered : (bodies : List (List ℕ)) (outcomes : List Outcome) (lates : List (Option (List ℕ)))
+    → Both IsTold bodies outcomes → AllByRecursion IsAnswered (ends_with bodies outcomes lates)
+ends_answered [] outcomes lates both = tt
+ends_answered (b ∷ bs) [] lates both = absurd both
+ends_answered (b ∷ bs) (o ∷ os) lates both =
+    (end_answered b o (get_or lates 0 None) both.0, ends_answered bs os (drop 1 lates) both.1)
 
 module _ (answering : Answering) (any : AnsweringAny) (keeping : Keeping) (keeping_all : KeepingAll)
     (garbling : Garbling) (joins : Joins) where
@@ -133,5 +135,5 @@ module _ (answering : Answering) (any : AnsweringAny) (keeping : Keeping) (keepi
   run_answered spec board scripts run is opens =
       subst (λ (r : BoardRun). AskRequests r → AllByRecursion AreAnswered r.parts) (sym is)
       (λ asks. all-map ToldPart AreAnswered (board_run spec board scripts).parts
-      (λ p. ends_answered p.planned.bodies p.outcomes)
+      (λ p. ends_answered p.planned.bodies p.outcomes p.lates)
       (parts_told 1 (opening_of spec.link) (plans_on board (greeting_of spec.link) scripts) opens asks))

@@ -1,5 +1,6 @@
 -- Each line shows a result of an allowed kind: where nothing is lost, what the bus answered.
-use Rattle.std.proofs.Common.{◌≡◌, ◌⊎◌, ℕ, zero, suc, ◌+◌, ◌<◌, List, [], ◌∷◌, ◌++◌, map, Option, Some, None, refl, sym, ap}
+use Rattle.std.proofs.Common.{◌≡◌, ◌⊎◌, ℕ, zero, suc, ◌+◌, ◌<◌, List, [], ◌∷◌, ◌++◌, map, Option, Some, None}
+use Rattle.std.proofs.Common.{refl, sym, ap}
 use Rattle.std.proofs.Common.{◌∙◌, subst, inl, inr, arith, append_assoc}
 use Rattle.std.specs.List.{AllByRecursion, slice_get}
 use Rattle.std.specs.Option.{option_map}
@@ -30,8 +31,9 @@ use Rattle.transcript.proofs.Allowed.{allowed-append, asked_allowed}
 use Rattle.board_history.specs.Runs.{RunsHere, IsRun, AreRuns, greeting_of, plans_on}
 use Rattle.board_history.specs.Answering.{AskRequests}
 use Rattle.board_history.specs.Lines.{IsBusResult, IsBusLine}
-use Rattle.board_history.proofs.Readiness.{KeepsVerb, KeepsUnlessDenied, AskKeeps, KeepVerbs, ArePacked, ArePackedFor, IsReady, AreReady}
-use Rattle.board_history.proofs.Lists.{Both, both_at, both_same, all_at}
+use Rattle.board_history.proofs.Readiness.{KeepsVerb, KeepsUnlessDenied, AskKeeps, KeepVerbs, ArePacked, ArePackedFor}
+use Rattle.board_history.proofs.Readiness.{IsReady, AreReady}
+use Rattle.board_history.proofs.Lists.{Both, BothWith, both_at, both_with, all_at}
 use Rattle.board_history.proofs.Asking.{AreAsked, plan_asked, op_at}
 use Rattle.board_history.proofs.Answering.{IsTold, ToldPart}
 use Rattle.board_history.proofs.BusResults.{AllowsBus, Fits, IsFine, combined_allowed}
@@ -40,7 +42,7 @@ use Rattle.board_history.proofs.BusResults.{AllowsBus, Fits, IsFine, combined_al
 
 -- each body of a client was told its answers, or what is told of it is allowed
 abbrev pub FinePart : (OpResult → Type 0) → ClientPart → Type 0
-FinePart P part = Both (IsFine P) part.planned.bodies part.outcomes
+FinePart P part = BothWith (IsFine P) part.planned.bodies part.outcomes part.lates
 
 pub record Shows (P : OpResult → Type 0) (board payload : ℕ) (scripts : List (List Step)) (run : BoardRun)
     : Type 0 where
@@ -70,10 +72,10 @@ Fitting P = (part : ClientPart) (op : Op) (pieces : List PieceAt) → FinePart P
     → AreAsked part.planned.bodies op pieces
     → AllByRecursion (Fits P op) (map (piece_result (ends_of part)) pieces)
 
-told_fine : (bodies : List (List ℕ)) (outcomes : List Outcome) → Both IsTold bodies outcomes
-    → Both (IsFine IsBusResult) bodies outcomes
-told_fine bodies outcomes told =
-    both_same IsTold (IsFine IsBusResult) bodies outcomes (λ body outcome is. inl is) told
+told_fine : (bodies : List (List ℕ)) (outcomes : List Outcome) (lates : List (Option (List ℕ)))
+    → Both IsTold bodies outcomes → BothWith (IsFine IsBusResult) bodies outcomes lates
+told_fine bodies outcomes lates told =
+    both_with IsTold (IsFine IsBusResult) bodies outcomes lates (λ body outcome late is. inl is) told
 
 run_shows : Telling → (spec : BoardSpec) (board : ℕ) (scripts : List (List Step)) (run : BoardRun)
     → IsRun spec board scripts run
@@ -86,7 +88,7 @@ run_shows telling spec board scripts run is ready asks =
         live = told;
         plans' = is.plans ∙ ap (λ (g : Greeting). plans_on board g scripts) told;
         told = all-map ToldPart (FinePart IsBusResult) run.parts
-            (λ part told_part. told_fine part.planned.bodies part.outcomes told_part)
+            (λ part told_part. told_fine part.planned.bodies part.outcomes part.lates told_part)
             (telling spec board scripts run is ready asks);
         packed' = subst (λ (g : Greeting). AllByRecursion (ArePackedFor board g) scripts) live.1 ready.packed';
       },

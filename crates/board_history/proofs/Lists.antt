@@ -1,6 +1,6 @@
 -- Lists item by item.
 use Rattle.std.proofs.Common.{◌≡◌, ℕ, suc, ◌+◌, ◌<◌, List, ◌∷◌, length, drop, refl, sym, ap, ◌∙◌, add-one, drop-cons}
-use Rattle.std.proofs.Common.{get_or, zero, [], ◌++◌, map, Some, subst, arith}
+use Rattle.std.proofs.Common.{get_or, zero, [], ◌++◌, map, Option, Some, None, subst, arith}
 use Rattle.std.specs.List.{AllByRecursion, slice_get}
 use Rattle.std.proofs.lemmas.Option.{same_Some}
 
@@ -31,6 +31,22 @@ module _ {A B : Type 0} (R : A → B → Type 0) where
   both_at (z ∷ xs) [] k x both here = absurd both
   both_at (z ∷ xs) (y ∷ ys) zero x both here = (y, refl, subst (λ w. R w y) (same_Some z x here) both.0)
   both_at (z ∷ xs) (y ∷ ys) (suc k) x both here = both_at xs ys k x both.1 here
+
+-- the same with what stands beside each item of a third list; behind its end nothing does
+abbrev pub BothWith : {A B C : Type 0} → (A → B → Option C → Type 0) → List A → List B → List (Option C) → Type 0
+BothWith R [] [] zs = Unit {0}
+BothWith R [] (y ∷ ys) zs = ⊥
+BothWith R (x ∷ xs) [] zs = ⊥
+BothWith R (x ∷ xs) (y ∷ ys) zs = R x y (get_or zs 0 None) × BothWith R xs ys (drop 1 zs)
+
+-- whatever stands beside them
+pub both_with : {A B C : Type 0} (R : A → B → Type 0) (S : A → B → Option C → Type 0) (xs : List A) (ys : List B)
+    (zs : List (Option C)) → ((x : A) (y : B) (z : Option C) → R x y → S x y z) → Both R xs ys → BothWith S xs ys zs
+both_with R S [] [] zs g both = tt
+both_with R S [] (y ∷ ys) zs g both = absurd both
+both_with R S (x ∷ xs) [] zs g both = absurd both
+both_with R S (x ∷ xs) (y ∷ ys) zs g both =
+    (g x y (get_or zs 0 None) both.0, both_with R S xs ys (drop 1 zs) g both.1)
 
 pub both_map : {A B C : Type 0} (R : A → B → Type 0) (S : A → C → Type 0) (f : B → C) (xs : List A) (ys : List B)
     → ((x : A) (y : B) → R x y → S x (f y)) → Both R xs ys → Both S xs (map f ys)

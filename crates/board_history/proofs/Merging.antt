@@ -460,10 +460,11 @@ owners bodies outcomes = all_owned (length bodies) (sorted bodies outcomes)
 
 -- ---- what was executed
 
-pub executed_some : (bodies : List (List (List ℕ))) (outcomes : List (List Outcome)) (executed : List (List ℕ))
-    → map length outcomes ≡ map length bodies → KeepsScripts bodies outcomes
-    → IsExecutedOnce (order bodies outcomes) outcomes executed → IsMergeOfSome bodies executed
-executed_some bodies outcomes executed shape keeps once =
+pub executed_some : (bodies : List (List (List ℕ))) (outcomes : List (List Outcome))
+    (lates : List (List (Option (List ℕ)))) (executed : List (List ℕ)) → map length outcomes ≡ map length bodies
+    → KeepsScripts bodies outcomes → IsExecutedOnce (order bodies outcomes) outcomes lates executed
+    → IsMergeOfSome bodies executed
+executed_some bodies outcomes lates executed shape keeps once =
     front_of_merge bodies executed (map as_owned (sorted bodies outcomes))
     (subst (IsPrefix executed) (order_owned bodies outcomes) once.front)
     (each_sub 1 [] (all_tagged 1 bodies outcomes) bodies outcomes refl (λ other le. refl) shape keeps)
@@ -514,10 +515,11 @@ whole_front [] [] le = refl
 whole_front [] (y ∷ ys) le = absurd (omega (arith, le))
 whole_front (x ∷ xs) ys le = ap (λ (zs : List (List ℕ)). x ∷ zs) (whole_front xs ys (omega (arith, le)))
 
-pub executed_whole : (bodies : List (List (List ℕ))) (outcomes : List (List Outcome)) (executed : List (List ℕ))
-    → HasOneOrder bodies outcomes → AllReplied outcomes → IsExecutedOnce (order bodies outcomes) outcomes executed
+pub executed_whole : (bodies : List (List (List ℕ))) (outcomes : List (List Outcome))
+    (lates : List (List (Option (List ℕ)))) (executed : List (List ℕ)) → HasOneOrder bodies outcomes
+    → AllReplied outcomes → IsExecutedOnce (order bodies outcomes) outcomes lates executed
     → executed ≡ bodies_of (order bodies outcomes)
-executed_whole bodies outcomes executed one replied once =
+executed_whole bodies outcomes lates executed one replied once =
     let n = length executed in
     let within = sorting.all_sorted (IsWithin n) (all_placed bodies outcomes)
     (all_within n bodies outcomes replied once.replied) in

@@ -1,6 +1,6 @@
 -- A history of clients one after another is the only one.
-use Rattle.std.proofs.Common.{◌≡◌, ℕ, suc, ◌+◌, List, [], ◌∷◌, ◌++◌, length, map, Some, refl, sym, ap, ◌∙◌, subst}
-use Rattle.std.proofs.Common.{arith, append_assoc, length-append}
+use Rattle.std.proofs.Common.{◌≡◌, ℕ, suc, ◌+◌, List, [], ◌∷◌, ◌++◌, Option, length, map, Some, refl, sym, ap, ◌∙◌}
+use Rattle.std.proofs.Common.{subst, arith, append_assoc, length-append}
 use Rattle.std.specs.List.{AllByRecursion}
 use Rattle.std.proofs.lemmas.List.{map-append}
 use Rattle.board_bus.specs.Cells.{CellMap}
@@ -125,9 +125,9 @@ clients_only before cells (bodies ∷ later) (outcomes ∷ others) e all c r =
     (rest ∙ ap (λ (k : ℕ). in_turn k next later) (behind before cells bodies))
 
 pub only_in_turn : (opening : CellMap) (clients : List (List (List ℕ))) (outcomes : List (List Outcome))
-    → IsHistory opening clients outcomes → AllReplied outcomes → AreInTurn clients outcomes
-    → outcomes ≡ in_turn 1 opening clients
-only_in_turn opening clients outcomes is all turn =
+    (lates : List (List (Option (List ℕ)))) → IsHistory opening clients outcomes lates → AllReplied outcomes
+    → AreInTurn clients outcomes → outcomes ≡ in_turn 1 opening clients
+only_in_turn opening clients outcomes lates is all turn =
     let sorted : order clients outcomes ≡ all_placed clients outcomes = sorted_again 1
     (all_placed clients outcomes) turn in
     let bodies : bodies_of (order clients outcomes) ≡ all_of clients = ap bodies_of sorted

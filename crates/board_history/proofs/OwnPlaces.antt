@@ -1,8 +1,8 @@
 -- Each body has a place of its own.
 use Rattle.std.proofs.Common.{◌≡◌, ◌≢◌, ℕ, zero, suc, ◌+◌, List, [], ◌∷◌, ◌++◌, map, Option, Some, None, refl, sym}
-use Rattle.std.proofs.Common.{ap, ◌∙◌, subst, arith}
+use Rattle.std.proofs.Common.{ap, ◌∙◌, subst, arith, drop, get_or}
 use Rattle.std.specs.Prelude.{nat_le}
-use Rattle.std.specs.List.{AllByRecursion, slice_get, zip}
+use Rattle.std.specs.List.{AllByRecursion, slice_get}
 use Rattle.std.proofs.lemmas.Option.{same_Some}
 use Rattle.ipb_base.proofs.AllLemmas.{front_of_all, back_of_all, all-map}
 use Rattle.world_model.proofs.Lists.{either}
@@ -10,7 +10,7 @@ use Rattle.lane_record.specs.declared.outcome.Outcome.{Outcome}
 use Rattle.transcript.specs.declared.body_end.BodyEnd.{BodyEnd}
 use Rattle.script_plans.specs.declared.board_run.ClientPart.{ClientPart}
 use Rattle.lane_record.specs.Outcomes.{place_of}
-use Rattle.transcript.specs.Ends.{end_of, ends_of}
+use Rattle.transcript.specs.Ends.{end_of, ends_of, ends_with}
 use Rattle.script_plans.specs.Claims.{Rises}
 use Rattle.transcript.specs.Claims.{HaveOwnPlaces}
 use Rattle.board_history.specs.Order.{Placed, with_place, placed, all_placed, insert, by_place, order, places_of}
@@ -63,50 +63,47 @@ back_apart (x ∷ xs) ys apart = back_apart xs ys apart.1
 
 -- ---- the bodies of one client
 
-abbrev pub ends : List (List ℕ) → List Outcome → List BodyEnd
-ends bodies outcomes = map end_of (zip bodies outcomes)
-
 -- what holds of each place of a client's bodies holds of the place of one of them
 placed_there : (P : ℕ → Type 0) (body : List ℕ) (found : Option ℕ) (rest : List Placed) (place : ℕ)
     → found ≡ Some place → AllByRecursion (λ (p : Placed). P p.place) (with_place body found ++ rest) → P place
 placed_there P body None rest place is all = absurd cc
 placed_there P body (Some other) rest place is all = subst P (same_Some other place is) all.0
 
-placed_at : (P : ℕ → Type 0) (bodies : List (List ℕ)) (outcomes : List Outcome) (j : ℕ) (end : BodyEnd) (place : ℕ)
-    → slice_get (ends bodies outcomes) j ≡ Some end → end.place ≡ Some place
-    → AllByRecursion (λ (p : Placed). P p.place) (placed bodies outcomes) → P place
-placed_at P [] outcomes j end place there is all = absurd cc
-placed_at P (b ∷ bs) [] j end place there is all = absurd cc
-placed_at P (b ∷ bs) (o ∷ os) zero end place there is all =
+placed_at : (P : ℕ → Type 0) (bodies : List (List ℕ)) (outcomes : List Outcome) (lates : List (Option (List ℕ)))
+    (j : ℕ) (end : BodyEnd) (place : ℕ) → slice_get (ends_with bodies outcomes lates) j ≡ Some end
+    → end.place ≡ Some place → AllByRecursion (λ (p : Placed). P p.place) (placed bodies outcomes) → P place
+placed_at P [] outcomes lates j end place there is all = absurd cc
+placed_at P (b ∷ bs) [] lates j end place there is all = absurd cc
+placed_at P (b ∷ bs) (o ∷ os) lates zero end place there is all =
     placed_there P b (place_of o) (placed bs os) place
-    (ap (λ (e : BodyEnd). e.place) (same_Some (end_of (b, o)) end there) ∙ is) all
-placed_at P (b ∷ bs) (o ∷ os) (suc j) end place there is all =
-    placed_at P bs os j end place there is
+    (ap (λ (e : BodyEnd). e.place) (same_Some (end_of b o (get_or lates 0 None)) end there) ∙ is) all
+placed_at P (b ∷ bs) (o ∷ os) lates (suc j) end place there is all =
+    placed_at P bs os (drop 1 lates) j end place there is
     (back_of_all (λ (p : Placed). P p.place) (with_place b (place_of o)) (placed bs os) all)
 
 -- the first body has another place than each later one
-first_apart : (body : List ℕ) (found : Option ℕ) (bs : List (List ℕ)) (os : List Outcome) (j : ℕ) (end : BodyEnd)
-    (place : ℕ)
-    → found ≡ Some place → slice_get (ends bs os) j ≡ Some end → end.place ≡ Some place
+first_apart : (body : List ℕ) (found : Option ℕ) (bs : List (List ℕ)) (os : List Outcome)
+    (lates : List (Option (List ℕ))) (j : ℕ) (end : BodyEnd) (place : ℕ) → found ≡ Some place
+    → slice_get (ends_with bs os lates) j ≡ Some end → end.place ≡ Some place
     → AreApart (with_place body found ++ placed bs os) → ⊥
-first_apart body None bs os j end place is there also apart = cc
-first_apart body (Some other) bs os j end place is there also apart =
-    placed_at (λ (n : ℕ). other ≢ n) bs os j end place there also apart.0 (same_Some other place is)
+first_apart body None bs os lates j end place is there also apart = cc
+first_apart body (Some other) bs os lates j end place is there also apart =
+    placed_at (λ (n : ℕ). other ≢ n) bs os lates j end place there also apart.0 (same_Some other place is)
 
-client_apart : (bodies : List (List ℕ)) (outcomes : List Outcome) → AreApart (placed bodies outcomes)
-    → HaveOwnPlaces (ends bodies outcomes)
-client_apart [] outcomes apart i j one other place at also is same = absurd cc
-client_apart (b ∷ bs) [] apart i j one other place at also is same = absurd cc
-client_apart (b ∷ bs) (o ∷ os) apart zero zero one other place at also is same = refl
-client_apart (b ∷ bs) (o ∷ os) apart zero (suc j) one other place at also is same =
-    absurd (first_apart b (place_of o) bs os j other place
-    (ap (λ (e : BodyEnd). e.place) (same_Some (end_of (b, o)) one at) ∙ is) also same apart)
-client_apart (b ∷ bs) (o ∷ os) apart (suc i) zero one other place at also is same =
-    absurd (first_apart b (place_of o) bs os i one place
-    (ap (λ (e : BodyEnd). e.place) (same_Some (end_of (b, o)) other also) ∙ same) at is apart)
-client_apart (b ∷ bs) (o ∷ os) apart (suc i) (suc j) one other place at also is same =
-    ap suc (client_apart bs os (back_apart (with_place b (place_of o)) (placed bs os) apart) i j one other place at also
-    is same)
+client_apart : (bodies : List (List ℕ)) (outcomes : List Outcome) (lates : List (Option (List ℕ)))
+    → AreApart (placed bodies outcomes) → HaveOwnPlaces (ends_with bodies outcomes lates)
+client_apart [] outcomes lates apart i j one other place at also is same = absurd cc
+client_apart (b ∷ bs) [] lates apart i j one other place at also is same = absurd cc
+client_apart (b ∷ bs) (o ∷ os) lates apart zero zero one other place at also is same = refl
+client_apart (b ∷ bs) (o ∷ os) lates apart zero (suc j) one other place at also is same =
+    absurd (first_apart b (place_of o) bs os (drop 1 lates) j other place
+    (ap (λ (e : BodyEnd). e.place) (same_Some (end_of b o (get_or lates 0 None)) one at) ∙ is) also same apart)
+client_apart (b ∷ bs) (o ∷ os) lates apart (suc i) zero one other place at also is same =
+    absurd (first_apart b (place_of o) bs os (drop 1 lates) i one place
+    (ap (λ (e : BodyEnd). e.place) (same_Some (end_of b o (get_or lates 0 None)) other also) ∙ same) at is apart)
+client_apart (b ∷ bs) (o ∷ os) lates apart (suc i) (suc j) one other place at also is same =
+    ap suc (client_apart bs os (drop 1 lates) (back_apart (with_place b (place_of o)) (placed bs os) apart) i j one
+    other place at also is same)
 
 -- ---- all clients
 
@@ -119,7 +116,7 @@ parts_apart (part ∷ parts) apart =
     let here = placed part.planned.bodies part.outcomes in
     let later = all_placed (map (λ (p : ClientPart). p.planned.bodies) parts)
     (map (λ (p : ClientPart). p.outcomes) parts) in (
-      client_apart part.planned.bodies part.outcomes (front_apart here later apart),
+      client_apart part.planned.bodies part.outcomes part.lates (front_apart here later apart),
       parts_apart parts (back_apart here later apart),
     )
 

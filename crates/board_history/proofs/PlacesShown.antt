@@ -1,8 +1,8 @@
 -- The places that lines show of a board are 1, 2, .. up to the number of its first sends.
 use Rattle.std.proofs.Common.{◌≡◌, ◌↔◌, ℕ, suc, ◌+◌, ◌<◌, ◌≤◌, List, [], ◌∷◌, length, map, Option, Some}
-use Rattle.std.proofs.Common.{None, refl, sym, ap, subst, ◌∙◌, inl, inr, arith}
+use Rattle.std.proofs.Common.{None, refl, sym, ap, subst, ◌∙◌, inl, inr, arith, drop, get_or}
 use Rattle.std.specs.Prelude.{nat_le}
-use Rattle.std.specs.List.{AllByRecursion, Any, count_by, slice_get, zip}
+use Rattle.std.specs.List.{AllByRecursion, Any, count_by, slice_get}
 use Rattle.std.proofs.lemmas.Bool.{cases_eq}
 use Rattle.std.proofs.lemmas.Option.{same_Some}
 use Rattle.mtu_packer.proofs.AnyLemmas.{any_nowhere, any_here, any_later, any_cases, any_front, any_back, any_append}
@@ -14,7 +14,7 @@ use Rattle.lane_record.specs.declared.outcome.Outcome.{Outcome}
 use Rattle.script_plans.specs.declared.board_run.ClientPart.{ClientPart}
 use Rattle.script_plans.specs.declared.board_run.BoardRun.{BoardRun}
 use Rattle.lane_record.specs.Outcomes.{place_of}
-use Rattle.transcript.specs.Ends.{end_of}
+use Rattle.transcript.specs.Ends.{end_of, ends_with}
 use Rattle.lane_record.specs.Outcomes.{is_sent}
 use Rattle.script_plans.specs.Runs.{outcomes_on, IsPlanned, ArePlanned}
 use Rattle.transcript.specs.Lines.{board_line, lines_from, transcript_of}
@@ -45,28 +45,28 @@ placed_here body place (Some n) any = elim (any_cases (IsAt place) (record { pla
   | inr none ↦ absurd (any_nowhere (IsAt place) none)
 ]
 
-client_placed : (place : ℕ) (bodies : List (List ℕ)) (outcomes : List Outcome)
-    → Any (EndsAt place) (map end_of (zip bodies outcomes)) → Any (IsAt place) (placed bodies outcomes)
-client_placed place [] outcomes any = absurd (any_nowhere (EndsAt place) any)
-client_placed place (b ∷ bodies) [] any = absurd (any_nowhere (EndsAt place) any)
-client_placed place (b ∷ bodies) (o ∷ outcomes) any =
-    elim (any_cases (EndsAt place) (end_of (b, o)) (map end_of (zip bodies outcomes)) any) [
+client_placed : (place : ℕ) (bodies : List (List ℕ)) (outcomes : List Outcome) (lates : List (Option (List ℕ)))
+    → Any (EndsAt place) (ends_with bodies outcomes lates) → Any (IsAt place) (placed bodies outcomes)
+client_placed place [] outcomes lates any = absurd (any_nowhere (EndsAt place) any)
+client_placed place (b ∷ bodies) [] lates any = absurd (any_nowhere (EndsAt place) any)
+client_placed place (b ∷ bodies) (o ∷ outcomes) lates any =
+    elim (any_cases (EndsAt place) (end_of b o (get_or lates 0 None)) (ends_with bodies outcomes (drop 1 lates)) any) [
       | inl here ↦ any_front (IsAt place) (with_place b (place_of o)) (placed bodies outcomes)
           (here_placed b place (place_of o) here)
       | inr later ↦ any_back (IsAt place) (with_place b (place_of o)) (placed bodies outcomes)
-          (client_placed place bodies outcomes later)
+          (client_placed place bodies outcomes (drop 1 lates) later)
     ]
 
-placed_client : (place : ℕ) (bodies : List (List ℕ)) (outcomes : List Outcome)
-    → Any (IsAt place) (placed bodies outcomes) → Any (EndsAt place) (map end_of (zip bodies outcomes))
-placed_client place [] outcomes any = absurd (any_nowhere (IsAt place) any)
-placed_client place (b ∷ bodies) [] any = absurd (any_nowhere (IsAt place) any)
-placed_client place (b ∷ bodies) (o ∷ outcomes) any =
+placed_client : (place : ℕ) (bodies : List (List ℕ)) (outcomes : List Outcome) (lates : List (Option (List ℕ)))
+    → Any (IsAt place) (placed bodies outcomes) → Any (EndsAt place) (ends_with bodies outcomes lates)
+placed_client place [] outcomes lates any = absurd (any_nowhere (IsAt place) any)
+placed_client place (b ∷ bodies) [] lates any = absurd (any_nowhere (IsAt place) any)
+placed_client place (b ∷ bodies) (o ∷ outcomes) lates any =
+    let end = end_of b o (get_or lates 0 None) in
+    let rest = ends_with bodies outcomes (drop 1 lates) in
     elim (any_append (IsAt place) (with_place b (place_of o)) (placed bodies outcomes) any) [
-      | inl front ↦ any_here (EndsAt place) (end_of (b, o)) (map end_of (zip bodies outcomes))
-          (placed_here b place (place_of o) front)
-      | inr back ↦ any_later (EndsAt place) (end_of (b, o)) (map end_of (zip bodies outcomes))
-          (placed_client place bodies outcomes back)
+      | inl front ↦ any_here (EndsAt place) end rest (placed_here b place (place_of o) front)
+      | inr back ↦ any_later (EndsAt place) end rest (placed_client place bodies outcomes (drop 1 lates) back)
     ]
 
 abbrev bodies_in : List ClientPart → List (List (List ℕ))
@@ -82,7 +82,8 @@ parts_placed place (part ∷ parts) any =
     let first = placed part.planned.bodies part.outcomes in
     let rest = all_placed (bodies_in parts) (outcomes_in parts) in
     elim (any_cases (HasBodyAt place) part parts any) [
-      | inl here ↦ any_front (IsAt place) first rest (client_placed place part.planned.bodies part.outcomes here)
+      | inl here ↦ any_front (IsAt place) first rest
+          (client_placed place part.planned.bodies part.outcomes part.lates here)
       | inr later ↦ any_back (IsAt place) first rest (parts_placed place parts later)
     ]
 
@@ -93,7 +94,7 @@ placed_parts place (part ∷ parts) any =
     elim (any_append (IsAt place) (placed part.planned.bodies part.outcomes)
     (all_placed (bodies_in parts) (outcomes_in parts)) any) [
       | inl front ↦ any_here (HasBodyAt place) part parts
-          (placed_client place part.planned.bodies part.outcomes front)
+          (placed_client place part.planned.bodies part.outcomes part.lates front)
       | inr back ↦ any_later (HasBodyAt place) part parts (placed_parts place parts back)
     ]
 

@@ -1,5 +1,5 @@
 -- Runs have the shape of the plan.
-use Rattle.std.proofs.Common.{◌≡◌, ℕ, ◌+◌, List, [], ◌∷◌, ◌++◌, length, map, drop, refl, sym, ap, ◌∙◌, subst}
+use Rattle.std.proofs.Common.{◌≡◌, ℕ, ◌+◌, List, [], ◌∷◌, ◌++◌, Option, length, map, drop, refl, sym, ap, ◌∙◌, subst}
 use Rattle.std.proofs.Common.{arith, append_assoc, append-nil, length-append}
 use Rattle.std.specs.List.{flat_map, fold}
 use Rattle.std.proofs.lemmas.List.{length-take-le, length-drop}
@@ -78,8 +78,11 @@ module _ (standing : Standing) where
   abbrev dealt : ClientPart → List (List Outcome)
   dealt part = deal part.planned.counts part.outcomes
 
+  abbrev lates_of : ClientPart → List (Option (List ℕ))
+  lates_of part = part.lates
+
   record AreParts (board : ℕ) (told : Greeting) (scripts : List (List Step)) (parts : List ClientPart) : Type 0 where
-    again : parts ≡ parts_on board told scripts (map dealt parts)
+    again : parts ≡ parts_on board told scripts (map dealt parts) (map lates_of parts)
     shape : map (λ (dispatches : List (List Outcome)). map length dispatches) (map dealt parts)
         ≡ map (λ (steps : List Step). (planned_on board told steps).counts) scripts
 
@@ -117,13 +120,17 @@ module _ (standing : Standing) where
       let here = lengths part parts long in
       let later = are_parts board told scripts parts head.plans' here.rest in
       let cut = subst IsCut (sym head.plan') (is_cut board told steps) in
+      let rest = parts_on board told scripts (map dealt parts) (map lates_of parts) in
       record {
         again =
             ap (λ (ps : List ClientPart). part ∷ ps) later.again
-            ∙ ap (λ (p : ClientBodies). record { planned = p; outcomes = part.outcomes }
-            ∷ parts_on board told scripts (map dealt parts)) head.plan'
-            ∙ ap (λ (os : List Outcome). record { planned = planned_on board told steps; outcomes = os }
-            ∷ parts_on board told scripts (map dealt parts))
+            ∙ ap (λ (p : ClientBodies). record { planned = p; outcomes = part.outcomes; lates = part.lates } ∷ rest)
+            head.plan'
+            ∙ ap (λ (os : List Outcome). record {
+              planned = planned_on board told steps;
+              outcomes = os;
+              lates = part.lates;
+            } ∷ rest)
             (sym (whole_again part.planned part.outcomes cut here.first));
         shape =
             ap (λ (ns : List ℕ). ns ∷ map (λ (dispatches : List (List Outcome)). map length dispatches)
@@ -135,7 +142,12 @@ module _ (standing : Standing) where
   -- ---- the boards
 
   abbrev fate_of : BoardRun → BoardFate
-  fate_of run = record { name = run.name; greeting = run.greeting; outcomes = map dealt run.parts }
+  fate_of run = record {
+    name = run.name;
+    greeting = run.greeting;
+    outcomes = map dealt run.parts;
+    lates = map lates_of run.parts;
+  }
 
   pub have_fates : (board : ℕ) (specs : List BoardSpec) (scripts : List (List Step)) (runs : List BoardRun)
       → AreRuns board specs scripts runs → HaveFates board scripts runs
@@ -153,8 +165,7 @@ module _ (standing : Standing) where
             ∙ ap (λ (rs : List BoardRun). record {
               name = run.name;
               greeting = run.greeting;
-              parts = parts_on board
-                  run.greeting scripts (map dealt run.parts);
+              parts = parts_on board run.greeting scripts (map dealt run.parts) (map lates_of run.parts);
             } ∷ rs) later.shown;
         shape = (here.shape, later.shape);
       }

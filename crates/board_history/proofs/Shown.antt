@@ -1,5 +1,6 @@
 -- What a run shows of a board.
-use Rattle.std.proofs.Common.{◌≡◌, ℕ, ◌+◌, List, [], ◌∷◌, length, map, refl, sym, ap, ◌∙◌, subst}
+use Rattle.std.proofs.Common.{◌≡◌, ℕ, ◌+◌, List, [], ◌∷◌, Option, length, map, refl, sym, ap, ◌∙◌, subst}
+use Rattle.std.specs.List.{AllByRecursion}
 use Rattle.board_bus.specs.Cells.{CellMap}
 use Rattle.board_bus.specs.Bodies.{replay}
 use Rattle.board_node.specs.declared.spec.BoardSpec.{BoardSpec}
@@ -9,9 +10,9 @@ use Rattle.script_plans.specs.declared.greeting.Greeting.{Greeting}
 use Rattle.script_plans.specs.declared.board_run.ClientPart.{ClientPart}
 use Rattle.script_plans.specs.declared.board_run.BoardRun.{BoardRun}
 use Rattle.script_plans.specs.Plan.{ClientBodies}
-use Rattle.board_history.specs.Parts.{AllReplied}
+use Rattle.board_history.specs.Parts.{AllReplied, AreBeside}
 use Rattle.board_history.specs.InTurn.{outcomes_from, in_turn, AreInTurn}
-use Rattle.board_history.specs.History.{IsHistory, bodies_by_client, outcomes_by_client}
+use Rattle.board_history.specs.History.{IsHistory, bodies_by_client, lates_by_client, outcomes_by_client}
 use Rattle.board_history.specs.Runs.{parts_with, parts_in_turn, plans_on, greeting_of, opening_of, board_run, runs_from}
 use Rattle.board_history.specs.Runs.{IsRun, AreRuns}
 
@@ -51,8 +52,22 @@ shown P cells plans holds =
     (sym (bodies_shown 1 cells plans))
     (subst (λ (os : List (List Outcome)). P (bodies_in plans) os) (sym (outcomes_shown 1 cells plans)) holds)
 
+-- nothing comes late
+pub in_time : (place : ℕ) (cells : CellMap) (plans : List ClientBodies)
+    → AllByRecursion (λ (p : ClientPart). p.lates ≡ []) (parts_in_turn place cells plans)
+in_time place cells [] = tt
+in_time place cells (plan ∷ plans) =
+    (refl, in_time (place + length plan.bodies) (replay cells plan.bodies).cells plans)
+
+nothing_late : (R : Outcome → Option (List ℕ) → Type 0) (parts : List ClientPart)
+    → AllByRecursion (λ (p : ClientPart). p.lates ≡ []) parts
+    → AreBeside (AreBeside R) (map (λ (p : ClientPart). p.outcomes) parts) (map (λ (p : ClientPart). p.lates) parts)
+nothing_late R [] none = tt
+nothing_late R (part ∷ parts) none =
+    (subst (AreBeside R part.outcomes) (sym none.0) tt, nothing_late R parts none.1)
+
 module _ (history : (opening : CellMap) (bodies : List (List (List ℕ)))
-    → IsHistory opening bodies (in_turn 1 opening bodies))
+    → IsHistory opening bodies (in_turn 1 opening bodies) [])
     (replied : (opening : CellMap) (bodies : List (List (List ℕ))) → AllReplied (in_turn 1 opening bodies))
     (turn : (opening : CellMap) (bodies : List (List (List ℕ))) → AreInTurn bodies (in_turn 1 opening bodies)) where
   pub is_run : (spec : BoardSpec) (board : ℕ) (scripts : List (List Step))
@@ -60,11 +75,20 @@ module _ (history : (opening : CellMap) (bodies : List (List (List ℕ)))
   is_run spec board scripts =
       let cells = opening_of spec.link in
       let plans = plans_on board (greeting_of spec.link) scripts in
+      let is = shown (λ bs os. IsHistory cells bs os []) cells plans (history cells (bodies_in plans)) in
+      let parts = parts_in_turn 1 cells plans in
       record {
         name = refl;
         greeting = refl;
         plans = plans_shown 1 cells plans;
-        history = shown (IsHistory cells) cells plans (history cells (bodies_in plans));
+        history = record {
+          shape = is.shape;
+          one_order = is.one_order;
+          script_order = is.script_order;
+          replies = is.replies;
+          late = nothing_late _ parts (in_time 1 cells plans);
+        };
+        in_time = in_time 1 cells plans;
         replied = shown (λ _ os. AllReplied os) cells plans (replied cells (bodies_in plans));
         in_turn = shown AreInTurn cells plans (turn cells (bodies_in plans));
       }
@@ -76,10 +100,16 @@ module _ (history : (opening : CellMap) (bodies : List (List (List ℕ)))
 
 -- ---- no other run
 
-parts_again : (parts : List ClientPart)
-    → parts ≡ parts_with (map (λ (p : ClientPart). p.planned) parts) (map (λ (p : ClientPart). p.outcomes) parts)
-parts_again [] = refl
-parts_again (part ∷ parts) = ap (λ (ps : List ClientPart). part ∷ ps) (parts_again parts)
+parts_again : (parts : List ClientPart) → AllByRecursion (λ (p : ClientPart). p.lates ≡ []) parts
+    → parts ≡ parts_with (map (λ (p : ClientPart). p.planned) parts) (map (λ (p : ClientPart). p.outcomes) parts) []
+parts_again [] none = refl
+parts_again (part ∷ parts) none =
+    ap (λ (ps : List ClientPart). part ∷ ps) (parts_again parts none.1)
+    ∙ ap (λ (lates : List (Option (List ℕ))). record {
+      planned = part.planned;
+      outcomes = part.outcomes;
+      lates = lates;
+    } ∷ parts_with (map (λ (p : ClientPart). p.planned) parts) (map (λ (p : ClientPart). p.outcomes) parts) []) none.0
 
 same_bodies : (parts : List ClientPart)
     → map (λ (p : ClientPart). p.planned.bodies) parts ≡ bodies_in (map (λ (p : ClientPart). p.planned) parts)
@@ -87,13 +117,14 @@ same_bodies [] = refl
 same_bodies (part ∷ parts) = ap (λ (bs : List (List (List ℕ))). part.planned.bodies ∷ bs) (same_bodies parts)
 
 module _ (only : (opening : CellMap) (bodies : List (List (List ℕ))) (outcomes : List (List Outcome))
-    → IsHistory opening bodies outcomes
+    (lates : List (List (Option (List ℕ)))) → IsHistory opening bodies outcomes lates
     → AllReplied outcomes → AreInTurn bodies outcomes → outcomes ≡ in_turn 1 opening bodies) where
   pub turn_of : (spec : BoardSpec) (board : ℕ) (scripts : List (List Step)) (run : BoardRun)
       → IsRun spec board scripts run
       → outcomes_by_client run ≡ in_turn 1 (opening_of spec.link) (bodies_by_client run)
   turn_of spec board scripts run is =
-      only (opening_of spec.link) (bodies_by_client run) (outcomes_by_client run) is.history is.replied is.in_turn
+      only (opening_of spec.link) (bodies_by_client run) (outcomes_by_client run) (lates_by_client run) is.history
+      is.replied is.in_turn
 
   pub only_run : (spec : BoardSpec) (board : ℕ) (scripts : List (List Step)) (run : BoardRun)
       → IsRun spec board scripts run
@@ -108,9 +139,9 @@ module _ (only : (opening : CellMap) (bodies : List (List (List ℕ))) (outcomes
       (bodies_in (plans_on board (greeting_of spec.link) scripts)) =
       turn_of spec board scripts run is ∙ ap (in_turn 1 cells) bodies in
       let parts : run.parts ≡ parts_in_turn 1 cells (plans_on board (greeting_of spec.link) scripts) =
-      parts_again run.parts
-      ∙ ap (λ (ps : List ClientBodies). parts_with ps (outcomes_by_client run)) plans
-      ∙ ap (parts_with (plans_on board (greeting_of spec.link) scripts)) outcomes in
+      parts_again run.parts is.in_time
+      ∙ ap (λ (ps : List ClientBodies). parts_with ps (outcomes_by_client run) []) plans
+      ∙ ap (λ (os : List (List Outcome)). parts_with (plans_on board (greeting_of spec.link) scripts) os []) outcomes in
       ap (λ (name : List ℕ). record { name = name; greeting = run.greeting; parts = run.parts }) is.name
       ∙ ap (λ (told : Greeting). record { name = spec.name; greeting = told; parts = run.parts }) is.greeting
       ∙ ap (λ (ps : List ClientPart). record { name = spec.name; greeting = greeting_of spec.link; parts = ps }) parts

@@ -1,5 +1,5 @@
 -- What holds of the order of a board, part by part. Profile.
-use Rattle.std.specs.Prelude.{◌≡◌, ℕ, ◌≤◌, List, [], ◌∷◌, length, Some}
+use Rattle.std.specs.Prelude.{◌≡◌, ℕ, ◌≤◌, List, [], ◌∷◌, length, Option, Some, None}
 use Rattle.std.specs.List.{AllByRecursion}
 use Rattle.ipb_base.specs.Lists.{IsPrefix}
 use Rattle.board_bus.specs.Cells.{CellMap}
@@ -34,6 +34,28 @@ abbrev pub AreRepliesOf : CellMap → List Placed → List (List Outcome) → Ty
 AreRepliesOf opening order outcomes =
     AllByRecursion (AllByRecursion (IsReplyOf (replay opening (bodies_of order)).replies)) outcomes
 
+-- ---- late answers
+
+-- Each item of the second list stands so beside the one at its position in the first, which may be longer.
+abbrev pub AreBeside : {A B : Type 0} → (A → B → Type 0) → List A → List B → Type 0
+AreBeside R xs [] = Unit {0}
+AreBeside R [] (y ∷ ys) = ⊥
+AreBeside R (x ∷ xs) (y ∷ ys) = R x y × AreBeside R xs ys
+
+-- a late answer is one of these replies at its place, and only a body that was timed out has one
+abbrev pub IsLateReplyOf : List (List ℕ) → Outcome → Option (List ℕ) → Type 0
+IsLateReplyOf replies outcome None = Unit {0}
+IsLateReplyOf replies (TimedOut place rounds) (Some words) = at_place replies place ≡ Some words
+IsLateReplyOf replies other (Some words) = ⊥
+
+-- Each late answer is the one that a single-thread bus gives at its place, which opens like this and replays the bodies
+-- by place.
+abbrev pub AreLateRepliesOf : CellMap → List Placed → List (List Outcome) → List (List (Option (List ℕ))) → Type 0
+AreLateRepliesOf opening order outcomes lates =
+    AreBeside (AreBeside (IsLateReplyOf (replay opening (bodies_of order)).replies)) outcomes lates
+
+-- ---- what was executed
+
 -- a body that was replied to is one of the first so many of the order
 abbrev pub IsExecuted : ℕ → Outcome → Type 0
 IsExecuted executed (Replied place words) = place ≤ executed
@@ -41,11 +63,19 @@ IsExecuted executed (TimedOut place rounds) = Unit {0}
 IsExecuted executed Unsent = Unit {0}
 IsExecuted executed (LinkLost place) = Unit {0}
 
--- What a board executed is a front of the order, so each body of it once, and each body that was replied to is in it.
+-- so is a body that was answered late
+abbrev pub IsExecutedLate : ℕ → Outcome → Option (List ℕ) → Type 0
+IsExecutedLate executed outcome None = Unit {0}
+IsExecutedLate executed (TimedOut place rounds) (Some words) = place ≤ executed
+IsExecutedLate executed other (Some words) = ⊥
+
+-- What a board executed is a front of the order, so each body of it once, and each body that was replied to, in time or
+-- late, is in it.
 pub record IsExecutedOnce (order : List Placed) (outcomes : List (List Outcome))
-    (executed : List (List ℕ)) : Type 0 where
+    (lates : List (List (Option (List ℕ)))) (executed : List (List ℕ)) : Type 0 where
   pub front : IsPrefix executed (bodies_of order)
   pub replied : AllByRecursion (AllByRecursion (IsExecuted (length executed))) outcomes
+  pub late : AreBeside (AreBeside (IsExecutedLate (length executed))) outcomes lates
 
 -- the board replied
 abbrev pub IsReplied : Outcome → Type 0

@@ -1,5 +1,6 @@
 -- What a run shows where nothing is lost and clients go to boards of this process, one client after another. Profile.
-use Rattle.std.specs.Prelude.{◌≡◌, ℕ, ◌+◌, List, [], ◌∷◌, map, None}
+use Rattle.std.specs.Prelude.{◌≡◌, ℕ, ◌+◌, List, [], ◌∷◌, map, drop, get_or, Option, None}
+use Rattle.std.specs.List.{AllByRecursion}
 use Rattle.ipb_base.specs.Numbers.{payload_of}
 use Rattle.board_bus.specs.Cells.{CellMap}
 use Rattle.board_bus.specs.Ranges.{opening_bus, refusal_of}
@@ -19,17 +20,18 @@ use Rattle.board_history.specs.Parts.{AllReplied}
 use Rattle.board_history.specs.InTurn.{in_turn, AreInTurn}
 use Rattle.board_history.specs.History.{ShowsHistory, bodies_by_client, outcomes_by_client}
 
--- what each client asked, and what became of it
-abbrev pub parts_with : List ClientBodies → List (List Outcome) → List ClientPart
-parts_with [] outcomes = []
-parts_with (planned ∷ later) [] = []
-parts_with (planned ∷ later) (outcomes ∷ others) =
-    record { planned = planned; outcomes = outcomes } ∷ parts_with later others
+-- what each client asked, what became of it, and what came late
+abbrev pub parts_with : List ClientBodies → List (List Outcome) → List (List (Option (List ℕ))) → List ClientPart
+parts_with [] outcomes lates = []
+parts_with (planned ∷ later) [] lates = []
+parts_with (planned ∷ later) (outcomes ∷ others) lates =
+    record { planned = planned; outcomes = outcomes; lates = get_or lates 0 [] }
+    ∷ parts_with later others (drop 1 lates)
 
--- the parts of clients that run one after another from a place on, on this bus
+-- the parts of clients that run one after another from a place on, on this bus; nothing comes late
 abbrev pub parts_in_turn : ℕ → CellMap → List ClientBodies → List ClientPart
 parts_in_turn place cells planned = parts_with planned
-    (in_turn place cells (map (λ (p : ClientBodies). p.bodies) planned))
+    (in_turn place cells (map (λ (p : ClientBodies). p.bodies) planned)) []
 
 -- a board in this process is live; one behind a port is not reached
 abbrev pub greeting_of : LinkSpec → Greeting
@@ -74,6 +76,8 @@ pub record IsRun (spec : BoardSpec) (board : ℕ) (scripts : List (List Step)) (
   pub history : ShowsHistory (opening_of spec.link) run
   -- each body was replied to
   pub replied : AllReplied (outcomes_by_client run)
+  -- so nothing came late
+  pub in_time : AllByRecursion (λ (part : ClientPart). part.lates ≡ []) run.parts
   -- the bodies of a client stand before those of the next one
   pub in_turn : AreInTurn (bodies_by_client run) (outcomes_by_client run)
 

@@ -1,6 +1,6 @@
 //! Laws of the definitions. These functions do nothing when they run: their clauses are what is proved.
 
-ghost use Rattle.std.specs.Prelude.{◌≡◌, ℕ, List, map, length};
+ghost use Rattle.std.specs.Prelude.{◌≡◌, ℕ, List, [], Option, map, length};
 ghost use Rattle.std.specs.List.{flat_map};
 ghost use Rattle.board_bus.specs.Cells.{CellMap};
 ghost use Rattle.lane_record.specs.declared.outcome.Outcome.{Outcome};
@@ -21,7 +21,7 @@ ghost use Rattle.board_history.specs.History.{IsHistory, bodies_by_client, outco
 /// bodies of the first client, then those of the second, and so on: what was executed is all of it.
 pub fn clients_in_turn_make_a_history()
     ensures history { (opening : CellMap) (bodies : List (List (List ℕ))) →
-        IsHistory opening bodies (in_turn 1 opening bodies) }
+        IsHistory opening bodies (in_turn 1 opening bodies) [] }
     ensures replied { (opening : CellMap) (bodies : List (List (List ℕ))) →
         AllReplied (in_turn 1 opening bodies) }
     ensures in_turn { (opening : CellMap) (bodies : List (List (List ℕ))) →
@@ -29,16 +29,16 @@ pub fn clients_in_turn_make_a_history()
     ensures order { (opening : CellMap) (bodies : List (List (List ℕ))) →
         bodies_of (order bodies (in_turn 1 opening bodies)) ≡ flat_map (λ client. client) bodies }
     ensures executed { (opening : CellMap) (bodies : List (List (List ℕ))) →
-        IsExecutedOnce (order bodies (in_turn 1 opening bodies)) (in_turn 1 opening bodies)
+        IsExecutedOnce (order bodies (in_turn 1 opening bodies)) (in_turn 1 opening bodies) []
         (flat_map (λ client. client) bodies) }
 {}
 
 /// A history in which each body was replied to, and the places of each client's bodies stand before those of the next
 /// client's, is the one of clients that run one after another. So these clients have one list of outcomes.
 pub fn a_history_of_clients_in_turn_is_the_only_one()
-    ensures { (opening : CellMap) (bodies : List (List (List ℕ))) (outcomes : List (List Outcome)) →
-        IsHistory opening bodies outcomes → AllReplied outcomes → AreInTurn bodies outcomes →
-        outcomes ≡ in_turn 1 opening bodies }
+    ensures { (opening : CellMap) (bodies : List (List (List ℕ))) (outcomes : List (List Outcome))
+        (lates : List (List (Option (List ℕ)))) → IsHistory opening bodies outcomes lates → AllReplied outcomes →
+        AreInTurn bodies outcomes → outcomes ≡ in_turn 1 opening bodies }
 {}
 
 /// A client that uses a board alone has the places 1, 2, 3, .. there, in the order of its script.
@@ -63,11 +63,13 @@ pub fn each_body_has_its_own_place()
 /// What a board executed can be dealt out to the clients so that each gets bodies of its own, in order. Where each body
 /// was replied to it is the whole order, and a merge of all bodies of all clients.
 pub fn what_was_executed_is_a_merge()
-    ensures some { (bodies : List (List (List ℕ))) (outcomes : List (List Outcome)) (executed : List (List ℕ)) →
+    ensures some { (bodies : List (List (List ℕ))) (outcomes : List (List Outcome))
+        (lates : List (List (Option (List ℕ)))) (executed : List (List ℕ)) →
         map length outcomes ≡ map length bodies → KeepsScripts bodies outcomes →
-        IsExecutedOnce (order bodies outcomes) outcomes executed → IsMergeOfSome bodies executed }
-    ensures all { (bodies : List (List (List ℕ))) (outcomes : List (List Outcome)) (executed : List (List ℕ)) →
+        IsExecutedOnce (order bodies outcomes) outcomes lates executed → IsMergeOfSome bodies executed }
+    ensures all { (bodies : List (List (List ℕ))) (outcomes : List (List Outcome))
+        (lates : List (List (Option (List ℕ)))) (executed : List (List ℕ)) →
         map length outcomes ≡ map length bodies → HasOneOrder bodies outcomes → KeepsScripts bodies outcomes →
-        AllReplied outcomes → IsExecutedOnce (order bodies outcomes) outcomes executed →
+        AllReplied outcomes → IsExecutedOnce (order bodies outcomes) outcomes lates executed →
         IsMergeOfAll bodies executed }
 {}

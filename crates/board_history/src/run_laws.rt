@@ -82,10 +82,10 @@ pub fn runs_have_the_shape_of_the_plan()
     bodies_stand_dispatch_by_dispatch();
 }
 
-/// Where nothing is lost, each line of a session is a value, `done`, `was`, a code of the bus or skipped, or its operation
-/// is denied: none is garbled, timed out, unsent or lost with its link. So what was asked of the boards fails by codes
-/// of the bus alone, and status 1 comes from these and from denials. The boards run here
-/// and name words of 32 bits, and the scripts can be executed, as it is of every session that can be run.
+/// Where nothing is lost, each line of a session is a value, `done`, `was`, a code of the bus or skipped, or its
+/// operation is denied: none is garbled, timed out, unsent or lost with its link. So what was asked of the boards fails
+/// by codes of the bus alone, and status 1 comes from these and from denials. The boards run here and name words of 32
+/// bits, and the scripts can be executed, as it is of every session that can be run.
 pub fn lines_fail_by_codes_of_the_bus_alone()
     ensures { (specs : List BoardSpec) (scripts : List (List Step)) (runs : List BoardRun) →
         AreRuns 0 specs scripts runs → AllByRecursion CanRun specs → AllByRecursion OpensOnWords specs →

@@ -4,7 +4,8 @@
 ghost use Rattle.std.specs.Prelude.{◌≡◌, [], ◌∷◌, Some, codes, map, pos};
 ghost use Rattle.toml.specs.Data.{table, member, no_members, integer, string};
 ghost use Rattle.toml.specs.Parse.{parse_document};
-ghost use Rattle.transcript.specs.declared.line.OpResult.TheVariants.{Value, TimedOut};
+ghost use Rattle.transcript.specs.declared.line.LateAnswer.TheVariants as late_answer;
+ghost use Rattle.transcript.specs.declared.line.OpResult.TheVariants.{Value, TimedOut, Late};
 ghost use Rattle.config_store.specs.declared.refusal.StoreWhy.TheVariants.{
   Shape,
   Overlap,
@@ -50,12 +51,15 @@ pub fn a_field_is_written_and_read()
         ≡ codes "write b0:a.top 1" ∷ codes "dispatch" ∷ codes "read b0:a.top" ∷ [] }
 {}
 
-/// The text of the read, and of one whose register did not answer.
+/// The text of the read, and of those whose register did not answer in time: a late answer is no value of the text.
 pub fn a_text_has_values_and_comments()
     ensures value { state_text (small_board.0 ∷ []) (read_line (codes "b0") (codes "a.top") (Value (1 ∷ [])) ∷ [])
         ≡ codes "[state.b0]\n\"a.top\" = 0x00000001\n" }
     ensures comment { state_text (small_board.0 ∷ []) (read_line (codes "b0") (codes "a.top") (TimedOut 2) ∷ [])
         ≡ codes "[state.b0]\n# \"a.top\" timeout after 2 rounds, execution unknown\n" }
+    ensures late { state_text (small_board.0 ∷ [])
+        (read_line (codes "b0") (codes "a.top") (Late 2 (late_answer.Value (1 ∷ []))) ∷ [])
+        ≡ codes "[state.b0]\n# \"a.top\" timeout after 2 rounds, answered late: = 0x00000001\n" }
     ensures none { state_text (small_board.0 ∷ []) [] ≡ codes "[state.b0]\n" }
 {}
 

@@ -159,7 +159,8 @@ module _ (payload board : ℕ) (steps : List Step) (i : ℕ) (all : ClientBodies
         }
 
     -- of what is denied nothing waits
-    pub after_denied : (rule : ℕ) (op : RegOp) → step ≡ Denied rule op → IsPlanning payload board steps (i + 1) all queued
+    pub after_denied : (rule : ℕ) (op : RegOp) → step ≡ Denied rule op
+        → IsPlanning payload board steps (i + 1) all queued
     after_denied rule op denies =
         let rest : drop i steps ≡ Denied rule op ∷ drop (i + 1) steps =
         left ∙ ap (λ s. s ∷ drop (i + 1) steps) denies in

@@ -1,5 +1,5 @@
 -- What became of what the clients of a session asked of its boards. Profile.
-use Rattle.std.specs.Prelude.{ℕ, ◌+◌, List, [], ◌∷◌, map, ◌≡◌, ◌≢◌}
+use Rattle.std.specs.Prelude.{ℕ, ◌+◌, List, [], ◌∷◌, Option, map, drop, get_or, ◌≡◌, ◌≢◌}
 use Rattle.std.specs.List.{flat_map, AllPairs}
 use Rattle.script_steps.specs.declared.operation.Step.{Step}
 use Rattle.lane_record.specs.declared.outcome.Outcome.{Outcome}
@@ -33,28 +33,37 @@ HaveOwnNames runs = AllPairs (λ (one other : BoardRun). one.name ≢ other.name
 
 -- ---- outcomes in the shape of the plan
 
--- What became of a board: its name, what greeting it told, and the outcome of each body, client by client and dispatch
--- by dispatch.
+-- What became of a board: its name, what greeting it told, the outcome of each body, client by client and dispatch by
+-- dispatch, and what came late for the bodies of each client. Clients behind the end of that list have no late answer.
 pub record BoardFate : Type 0 where
   pub name : List ℕ
   pub greeting : Greeting
   pub outcomes : List (List (List Outcome))
+  pub lates : List (List (Option (List ℕ)))
 
--- what a client asked of a board, and what became of it
-abbrev pub part_on : ℕ → Greeting → List Step → List (List Outcome) → ClientPart
-part_on board told steps outcomes =
-    record { planned = planned_on board told steps; outcomes = flat_map (λ dispatch. dispatch) outcomes }
+-- what a client asked of a board, what became of it, and what came late
+abbrev pub part_on : ℕ → Greeting → List Step → List (List Outcome) → List (Option (List ℕ)) → ClientPart
+part_on board told steps outcomes lates = record {
+  planned = planned_on board told steps;
+  outcomes = flat_map (λ dispatch. dispatch) outcomes;
+  lates = lates;
+}
 
 -- the clients' parts on a board
-abbrev pub parts_on : ℕ → Greeting → List (List Step) → List (List (List Outcome)) → List ClientPart
-parts_on board told [] outcomes = []
-parts_on board told (steps ∷ scripts) [] = []
-parts_on board told (steps ∷ scripts) (first ∷ others) =
-    part_on board told steps first ∷ parts_on board told scripts others
+abbrev pub parts_on : ℕ → Greeting → List (List Step) → List (List (List Outcome)) → List (List (Option (List ℕ)))
+    → List ClientPart
+parts_on board told [] outcomes lates = []
+parts_on board told (steps ∷ scripts) [] lates = []
+parts_on board told (steps ∷ scripts) (first ∷ others) lates =
+    part_on board told steps first (get_or lates 0 []) ∷ parts_on board told scripts others (drop 1 lates)
 
 -- each board, the first of which has this position
 abbrev pub runs_from : ℕ → List (List Step) → List BoardFate → List BoardRun
 runs_from board scripts [] = []
 runs_from board scripts (fate ∷ fates) =
-    record { name = fate.name; greeting = fate.greeting; parts = parts_on board fate.greeting scripts fate.outcomes }
+    record {
+      name = fate.name;
+      greeting = fate.greeting;
+      parts = parts_on board fate.greeting scripts fate.outcomes fate.lates;
+    }
     ∷ runs_from (board + 1) scripts fates

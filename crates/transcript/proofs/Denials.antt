@@ -22,8 +22,9 @@ use Rattle.transcript.specs.declared.body_end.Told.{Told}
 use Rattle.transcript.specs.declared.body_end.Told.TheVariants as told
 use Rattle.transcript.specs.declared.body_end.BodyEnd.{BodyEnd}
 use Rattle.transcript.specs.declared.line.OpResult.{OpResult}
+use Rattle.transcript.specs.declared.line.OpResult.TheVariants.{Late}
 use Rattle.transcript.specs.Ends.{ends_of, answered, told_at, result_in, piece_result}
-use Rattle.transcript.specs.Results.{is_good, first_fault, word_before, shown}
+use Rattle.transcript.specs.Results.{is_good, first_not_done, word_before, shown, shown_not_done}
 use Rattle.transcript.specs.Lines.{by_pieces, in_part, showing, shown_behind, line_of, lines_behind}
 use Rattle.transcript.specs.Lines.{lines_from}
 use Rattle.transcript.specs.Claims.{AreOnBoards, HasNoPlaceIfDenied, IsOnBoard, rule_in, rules_of, rules_shown}
@@ -46,6 +47,7 @@ unfolding IsNotDenied
 told_so (told.Answered list) index = answered_so (slice_get list index)
 told_so told.Garbled index = refl
 told_so (told.TimedOut rounds) index = refl
+told_so (told.Late rounds list) index = refl
 told_so told.Unsent index = refl
 told_so told.LinkLost index = refl
 
@@ -68,19 +70,28 @@ shown_so WriteBlock mask words = refl
 shown_so RmwBits mask words = before_so words
 shown_so RmwSum mask words = before_so words
 
-pieces_so : (ends : List BodyEnd) (pieces : List PieceAt) (other : OpResult) → IsNotDenied other
-    → IsNotDenied (unwrap_or (first_fault (map (piece_result ends) pieces)) other)
-pieces_so ends [] other is = is
-pieces_so ends (piece ∷ pieces) other is =
+fault_so : (verb : Verb) (mask : ℕ) (fault : OpResult) → IsNotDenied fault
+    → IsNotDenied (shown_not_done verb mask fault)
+unfolding IsNotDenied
+fault_so verb mask (Late rounds answer) is = refl
+fault_so verb mask other is = is
+
+pieces_so : (verb : Verb) (mask : ℕ) (ends : List BodyEnd) (pieces : List PieceAt) (other : OpResult)
+    → IsNotDenied other → IsNotDenied
+    (unwrap_or (option_map (shown_not_done verb mask) (first_not_done (map (piece_result ends) pieces))) other)
+pieces_so verb mask ends [] other is = is
+pieces_so verb mask ends (piece ∷ pieces) other is =
     elim (cases_Bool (is_good (piece_result ends piece))) [
-      | inl good ↦ rw good (pieces_so ends pieces other is)
-      | inr failed ↦ rw failed (result_so (slice_get ends piece.body) piece.index)
+      | inl good ↦ rw good (pieces_so verb mask ends pieces other is)
+      | inr failed ↦ rw failed (fault_so verb mask (piece_result ends piece)
+          (result_so (slice_get ends piece.body) piece.index))
     ]
 
-by_pieces_so : (part : ClientPart) (op : RegOp) (found : Option (List PieceAt)) → IsNotDenied (by_pieces part op found).0
+by_pieces_so : (part : ClientPart) (op : RegOp) (found : Option (List PieceAt))
+    → IsNotDenied (by_pieces part op found).0
 unfolding IsNotDenied
 by_pieces_so part op None = refl
-by_pieces_so part op (Some pieces) = pieces_so (ends_of part) pieces _ (shown_so op.verb op.mask _)
+by_pieces_so part op (Some pieces) = pieces_so op.verb op.mask (ends_of part) pieces _ (shown_so op.verb op.mask _)
 
 in_part_so : (found : Option ClientPart) (k : ℕ) (op : RegOp) → IsNotDenied (in_part found k op).0
 unfolding IsNotDenied
@@ -116,7 +127,8 @@ rules_behind runs client before (ask ∷ asks) all =
       | inr (past, none) ↦ absurd (omega (arith, all.0))
     ]
 
-rules_from : (runs : List BoardRun) (client : ℕ) (scripts : List (List Step)) → AllByRecursion (AreOnBoards runs) scripts
+rules_from : (runs : List BoardRun) (client : ℕ) (scripts : List (List Step))
+    → AllByRecursion (AreOnBoards runs) scripts
     → map rules_shown (lines_from runs client scripts) ≡ map rules_of scripts
 rules_from runs client [] all = refl
 rules_from runs client (steps ∷ scripts) all =

@@ -10,6 +10,9 @@ mod Covering
 mod Denials
 mod Printed
 mod PiecesSoFar
+mod LatePieces
+pub mod EndsInOrder
+pub mod GoodResults
 mod TextSoFar
 mod PrintedLines
 pub mod ShownLines

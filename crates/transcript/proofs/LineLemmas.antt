@@ -1,6 +1,6 @@
 -- The lines of a client, operation by operation.
-use Rattle.std.proofs.Common.{◌≡◌, ℕ, suc, ◌+◌, ◌<◌, ◌≤◌, ◌==◌, cond, length, get_or, take, drop, List, [], ◌∷◌, ◌++◌, sym}
-use Rattle.std.proofs.Common.{ap, ◌∙◌, inl, inr, arith, zero-add, append_assoc, append-nil, add-one, drop-cons}
+use Rattle.std.proofs.Common.{◌≡◌, ℕ, suc, ◌+◌, ◌<◌, ◌≤◌, ◌==◌, cond, length, get_or, take, drop, List, [], ◌∷◌, ◌++◌}
+use Rattle.std.proofs.Common.{sym, ap, ◌∙◌, inl, inr, arith, zero-add, append_assoc, append-nil, add-one, drop-cons}
 use Rattle.std.proofs.Common.{length-append, length-set}
 use Rattle.std.specs.List.{slice_get}
 use Rattle.std.specs.Option.{option_map}

@@ -1,6 +1,6 @@
 -- What a piece of an operation came to, what the pieces came to so far, and those that are left.
-use Rattle.std.proofs.Common.{◌≡◌, ℕ, ◌+◌, ◌<◌, ◌≤◌, Bool, true, false, cond, List, [], ◌∷◌, ◌++◌, length, drop, get_or, map}
-use Rattle.std.proofs.Common.{Option, Some, None, unwrap_or, refl, sym, ap, ◌∙◌, append-nil}
+use Rattle.std.proofs.Common.{◌≡◌, ℕ, ◌+◌, ◌<◌, ◌≤◌, Bool, true, false, cond, List, [], ◌∷◌, ◌++◌, length, drop, get_or}
+use Rattle.std.proofs.Common.{map, Option, Some, None, unwrap_or, refl, sym, ap, ◌∙◌, append-nil}
 use Rattle.std.specs.List.{flat_map, slice_get}
 use Rattle.reply_join.specs.declared.answer.Answer.{Answer}
 use Rattle.std.proofs.lemmas.List.{append_assoc, drop_all, drop_more}
@@ -10,19 +10,20 @@ use Rattle.script_plans.specs.declared.planned.PieceAt.{PieceAt}
 use Rattle.transcript.specs.declared.body_end.BodyEnd.{BodyEnd}
 use Rattle.transcript.specs.declared.body_end.Told.{Told}
 use Rattle.transcript.specs.declared.line.OpResult.{OpResult}
+use Rattle.std.specs.Option.{option_map}
 use Rattle.transcript.specs.Ends.{piece_result, result_in, told_at}
-use Rattle.transcript.specs.Results.{combined, first_fault, is_good, shown, values_in}
-use Rattle.transcript.specs.Steps.{fault_in}
+use Rattle.transcript.specs.Results.{combined, first_not_done, is_good, shown, shown_not_done, values_in}
+use Rattle.transcript.specs.Steps.{not_done_in}
 
-no_fault : (good : Bool) (r : OpResult) (rest : Option OpResult) → cond good None (Some r) ≡ None
-    → cond good rest (Some r) ≡ rest
-no_fault true r rest none = refl
-no_fault false r rest none = absurd cc
+no_fault : (good : Bool) (f : OpResult → OpResult) (r : OpResult) (rest : Option OpResult)
+    → option_map f (cond good None (Some r)) ≡ None → cond good rest (Some r) ≡ rest
+no_fault true f r rest none = refl
+no_fault false f r rest none = absurd cc
 
-a_fault : (good : Bool) (r fault : OpResult) (rest : Option OpResult) → cond good None (Some r) ≡ Some fault
-    → cond good rest (Some r) ≡ Some fault
-a_fault true r fault rest is = absurd cc
-a_fault false r fault rest is = is
+a_fault : (good : Bool) (f : OpResult → OpResult) (r fault : OpResult) (rest : Option OpResult)
+    → option_map f (cond good None (Some r)) ≡ Some fault → option_map f (cond good rest (Some r)) ≡ Some fault
+a_fault true f r fault rest is = absurd cc
+a_fault false f r fault rest is = is
 
 -- the piece at a place is the first of those that are left
 left_at : (ends : List BodyEnd) (pieces : List PieceAt) (i : ℕ) (d : PieceAt) → i < length pieces
@@ -41,27 +42,33 @@ words_on ends pieces i d words more within grown =
     ∙ (append_assoc words (values_in (piece_result ends (get_or pieces i d))) rest
     ∙ ap (λ (rs : List OpResult). words ++ flat_map values_in rs) (sym (left_at ends pieces i d within)))
 
--- it did not fail, so the first that fails is one behind it
-pub fault_on : (ends : List BodyEnd) (pieces : List PieceAt) (i : ℕ) (d : PieceAt) → i < length pieces
-    → fault_in (piece_result ends (get_or pieces i d)) ≡ None
-    → first_fault (map (piece_result ends) (drop (i + 1) pieces)) ≡ first_fault (map (piece_result ends) (drop i pieces))
-fault_on ends pieces i d within none =
+-- it was done in time, so the first that was not is one behind it
+pub fault_on : (verb : Verb) (mask : ℕ) (ends : List BodyEnd) (pieces : List PieceAt) (i : ℕ) (d : PieceAt)
+    → i < length pieces
+    → option_map (shown_not_done verb mask) (not_done_in (piece_result ends (get_or pieces i d))) ≡ None
+    → first_not_done (map (piece_result ends) (drop (i + 1) pieces))
+    ≡ first_not_done (map (piece_result ends) (drop i pieces))
+fault_on verb mask ends pieces i d within none =
     let r = piece_result ends (get_or pieces i d) in
-    sym (ap first_fault (left_at ends pieces i d within)
-    ∙ no_fault (is_good r) r (first_fault (map (piece_result ends) (drop (i + 1) pieces))) none)
+    sym (ap first_not_done (left_at ends pieces i d within)
+    ∙ no_fault (is_good r) (shown_not_done verb mask) r
+    (first_not_done (map (piece_result ends) (drop (i + 1) pieces))) none)
 
--- it failed, so it is the first that fails
-pub fault_here : (ends : List BodyEnd) (pieces : List PieceAt) (i : ℕ) (d : PieceAt) (fault : OpResult)
-    → i < length pieces → fault_in (piece_result ends (get_or pieces i d)) ≡ Some fault
-    → first_fault (map (piece_result ends) (drop i pieces)) ≡ Some fault
-fault_here ends pieces i d fault within failed =
+-- it was not, so it is the first that was not, and this is shown of it
+pub fault_here : (verb : Verb) (mask : ℕ) (ends : List BodyEnd) (pieces : List PieceAt) (i : ℕ) (d : PieceAt)
+    (fault : OpResult) → i < length pieces
+    → option_map (shown_not_done verb mask) (not_done_in (piece_result ends (get_or pieces i d))) ≡ Some fault
+    → option_map (shown_not_done verb mask) (first_not_done (map (piece_result ends) (drop i pieces))) ≡ Some fault
+fault_here verb mask ends pieces i d fault within failed =
     let r = piece_result ends (get_or pieces i d) in
-    ap first_fault (left_at ends pieces i d within)
-    ∙ a_fault (is_good r) r fault (first_fault (map (piece_result ends) (drop (i + 1) pieces))) failed
+    ap (λ (rs : List OpResult). option_map (shown_not_done verb mask) (first_not_done rs))
+    (left_at ends pieces i d within)
+    ∙ a_fault (is_good r) (shown_not_done verb mask) r fault
+    (first_not_done (map (piece_result ends) (drop (i + 1) pieces))) failed
 
 -- what they came to together
 pub came_to_fault : (verb : Verb) (mask : ℕ) (results : List OpResult) (fault : OpResult)
-    → first_fault results ≡ Some fault → fault ≡ combined verb mask results
+    → option_map (shown_not_done verb mask) (first_not_done results) ≡ Some fault → fault ≡ combined verb mask results
 came_to_fault verb mask results fault is =
     sym (ap (λ (first : Option OpResult). unwrap_or first (shown verb mask (flat_map values_in results))) is)
 
@@ -69,23 +76,24 @@ pub came_to_words : (verb : Verb) (mask : ℕ) (ends : List BodyEnd) (pieces : L
     → length pieces ≤ i
     → words ++ flat_map values_in (map (piece_result ends) (drop i pieces))
     ≡ flat_map values_in (map (piece_result ends) pieces)
-    → first_fault (map (piece_result ends) (drop i pieces)) ≡ first_fault (map (piece_result ends) pieces)
+    → first_not_done (map (piece_result ends) (drop i pieces)) ≡ first_not_done (map (piece_result ends) pieces)
     → shown verb mask words ≡ combined verb mask (map (piece_result ends) pieces)
 came_to_words verb mask ends pieces i words past all none =
     let results = map (piece_result ends) pieces in
     let words_are : words ≡ flat_map values_in results = sym (append-nil words)
-    ∙ (ap (λ (ps : List PieceAt). words ++ flat_map values_in (map (piece_result ends) ps)) (sym (drop_all i pieces past))
-    ∙ all) in
-    let faultless : first_fault results ≡ None = sym none
-    ∙ ap (λ (ps : List PieceAt). first_fault (map (piece_result ends) ps)) (drop_all i pieces past) in
+    ∙ (ap (λ (ps : List PieceAt). words ++ flat_map values_in (map (piece_result ends) ps))
+    (sym (drop_all i pieces past)) ∙ all) in
+    let faultless : first_not_done results ≡ None = sym none
+    ∙ ap (λ (ps : List PieceAt). first_not_done (map (piece_result ends) ps)) (drop_all i pieces past) in
     ap (shown verb mask) words_are
-    ∙ sym (ap (λ (first : Option OpResult). unwrap_or first (shown verb mask (flat_map values_in results))) faultless)
+    ∙ sym (ap (λ (first : Option OpResult). unwrap_or (option_map (shown_not_done verb mask) first)
+    (shown verb mask (flat_map values_in results))) faultless)
 
 -- ---- of one piece
 
 -- the answer at a place
-pub answer_at : (answers : List Answer) (index : ℕ) (x is : Answer) → index < length answers → x ≡ get_or answers index x
-    → x ≡ is → slice_get answers index ≡ Some is
+pub answer_at : (answers : List Answer) (index : ℕ) (x is : Answer) → index < length answers
+    → x ≡ get_or answers index x → x ≡ is → slice_get answers index ≡ Some is
 answer_at answers index x is within at same =
     slice_get_read answers (length answers) index x refl within at ∙ ap (λ (a : Answer). Some a) same
 
@@ -95,6 +103,15 @@ pub end_at : (ends : List BodyEnd) (body index : ℕ) (end : BodyEnd) (told : To
 end_at ends body index end told within at same =
     ap (λ (r : Option BodyEnd). result_in r index) (slice_get_read ends (length ends) body end refl within at)
     ∙ ap (λ (t : Told). told_at t index) same
+
+-- what an operation shows of a failed piece then
+pub fault_at : (verb : Verb) (mask : ℕ) (ends : List BodyEnd) (body index : ℕ) (end : BodyEnd) (told : Told)
+    → body < length ends → end ≡ get_or ends body end → end.told ≡ told
+    → option_map (shown_not_done verb mask) (not_done_in (result_in (slice_get ends body) index))
+    ≡ option_map (shown_not_done verb mask) (not_done_in (told_at told index))
+fault_at verb mask ends body index end told within at same =
+    ap (λ (r : OpResult). option_map (shown_not_done verb mask) (not_done_in r))
+    (end_at ends body index end told within at same)
 
 -- no words are added where a piece has none
 pub no_words : (words : List ℕ) (r is : OpResult) → r ≡ is → values_in is ≡ [] → words ≡ words ++ values_in r

@@ -1,9 +1,10 @@
 -- The lines of a run are such as its text tells.
 use Rattle.std.proofs.Common.{◌≡◌, ℕ, ◌+◌, ◌<◌, ◌^◌, ◌==◌, length, map}
 use Rattle.std.proofs.Common.{List, [], ◌∷◌, ◌++◌, Option, Some, None, refl, sym, subst, inl, inr, arith, length-append}
+use Rattle.std.proofs.Common.{drop, get_or}
 use Rattle.std.proofs.Math.Nat.{div-le_self}
 use Rattle.std.specs.Int.Bits.{bit_and}
-use Rattle.std.specs.List.{AllByRecursion, flat_map, slice_get, zip}
+use Rattle.std.specs.List.{AllByRecursion, flat_map, slice_get}
 use Rattle.std.specs.Option.{option_map}
 use Rattle.std.specs.Prelude.{IfSome, option_to_list, unwrap_or}
 use Rattle.std.proofs.lemmas.Bool.{cases_Bool}
@@ -34,17 +35,22 @@ use Rattle.transcript.specs.declared.body_end.Told.TheVariants as told
 use Rattle.transcript.specs.declared.body_end.BodyEnd.{BodyEnd}
 use Rattle.script_plans.specs.declared.board_run.ClientPart.{ClientPart}
 use Rattle.script_plans.specs.declared.board_run.BoardRun.{BoardRun}
+use Rattle.transcript.specs.declared.line.LateAnswer.{LateAnswer}
+use Rattle.transcript.specs.declared.line.LateAnswer.TheVariants as late_answer
 use Rattle.transcript.specs.declared.line.OpResult.{OpResult}
-use Rattle.transcript.specs.declared.line.OpResult.TheVariants.{Value, Done, Was, Error, Skipped, TimedOut, Unsent}
-use Rattle.transcript.specs.declared.line.OpResult.TheVariants.{LinkLost, Garbled, Denied}
+use Rattle.transcript.specs.declared.line.OpResult.TheVariants.{Value, Done, Was, Error, Skipped, TimedOut, Late}
+use Rattle.transcript.specs.declared.line.OpResult.TheVariants.{Unsent, LinkLost, Garbled, Denied}
 use Rattle.script_plans.specs.Plan.{IsWithinBody}
-use Rattle.transcript.specs.Ends.{told_by, end_of, ends_of, answered, told_at, result_in, piece_result}
+use Rattle.transcript.specs.Ends.{told_by, told_timed_out, end_of, ends_with, ends_of, answered, late_of, late_at}
+use Rattle.transcript.specs.Ends.{told_at}
+use Rattle.transcript.specs.Ends.{result_in, piece_result}
 use Rattle.transcript.specs.Ends.{place_at, place_in, piece_place}
-use Rattle.transcript.specs.Results.{is_good, first_fault, values_in, word_before, shown, op_places}
+use Rattle.transcript.specs.Results.{is_good, first_not_done, values_in, word_before, shown, shown_late, shown_not_done}
+use Rattle.transcript.specs.Results.{op_places}
 use Rattle.transcript.specs.Lines.{Showing, by_pieces, in_part, showing, shown_behind, line_of, lines_behind}
 use Rattle.transcript.specs.Lines.{client_lines}
 use Rattle.transcript.specs.Claims.{IsByte, IsPrinted, IsPrintedPlace, IsPrintedLine, IsInRange, IsPartInRange}
-use Rattle.transcript.specs.Claims.{CanBeTold, IsRunInRange}
+use Rattle.transcript.specs.Claims.{CanBeTold, HasWordsLate, IsPrintedLate, IsRunInRange}
 use Rattle.script_plans.proofs.Lookups.{all_at}
 use Rattle.transcript.proofs.Skipping.{Joins}
 
@@ -64,6 +70,7 @@ ToldFits : Told → Type 0
 ToldFits (told.Answered list) = AllByRecursion AnswerFits list
 ToldFits told.Garbled = Unit {0}
 ToldFits (told.TimedOut rounds) = IsByte rounds
+ToldFits (told.Late rounds list) = IsByte rounds × IfSome list (AllByRecursion AnswerFits)
 ToldFits told.Unsent = Unit {0}
 ToldFits told.LinkLost = Unit {0}
 
@@ -93,34 +100,60 @@ replies_fit : (replies : List Reply) → AreReplies replies → AllByRecursion A
 replies_fit [] are = tt
 replies_fit (reply ∷ replies) are = (answer_fits reply are.0, replies_fit replies are.1)
 
-told_by_fits : Joins → (body words : List ℕ) (found : Option (List Answer)) → AreWords body → AreWords words
-    → answers body words ≡ found → ToldFits (told_by found)
-unfolding ToldFits AnswerFits
-told_by_fits joins body words None fits fit is = tt
-told_by_fits joins body words (Some list) fits fit is =
+answers_fit : Joins → (body words : List ℕ) (found : Option (List Answer)) → AreWords body → AreWords words
+    → answers body words ≡ found → IfSome found (AllByRecursion AnswerFits)
+unfolding AnswerFits
+answers_fit joins body words None fits fit is = tt
+answers_fit joins body words (Some list) fits fit is =
     let joined : IsJoined body words list = (joins body words list fits fit).1 is in
     subst (AllByRecursion AnswerFits) (sym joined.1) (
     AllByRecursion-append AnswerFits (map answer_of joined.0.replies) _ (replies_fit joined.0.replies joined.0.items)
     (AllByRecursion-replicate AnswerFits _ answer.Skipped tt)
     )
 
-told_fits : Joins → (body : List ℕ) (outcome : Outcome) → AreWords body → IsInRange outcome
-    → EndFits (end_of (body, outcome))
-unfolding PlaceFits ToldFits
-told_fits joins body (became.Replied place words) fits fit =
-    record { place' = fit.0; told' = told_by_fits joins body words (answers body words) fits fit.1 refl }
-told_fits joins body (became.TimedOut place rounds) fits fit = record { place' = fit.0; told' = fit.1 }
-told_fits joins body became.Unsent fits fit = record { place' = tt; told' = tt }
-told_fits joins body (became.LinkLost None) fits fit = record { place' = tt; told' = tt }
-told_fits joins body (became.LinkLost (Some place)) fits fit = record { place' = fit; told' = tt }
+told_by_fits : (found : Option (List Answer)) → IfSome found (AllByRecursion AnswerFits) → ToldFits (told_by found)
+unfolding ToldFits
+told_by_fits None fits = tt
+told_by_fits (Some list) fits = fits
 
-ends_fit : Joins → (bodies : List (List ℕ)) (outcomes : List Outcome) → AllByRecursion AreWords bodies
-    → AllByRecursion IsInRange outcomes → AllByRecursion EndFits (map end_of (zip bodies outcomes))
-ends_fit joins [] outcomes fits fit = tt
-ends_fit joins (body ∷ bodies) [] fits fit = tt
-ends_fit joins (body ∷ bodies) (outcome ∷ outcomes) fits fit = (
-  told_fits joins body outcome fits.0 fit.0,
-  ends_fit joins bodies outcomes fits.1 fit.1,
+told_timed_out_fits : Joins → (body : List ℕ) (rounds : ℕ) (late : Option (List ℕ)) → AreWords body → IsByte rounds
+    → HasWordsLate late → ToldFits (told_timed_out body rounds late)
+unfolding ToldFits
+told_timed_out_fits joins body rounds None fits fit late_fits = fit
+told_timed_out_fits joins body rounds (Some words) fits fit late_fits =
+    (fit, answers_fit joins body words (answers body words) fits late_fits refl)
+
+told_fits : Joins → (body : List ℕ) (outcome : Outcome) (late : Option (List ℕ)) → AreWords body → IsInRange outcome
+    → HasWordsLate late → EndFits (end_of body outcome late)
+unfolding PlaceFits ToldFits
+told_fits joins body (became.Replied place words) late fits fit late_fits = record {
+  place' = fit.0;
+  told' = told_by_fits (answers body words) (answers_fit joins body words (answers body words) fits fit.1 refl);
+}
+told_fits joins body (became.TimedOut place rounds) late fits fit late_fits =
+    record { place' = fit.0; told' = told_timed_out_fits joins body rounds late fits fit.1 late_fits }
+told_fits joins body became.Unsent late fits fit late_fits = record { place' = tt; told' = tt }
+told_fits joins body (became.LinkLost None) late fits fit late_fits = record { place' = tt; told' = tt }
+told_fits joins body (became.LinkLost (Some place)) late fits fit late_fits = record { place' = fit; told' = tt }
+
+-- the first late answer, and those behind it
+late_first : (lates : List (Option (List ℕ))) → AllByRecursion HasWordsLate lates → HasWordsLate (get_or lates 0 None)
+late_first [] fits = tt
+late_first (late ∷ lates) fits = fits.0
+
+late_others : (lates : List (Option (List ℕ))) → AllByRecursion HasWordsLate lates
+    → AllByRecursion HasWordsLate (drop 1 lates)
+late_others [] fits = tt
+late_others (late ∷ lates) fits = fits.1
+
+ends_fit : Joins → (bodies : List (List ℕ)) (outcomes : List Outcome) (lates : List (Option (List ℕ)))
+    → AllByRecursion AreWords bodies → AllByRecursion IsInRange outcomes → AllByRecursion HasWordsLate lates
+    → AllByRecursion EndFits (ends_with bodies outcomes lates)
+ends_fit joins [] outcomes lates fits fit late_fits = tt
+ends_fit joins (body ∷ bodies) [] lates fits fit late_fits = tt
+ends_fit joins (body ∷ bodies) (outcome ∷ outcomes) lates fits fit late_fits = (
+  told_fits joins body outcome (get_or lates 0 None) fits.0 fit.0 (late_first lates late_fits),
+  ends_fit joins bodies outcomes (drop 1 lates) fits.1 fit.1 (late_others lates late_fits),
 )
 
 -- ---- pieces
@@ -135,11 +168,26 @@ answered_fits list index (Some (answer.Fault code after)) all at = all_at Answer
     (answer.Fault code after) at all
 answered_fits list index (Some answer.Skipped) all at = tt
 
+late_of_fits : (r : OpResult) → IsPrinted r → IsPrintedLate (late_of r)
+late_of_fits (Value words) fits = fits
+late_of_fits Done fits = tt
+late_of_fits (Was word) fits = fits
+late_of_fits (Error code after) fits = fits
+late_of_fits Skipped fits = tt
+late_of_fits other fits = tt
+
+late_at_fits : (list : Option (List Answer)) (index : ℕ) → IfSome list (AllByRecursion AnswerFits)
+    → IsPrintedLate (late_at list index)
+late_at_fits None index fits = tt
+late_at_fits (Some list) index fits =
+    late_of_fits (answered (slice_get list index)) (answered_fits list index (slice_get list index) fits refl)
+
 told_at_fits : (what : Told) (index : ℕ) → ToldFits what → IsPrinted (told_at what index)
 unfolding ToldFits
 told_at_fits (told.Answered list) index fits = answered_fits list index (slice_get list index) fits refl
 told_at_fits told.Garbled index fits = tt
 told_at_fits (told.TimedOut rounds) index fits = fits
+told_at_fits (told.Late rounds list) index fits = (fits.0, late_at_fits list index fits.1)
 told_at_fits told.Unsent index fits = tt
 told_at_fits told.LinkLost index fits = tt
 
@@ -200,6 +248,7 @@ values_fit (Was word) fits = (fits, tt)
 values_fit (Error code after) fits = tt
 values_fit Skipped fits = tt
 values_fit (TimedOut rounds) fits = tt
+values_fit (Late rounds answer) fits = tt
 values_fit Unsent fits = tt
 values_fit LinkLost fits = tt
 values_fit Garbled fits = tt
@@ -210,13 +259,25 @@ all_values_fit [] fits = tt
 all_values_fit (r ∷ rs) fits =
     AllByRecursion-append IsWord (values_in r) (flat_map values_in rs) (values_fit r fits.0) (all_values_fit rs fits.1)
 
-or_fault : (results : List OpResult) (other : OpResult) → AllByRecursion IsPrinted results → IsPrinted other
-    → IsPrinted (unwrap_or (first_fault results) other)
-or_fault [] other all fits = fits
-or_fault (r ∷ rs) other all fits =
+shown_late_fits : (verb : Verb) (mask : ℕ) (answer' : LateAnswer) → IsPrintedLate answer'
+    → IsPrintedLate (shown_late verb mask answer')
+shown_late_fits verb mask (late_answer.Value words) fits =
+    late_of_fits (shown verb mask words) (shown_fits verb mask words fits)
+shown_late_fits verb mask late_answer.Done fits = late_of_fits (shown verb mask []) (shown_fits verb mask [] tt)
+shown_late_fits verb mask other fits = fits
+
+shown_fault_fits : (verb : Verb) (mask : ℕ) (fault : OpResult) → IsPrinted fault
+    → IsPrinted (shown_not_done verb mask fault)
+shown_fault_fits verb mask (Late rounds answer') fits = (fits.0, shown_late_fits verb mask answer' fits.1)
+shown_fault_fits verb mask other fits = fits
+
+or_fault : (verb : Verb) (mask : ℕ) (results : List OpResult) (other : OpResult) → AllByRecursion IsPrinted results
+    → IsPrinted other → IsPrinted (unwrap_or (option_map (shown_not_done verb mask) (first_not_done results)) other)
+or_fault verb mask [] other all fits = fits
+or_fault verb mask (r ∷ rs) other all fits =
     elim (cases_Bool (is_good r)) [
-      | inl good ↦ rw good (or_fault rs other all.1 fits)
-      | inr failed ↦ rw failed all.0
+      | inl good ↦ rw good (or_fault verb mask rs other all.1 fits)
+      | inr failed ↦ rw failed (shown_fault_fits verb mask r all.0)
     ]
 
 ShowingFits : Showing → Type 0
@@ -228,9 +289,9 @@ module _ (joins : Joins) where
   unfolding ShowingFits
   by_pieces_fits part op k None fits at = (tt, tt)
   by_pieces_fits part op k (Some pieces) fits at =
-      let ends = ends_fit joins part.planned.bodies part.outcomes fits.bodies' fits.outcomes' in
+      let ends = ends_fit joins part.planned.bodies part.outcomes part.lates fits.bodies' fits.outcomes' fits.lates' in
       let results = results_fit (ends_of part) ends pieces in (
-        or_fault (map (piece_result (ends_of part)) pieces) _ results
+        or_fault op.verb op.mask (map (piece_result (ends_of part)) pieces) _ results
             (shown_fits op.verb op.mask _ (all_values_fit (map (piece_result (ends_of part)) pieces) results)),
         places_fit (ends_of part) ends pieces (all_at (AllByRecursion IsWithinBody) part.planned.pieces k pieces at
             fits.within'),

@@ -18,7 +18,8 @@ use Rattle.transcript.specs.Steps.{denied_line, IsProgress, line_on}
 text_of_both : (xs ys : List OpLine) → lines_text (xs ++ ys) ≡ lines_text xs ++ lines_text ys
 text_of_both [] ys = refl
 text_of_both (x ∷ xs) ys =
-    ap (λ text. line_text x ++ text) (text_of_both xs ys) ∙ sym (append_assoc (line_text x) (lines_text xs) (lines_text ys))
+    ap (λ text. line_text x ++ text) (text_of_both xs ys)
+    ∙ sym (append_assoc (line_text x) (lines_text xs) (lines_text ys))
 
 and_assoc : (a b c : Bool) → ((a && b) && c) ≡ (a && (b && c))
 and_assoc true b c = refl

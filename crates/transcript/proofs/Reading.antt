@@ -12,13 +12,17 @@ use Rattle.std.proofs.lemmas.Fmt.{decimal_is_IsNumeral, decimal_injective, digit
 use Rattle.ipb_base.specs.Word.{AreWords}
 use Rattle.script_steps.specs.declared.operation.Verb.{Verb}
 use Rattle.script_steps.specs.declared.operation.Verb.TheVariants.{Read, Write, ReadBlock, WriteBlock, RmwBits, RmwSum}
+use Rattle.transcript.specs.declared.line.LateAnswer.{LateAnswer}
+use Rattle.transcript.specs.declared.line.LateAnswer.TheVariants as late_answer
 use Rattle.transcript.specs.declared.line.OpResult.{OpResult}
-use Rattle.transcript.specs.declared.line.OpResult.TheVariants.{Value, Done, Was, Error, Skipped, TimedOut, Unsent}
-use Rattle.transcript.specs.declared.line.OpResult.TheVariants.{LinkLost, Garbled, Denied}
+use Rattle.transcript.specs.declared.line.OpResult.TheVariants.{Value, Done, Was, Error, Skipped, TimedOut, Late}
+use Rattle.transcript.specs.declared.line.OpResult.TheVariants.{Unsent, LinkLost, Garbled, Denied}
 use Rattle.transcript.specs.declared.line.OpLine.{OpLine}
-use Rattle.transcript.specs.Text.{hex_text, words_text, verb_text, denied_text, error_text, timeout_text, result_text}
+use Rattle.transcript.specs.Text.{hex_text, words_text, verb_text, denied_text, error_text, timeout_text, answer_text}
+use Rattle.transcript.specs.Text.{late_text, result_text}
 use Rattle.transcript.specs.Text.{place_text, more_places, places_text, line_text}
-use Rattle.transcript.specs.Claims.{IsByte, IsPrinted, IsPrintedPlace, IsPrintedLine, is_no_colon, is_no_space}
+use Rattle.transcript.specs.Claims.{IsByte, IsPrinted, IsPrintedLate, IsPrintedPlace, IsPrintedLine, is_no_colon}
+use Rattle.transcript.specs.Claims.{is_no_space}
 
 -- ---- a front whose bytes pass a test, up to one that does not
 
@@ -153,7 +157,7 @@ few_bits : (n : ℕ) → n < 2 ^ 8 → n < 2 ^ 64
 few_bits n fits = omega arith
 
 error_cut : (c a d b : ℕ) (s t : List ℕ) → IsByte c → IsByte a → IsByte d → IsByte b → Tail s → Tail t
-    → error_text c a ++ s ≡ error_text d b ++ t → (Error c a ≡ Error d b) × (s ≡ t)
+    → error_text c a ++ s ≡ error_text d b ++ t → (c ≡ d) × ((a ≡ b) × (s ≡ t))
 unfolding stops is_digit
 error_cut c a d b s t fc fa fd fb p q e =
     let first = decimal_cut c d ((codes " after " ++ decimal a) ++ s) ((codes " after " ++ decimal b) ++ t)
@@ -162,7 +166,7 @@ error_cut c a d b s t fc fa fd fb p q e =
     ∙ (ap (drop 6) e ∙ append_assoc (decimal d) (codes " after " ++ decimal b) t)) in
     let second = decimal_cut a b s t (few_bits a fa) (few_bits b fb) (decimal_stops s p) (decimal_stops t q)
     (ap (drop 7) first.1) in
-    (ap (λ n. Error n a) first.0 ∙ ap (λ n. Error d n) second.0, second.1)
+    (first.0, (second.0, second.1))
 
 timeout_cut : (r u : ℕ) (s t : List ℕ) → IsByte r → IsByte u → timeout_text r ++ s ≡ timeout_text u ++ t
     → (TimedOut r ≡ TimedOut u) × (s ≡ t)
@@ -173,6 +177,45 @@ timeout_cut r u s t fr fu e =
     (sym (append_assoc (decimal r) (codes " rounds, execution unknown") s)
     ∙ (ap (drop 14) e ∙ append_assoc (decimal u) (codes " rounds, execution unknown") t)) in
     (ap TimedOut parts.0, ap (drop 26) parts.1)
+
+-- what a late answer shows
+answer_cut : (a b : LateAnswer) (s t : List ℕ) → IsPrintedLate a → IsPrintedLate b → Tail s → Tail t
+    → answer_text a ++ s ≡ answer_text b ++ t → (a ≡ b) × (s ≡ t)
+answer_cut (late_answer.Value ws) (late_answer.Value vs) s t x y p q e =
+    let c = words_cut ws vs s t x y p q (ap (drop 1) e) in (ap late_answer.Value c.0, c.1)
+answer_cut late_answer.Done late_answer.Done s t x y p q e = (refl, ap (drop 4) e)
+answer_cut (late_answer.Was w) (late_answer.Was v) s t x y p q e =
+    let c = hex_cut w v s t x y (hex_stops s p) (hex_stops t q) (ap (drop 6) e) in (ap late_answer.Was c.0, c.1)
+answer_cut (late_answer.Error c a) (late_answer.Error d b) s t x y p q e =
+    let parts = error_cut c a d b s t x.0 x.1 y.0 y.1 p q e in
+    (ap (λ n. late_answer.Error n a) parts.0 ∙ ap (λ n. late_answer.Error d n) parts.1.0, parts.1.1)
+answer_cut late_answer.Skipped late_answer.Skipped s t x y p q e = (refl, ap (drop 7) e)
+answer_cut late_answer.Garbled late_answer.Garbled s t x y p q e = (refl, ap (drop 7) e)
+answer_cut a b s t x y p q e =
+    let heads : get_or (answer_text a ++ s) 0 0 ≡ get_or (answer_text b ++ t) 0 0 = ap (λ l. get_or l 0 0) e in absurd
+    (omega arith)
+
+late_cut : (r u : ℕ) (a b : LateAnswer) (s t : List ℕ) → IsByte r → IsByte u → IsPrintedLate a → IsPrintedLate b
+    → Tail s → Tail t → late_text r a ++ s ≡ late_text u b ++ t → (Late r a ≡ Late u b) × (s ≡ t)
+unfolding stops is_digit
+late_cut r u a b s t fr fu x y p q e =
+    let parts = decimal_cut r u ((codes " rounds, answered late: " ++ answer_text a) ++ s)
+    ((codes " rounds, answered late: " ++ answer_text b) ++ t) (few_bits r fr) (few_bits u fu) refl refl
+    (sym (append_assoc (decimal r) (codes " rounds, answered late: " ++ answer_text a) s)
+    ∙ (ap (drop 14) e ∙ append_assoc (decimal u) (codes " rounds, answered late: " ++ answer_text b) t)) in
+    let answers = answer_cut a b s t x y p q (ap (drop 24) parts.1) in
+    (ap (λ n. Late n a) parts.0 ∙ ap (Late u) answers.0, answers.1)
+
+-- both begin with the timeout; `execution` and `answered` differ in the first letter
+timeout_or_late : (r u : ℕ) (a : LateAnswer) (s t : List ℕ) → IsByte r → IsByte u
+    → timeout_text r ++ s ≡ late_text u a ++ t → ⊥
+unfolding stops is_digit
+timeout_or_late r u a s t fr fu e =
+    let parts = decimal_cut r u (codes " rounds, execution unknown" ++ s)
+    ((codes " rounds, answered late: " ++ answer_text a) ++ t) (few_bits r fr) (few_bits u fu) refl refl
+    (sym (append_assoc (decimal r) (codes " rounds, execution unknown") s)
+    ∙ (ap (drop 14) e ∙ append_assoc (decimal u) (codes " rounds, answered late: " ++ answer_text a) t)) in
+    let letters : ◌≡◌ {A = ℕ} 101 97 = ap (λ l. get_or l 9 0) parts.1 in omega arith
 
 denied_cut : (r u : ℕ) (s t : List ℕ) → r < 2 ^ 32 → u < 2 ^ 32 → Tail s → Tail t
     → denied_text r ++ s ≡ denied_text u ++ t → (Denied r ≡ Denied u) × (s ≡ t)
@@ -193,9 +236,14 @@ result_cut (Value ws) (Value vs) s t x y p q e = let c = words_cut ws vs s t x y
 result_cut Done Done s t x y p q e = (refl, ap (drop 4) e)
 result_cut (Was w) (Was v) s t x y p q e =
     let c = hex_cut w v s t x y (hex_stops s p) (hex_stops t q) (ap (drop 6) e) in (ap Was c.0, c.1)
-result_cut (Error c a) (Error d b) s t x y p q e = error_cut c a d b s t x.0 x.1 y.0 y.1 p q e
+result_cut (Error c a) (Error d b) s t x y p q e =
+    let parts = error_cut c a d b s t x.0 x.1 y.0 y.1 p q e in
+    (ap (λ n. Error n a) parts.0 ∙ ap (λ n. Error d n) parts.1.0, parts.1.1)
 result_cut Skipped Skipped s t x y p q e = (refl, ap (drop 7) e)
 result_cut (TimedOut r) (TimedOut u) s t x y p q e = timeout_cut r u s t x y e
+result_cut (Late r a) (Late u b) s t x y p q e = late_cut r u a b s t x.0 y.0 x.1 y.1 p q e
+result_cut (TimedOut r) (Late u a) s t x y p q e = absurd (timeout_or_late r u a s t x y.0 e)
+result_cut (Late u a) (TimedOut r) s t x y p q e = absurd (timeout_or_late r u a t s y x.0 (sym e))
 result_cut Unsent Unsent s t x y p q e = (refl, ap (drop 6) e)
 result_cut LinkLost LinkLost s t x y p q e = (refl, ap (drop 9) e)
 result_cut Garbled Garbled s t x y p q e = (refl, ap (drop 7) e)

@@ -1,7 +1,7 @@
 -- The places that lines show are those of bodies.
 use Rattle.std.proofs.Common.{◌≡◌, ◌↔◌, ℕ, zero, suc, ◌+◌, ◌<◌, ◌==◌, cond, List, [], ◌∷◌, ◌++◌, length}
-use Rattle.std.proofs.Common.{map, Option, Some, None, option_to_list, refl, sym, ap, subst, ◌∙◌, inl, inr, arith}
-use Rattle.std.specs.List.{Any, slice_get, zip}
+use Rattle.std.proofs.Common.{drop, map, Option, Some, None, option_to_list, refl, sym, ap, subst, ◌∙◌, inl, inr, arith}
+use Rattle.std.specs.List.{Any, slice_get}
 use Rattle.std.specs.Option.{option_map}
 use Rattle.std.proofs.lemmas.Bool.{cases_Bool, cases_lt}
 use Rattle.std.proofs.lemmas.Bool.Decides.{nat_tests}
@@ -21,7 +21,7 @@ use Rattle.script_plans.specs.declared.board_run.ClientPart.{ClientPart}
 use Rattle.script_plans.specs.declared.board_run.BoardRun.{BoardRun}
 use Rattle.transcript.specs.declared.line.OpLine.{OpLine}
 use Rattle.script_plans.specs.Plan.{ClientBodies, operations, plan, planned_on, all_dispatches, count_on}
-use Rattle.transcript.specs.Ends.{end_of, ends_of, place_at, place_in, piece_place}
+use Rattle.transcript.specs.Ends.{ends_of, ends_with, place_at, place_in, piece_place}
 use Rattle.transcript.specs.Results.{op_places}
 use Rattle.transcript.specs.Lines.{by_pieces, in_part, showing, shown_behind, line_of, lines_behind}
 use Rattle.transcript.specs.Lines.{client_lines, lines_from}
@@ -309,17 +309,18 @@ shown_on scripts runs board run place own at shown =
 
 -- ---- from bodies to lines
 
-ends_within : (bodies : List (List ℕ)) (outcomes : List Outcome) (j : ℕ) (end : BodyEnd)
-    → slice_get (map end_of (zip bodies outcomes)) j ≡ Some end → j < length bodies
-ends_within [] outcomes j end at = absurd cc
-ends_within (b ∷ bodies) [] j end at = absurd cc
-ends_within (b ∷ bodies) (o ∷ outcomes) zero end at = omega arith
-ends_within (b ∷ bodies) (o ∷ outcomes) (suc j) end at = omega (arith, ends_within bodies outcomes j end at)
+ends_within : (bodies : List (List ℕ)) (outcomes : List Outcome) (lates : List (Option (List ℕ))) (j : ℕ)
+    (end : BodyEnd) → slice_get (ends_with bodies outcomes lates) j ≡ Some end → j < length bodies
+ends_within [] outcomes lates j end at = absurd cc
+ends_within (b ∷ bodies) [] lates j end at = absurd cc
+ends_within (b ∷ bodies) (o ∷ outcomes) lates zero end at = omega arith
+ends_within (b ∷ bodies) (o ∷ outcomes) lates (suc j) end at =
+    omega (arith, ends_within bodies outcomes (drop 1 lates) j end at)
 
 not_live : (part : ClientPart) (j : ℕ) (end : BodyEnd) → part.planned.bodies ≡ []
     → slice_get (ends_of part) j ≡ Some end → ⊥
 not_live part j end none at =
-    let within = ends_within part.planned.bodies part.outcomes j end at in
+    let within = ends_within part.planned.bodies part.outcomes part.lates j end at in
     omega (arith, ap length none)
 
 module _ (law : BodiesHavePieces) where
@@ -330,7 +331,7 @@ module _ (law : BodiesHavePieces) where
       → slice_get (ends_of part) j ≡ Some end → EndsAt place end
       → IsShown run.name place (lines_from runs 0 scripts)
   live_shown scripts runs board run payload client part steps j end place there live at script planned ended is =
-      let within = ends_within part.planned.bodies part.outcomes j end ended in
+      let within = ends_within part.planned.bodies part.outcomes part.lates j end ended in
       let has : HasPiece j part.planned.pieces =
       subst (λ (p : ClientBodies). j < length p.bodies → HasPiece j p.pieces) (sym planned)
       (each_body law payload board steps j) within in

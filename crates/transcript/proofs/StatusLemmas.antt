@@ -4,8 +4,8 @@ use Rattle.std.specs.List.{AllByRecursion, list_all}
 use Rattle.std.proofs.lemmas.Bool.{cases_Bool}
 use Rattle.transcript.specs.declared.line.OpLine.{OpLine}
 use Rattle.transcript.specs.declared.line.OpResult.{OpResult}
-use Rattle.transcript.specs.declared.line.OpResult.TheVariants.{Value, Done, Was, Error, Skipped, TimedOut, Unsent}
-use Rattle.transcript.specs.declared.line.OpResult.TheVariants.{LinkLost, Garbled, Denied}
+use Rattle.transcript.specs.declared.line.OpResult.TheVariants.{Value, Done, Was, Error, Skipped, TimedOut, Late}
+use Rattle.transcript.specs.declared.line.OpResult.TheVariants.{Unsent, LinkLost, Garbled, Denied}
 use Rattle.transcript.specs.Results.{is_good}
 use Rattle.transcript.specs.Lines.{are_good, all_good, run_status}
 use Rattle.transcript.specs.Claims.{IsDone, IsDoneResult}
@@ -17,6 +17,7 @@ is_done (Was word) good = inr (inr (word, refl))
 is_done (Error code after) good = cc
 is_done Skipped good = cc
 is_done (TimedOut rounds) good = cc
+is_done (Late rounds answer) good = cc
 is_done Unsent good = cc
 is_done LinkLost good = cc
 is_done Garbled good = cc

@@ -1,5 +1,6 @@
 -- What the laws say of lines and outcomes.
-use Rattle.std.specs.Prelude.{◌≡◌, ◌≢◌, ◌⊎◌, ℕ, ◌<◌, ◌^◌, ◌==◌, Bool, true, not, List, [], Option, Some, None, IfSome, length, map}
+use Rattle.std.specs.Prelude.{◌≡◌, ◌≢◌, ◌⊎◌, ℕ, ◌<◌, ◌^◌, ◌==◌, Bool, true, not, List, [], Option, Some, None}
+use Rattle.std.specs.Prelude.{IfSome, length, map}
 use Rattle.std.specs.List.{AllByRecursion, list_all, slice_get}
 use Rattle.ipb_base.specs.Word.{IsWord, AreWords}
 use Rattle.script_steps.specs.Rulings.{Asked, asked}
@@ -9,9 +10,11 @@ use Rattle.script_plans.specs.declared.board_run.ClientPart.{ClientPart}
 use Rattle.script_plans.specs.Plan.{IsWithinBody}
 use Rattle.lane_record.specs.declared.outcome.Outcome.{Outcome}
 use Rattle.lane_record.specs.declared.outcome.Outcome.TheVariants as became
+use Rattle.transcript.specs.declared.line.LateAnswer.{LateAnswer}
+use Rattle.transcript.specs.declared.line.LateAnswer.TheVariants as late_answer
 use Rattle.transcript.specs.declared.line.OpResult.{OpResult}
-use Rattle.transcript.specs.declared.line.OpResult.TheVariants.{Value, Done, Was, Error, Skipped, TimedOut, Unsent}
-use Rattle.transcript.specs.declared.line.OpResult.TheVariants.{LinkLost, Garbled, Denied}
+use Rattle.transcript.specs.declared.line.OpResult.TheVariants.{Value, Done, Was, Error, Skipped, TimedOut, Late}
+use Rattle.transcript.specs.declared.line.OpResult.TheVariants.{Unsent, LinkLost, Garbled, Denied}
 use Rattle.transcript.specs.declared.line.OpLine.{OpLine}
 use Rattle.transcript.specs.declared.body_end.BodyEnd.{BodyEnd}
 
@@ -29,10 +32,23 @@ HaveWords (became.TimedOut place rounds) = Unit {0}
 HaveWords became.Unsent = Unit {0}
 HaveWords (became.LinkLost place) = Unit {0}
 
+-- so are those of a late answer
+abbrev pub HasWordsLate : Option (List ℕ) → Type 0
+HasWordsLate late = IfSome late AreWords
+
 -- ---- what is printed
 
 abbrev pub IsByte : ℕ → Type 0
 IsByte n = n < 2 ^ 8
+
+-- what a late answer shows has its range
+abbrev pub IsPrintedLate : LateAnswer → Type 0
+IsPrintedLate (late_answer.Value words) = AreWords words
+IsPrintedLate late_answer.Done = Unit {0}
+IsPrintedLate (late_answer.Was word) = IsWord word
+IsPrintedLate (late_answer.Error code after) = IsByte code × IsByte after
+IsPrintedLate late_answer.Skipped = Unit {0}
+IsPrintedLate late_answer.Garbled = Unit {0}
 
 -- what a result shows has its range
 abbrev pub IsPrinted : OpResult → Type 0
@@ -42,6 +58,7 @@ IsPrinted (Was word) = IsWord word
 IsPrinted (Error code after) = IsByte code × IsByte after
 IsPrinted Skipped = Unit {0}
 IsPrinted (TimedOut rounds) = IsByte rounds
+IsPrinted (Late rounds answer) = IsByte rounds × IsPrintedLate answer
 IsPrinted Unsent = Unit {0}
 IsPrinted LinkLost = Unit {0}
 IsPrinted Garbled = Unit {0}
@@ -95,6 +112,7 @@ rule_in (Was word) = None
 rule_in (Error code after) = None
 rule_in Skipped = None
 rule_in (TimedOut rounds) = None
+rule_in (Late rounds answer) = None
 rule_in Unsent = None
 rule_in LinkLost = None
 rule_in Garbled = None
@@ -125,6 +143,7 @@ pub record IsPartInRange (part : ClientPart) : Type 0 where
   pub bodies' : AllByRecursion AreWords part.planned.bodies
   pub within' : AllByRecursion (AllByRecursion IsWithinBody) part.planned.pieces
   pub outcomes' : AllByRecursion IsInRange part.outcomes
+  pub lates' : AllByRecursion HasWordsLate part.lates
 
 -- and whose board's name has no colon
 pub record IsRunInRange (run : BoardRun) : Type 0 where

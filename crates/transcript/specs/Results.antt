@@ -1,5 +1,6 @@
 -- What an operation came to, by what its pieces came to. Profile; uHAL for masked reads.
-use Rattle.std.specs.Prelude.{ℕ, Bool, true, false, if◌then◌else◌, List, [], ◌∷◌, map, Option, Some, None, unwrap_or}
+use Rattle.std.specs.Prelude.{ℕ, Bool, true, false, if◌then◌else◌, List, [], ◌∷◌, map, Option, Some, None}
+use Rattle.std.specs.Prelude.{unwrap_or, option_map}
 use Rattle.std.specs.List.{flat_map}
 use Rattle.masked_fields.specs.Field.{field}
 use Rattle.script_steps.specs.declared.operation.Verb.{Verb}
@@ -7,12 +8,14 @@ use Rattle.script_steps.specs.declared.operation.Verb.TheVariants.{Read, Write, 
 use Rattle.script_steps.specs.declared.operation.RegOp.{RegOp}
 use Rattle.script_plans.specs.declared.planned.PieceAt.{PieceAt}
 use Rattle.transcript.specs.declared.body_end.BodyEnd.{BodyEnd}
+use Rattle.transcript.specs.declared.line.LateAnswer.{LateAnswer}
+use Rattle.transcript.specs.declared.line.LateAnswer.TheVariants as late_answer
 use Rattle.transcript.specs.declared.line.OpResult.{OpResult}
-use Rattle.transcript.specs.declared.line.OpResult.TheVariants.{Value, Done, Was, Error, Skipped, TimedOut, Unsent}
-use Rattle.transcript.specs.declared.line.OpResult.TheVariants.{LinkLost, Garbled, Denied}
-use Rattle.transcript.specs.Ends.{piece_result, piece_place}
+use Rattle.transcript.specs.declared.line.OpResult.TheVariants.{Value, Done, Was, Error, Skipped, TimedOut, Late}
+use Rattle.transcript.specs.declared.line.OpResult.TheVariants.{Unsent, LinkLost, Garbled, Denied}
+use Rattle.transcript.specs.Ends.{late_of, piece_result, piece_place}
 
--- it was executed without a fault
+-- it was executed without a fault, and answered in time
 abbrev pub is_good : OpResult → Bool
 is_good (Value words) = true
 is_good Done = true
@@ -20,14 +23,16 @@ is_good (Was word) = true
 is_good (Error code after) = false
 is_good Skipped = false
 is_good (TimedOut rounds) = false
+is_good (Late rounds answer) = false
 is_good Unsent = false
 is_good LinkLost = false
 is_good Garbled = false
 is_good (Denied rule) = false
 
-abbrev pub first_fault : List OpResult → Option OpResult
-first_fault [] = None
-first_fault (r ∷ rs) = if is_good r then first_fault rs else Some r
+-- the first that was not done, or not in time
+abbrev pub first_not_done : List OpResult → Option OpResult
+first_not_done [] = None
+first_not_done (r ∷ rs) = if is_good r then first_not_done rs else Some r
 
 abbrev pub values_in : OpResult → List ℕ
 values_in (Value words) = words
@@ -36,6 +41,7 @@ values_in (Was word) = word ∷ []
 values_in (Error code after) = []
 values_in Skipped = []
 values_in (TimedOut rounds) = []
+values_in (Late rounds answer) = []
 values_in Unsent = []
 values_in LinkLost = []
 values_in Garbled = []
@@ -55,9 +61,23 @@ shown WriteBlock mask words = Done
 shown RmwBits mask words = word_before words
 shown RmwSum mask words = word_before words
 
--- The first piece that failed says what the operation came to. Where none did it shows the words of all of them.
+-- what an operation shows of the late answer to one of its pieces: what it would show of this piece alone
+abbrev pub shown_late : Verb → ℕ → LateAnswer → LateAnswer
+shown_late verb mask (late_answer.Value words) = late_of (shown verb mask words)
+shown_late verb mask late_answer.Done = late_of (shown verb mask [])
+shown_late verb mask other = other
+
+-- what it shows of a piece that was not done, or not in time
+abbrev pub shown_not_done : Verb → ℕ → OpResult → OpResult
+shown_not_done verb mask (Late rounds answer) = Late rounds (shown_late verb mask answer)
+shown_not_done verb mask other = other
+
+-- The first piece that was not done in time says what the operation came to. Where there is none it shows the
+-- words of all of them.
 abbrev pub combined : Verb → ℕ → List OpResult → OpResult
-combined verb mask results = unwrap_or (first_fault results) (shown verb mask (flat_map values_in results))
+combined verb mask results =
+    unwrap_or (option_map (shown_not_done verb mask) (first_not_done results))
+    (shown verb mask (flat_map values_in results))
 
 -- what an operation came to, and where it stands in its board's order
 abbrev pub op_result : List BodyEnd → RegOp → List PieceAt → OpResult

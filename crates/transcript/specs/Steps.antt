@@ -21,9 +21,9 @@ use Rattle.transcript.specs.Results.{is_good}
 use Rattle.lane_record.specs.Outcomes.{is_sent, is_replied, is_timed_out}
 use Rattle.transcript.specs.Lines.{showing, denied_by, line_with, lines_behind, client_lines, is_lost}
 
--- what a piece came to, where it failed
-abbrev pub fault_in : OpResult → Option OpResult
-fault_in r = if is_good r then None else Some r
+-- what a piece came to, where it was not done in time
+abbrev pub not_done_in : OpResult → Option OpResult
+not_done_in r = if is_good r then None else Some r
 
 -- this, or else the value of the words
 abbrev pub or_value : Option OpResult → List ℕ → OpResult

@@ -4,9 +4,11 @@ use Rattle.std.specs.List.{flat_map}
 use Rattle.std.specs.Fmt.{decimal, digits}
 use Rattle.script_steps.specs.declared.operation.Verb.{Verb}
 use Rattle.script_steps.specs.declared.operation.Verb.TheVariants.{Read, Write, ReadBlock, WriteBlock, RmwBits, RmwSum}
+use Rattle.transcript.specs.declared.line.LateAnswer.{LateAnswer}
+use Rattle.transcript.specs.declared.line.LateAnswer.TheVariants as late_answer
 use Rattle.transcript.specs.declared.line.OpResult.{OpResult}
-use Rattle.transcript.specs.declared.line.OpResult.TheVariants.{Value, Done, Was, Error, Skipped, TimedOut, Unsent}
-use Rattle.transcript.specs.declared.line.OpResult.TheVariants.{LinkLost, Garbled, Denied}
+use Rattle.transcript.specs.declared.line.OpResult.TheVariants.{Value, Done, Was, Error, Skipped, TimedOut, Late}
+use Rattle.transcript.specs.declared.line.OpResult.TheVariants.{Unsent, LinkLost, Garbled, Denied}
 use Rattle.transcript.specs.declared.line.OpLine.{OpLine}
 use Rattle.transcript.specs.declared.line.BoardLine.{BoardLine}
 use Rattle.transcript.specs.declared.line.BoardLine.TheVariants as board_lines
@@ -32,22 +34,41 @@ verb_text WriteBlock = codes "writeblock"
 verb_text RmwBits = codes "rmwbits"
 verb_text RmwSum = codes "rmwsum"
 
+abbrev pub value_text : List ℕ → List ℕ
+value_text words = codes "=" ++ words_text words
+
+abbrev pub was_text : ℕ → List ℕ
+was_text word = codes "was " ++ word_text word
+
 abbrev pub error_text : ℕ → ℕ → List ℕ
 error_text code after = codes "error " ++ (decimal code ++ (codes " after " ++ decimal after))
 
 abbrev pub timeout_text : ℕ → List ℕ
 timeout_text rounds = codes "timeout after " ++ (decimal rounds ++ codes " rounds, execution unknown")
 
+abbrev pub answer_text : LateAnswer → List ℕ
+answer_text (late_answer.Value words) = value_text words
+answer_text late_answer.Done = codes "done"
+answer_text (late_answer.Was word) = was_text word
+answer_text (late_answer.Error code after) = error_text code after
+answer_text late_answer.Skipped = codes "skipped"
+answer_text late_answer.Garbled = codes "garbled"
+
+abbrev pub late_text : ℕ → LateAnswer → List ℕ
+late_text rounds answer =
+    codes "timeout after " ++ (decimal rounds ++ (codes " rounds, answered late: " ++ answer_text answer))
+
 abbrev pub denied_text : ℕ → List ℕ
 denied_text rule = codes "denied by rule " ++ decimal rule
 
 abbrev pub result_text : OpResult → List ℕ
-result_text (Value words) = codes "=" ++ words_text words
+result_text (Value words) = value_text words
 result_text Done = codes "done"
-result_text (Was word) = codes "was " ++ word_text word
+result_text (Was word) = was_text word
 result_text (Error code after) = error_text code after
 result_text Skipped = codes "skipped"
 result_text (TimedOut rounds) = timeout_text rounds
+result_text (Late rounds answer) = late_text rounds answer
 result_text Unsent = codes "unsent"
 result_text LinkLost = codes "link lost"
 result_text Garbled = codes "garbled"

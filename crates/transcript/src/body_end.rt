@@ -1,7 +1,6 @@
-//! What a body's outcome tells of its transactions.
+//! What a body's outcome and its late answer tell of its transactions.
 
-ghost use Rattle.std.specs.Prelude.{◌≡◌, IfOk, map};
-ghost use Rattle.std.specs.List.{zip};
+ghost use Rattle.std.specs.Prelude.{◌≡◌, None, IfOk, get_or};
 ghost use Rattle.transaction_codec.specs.Request.{SpellsRequests};
 ghost use Rattle.reply_join.specs.ByWords.{answers};
 ghost use Rattle.script_plans.specs.Plan.{AreSpelled};
@@ -51,7 +50,15 @@ pub enum Told {
     Answered(Answers),
     /// The words of the reply are none to the body.
     Garbled,
-    TimedOut { rounds: u8 },
+    TimedOut {
+        rounds: u8,
+    },
+    /// The body was timed out after so many rounds, and its late answer tells the answer to each; none where the words
+    /// are no reply to the body.
+    Late {
+        rounds: u8,
+        answers: Option<Answers>,
+    },
     Unsent,
     LinkLost,
 }
@@ -63,32 +70,68 @@ pub struct BodyEnd {
     pub told: Told,
 }
 
-/// What the words of a reply tell of a body's transactions.
-fn told_by_reply(alloc: Global, body: &[u32], words: &[u32]) -> Result<Told, NoMemory>
+/// The answers to a body's transactions that these words tell; none where they are no reply to it.
+fn answers_in(alloc: Global, body: &[u32], words: &[u32]) -> Result<Option<Answers>, NoMemory>
     requires { SpellsRequests body.now }
-    ensures { IfOk result (λ told. told ≡ spec.told_by (answers body.now words.now)) }
+    ensures { IfOk result (λ found. found ≡ answers body.now words.now) }
 {
     joining_is_a_function();
     match join_reply(alloc, body, words) {
-        Ok(list) => Ok(Told::Answered(Answers::from_vec(list))),
-        Err(JoinRefusal::Garbled { .. }) => Ok(Told::Garbled),
+        Ok(list) => Ok(Some(Answers::from_vec(list))),
+        Err(JoinRefusal::Garbled { .. }) => Ok(None),
         Err(JoinRefusal::NoMemory) => Err(NoMemory),
     }
 }
 
-/// How a body ended that has this outcome.
-fn end_of(alloc: Global, body: &[u32], outcome: &Outcome) -> Result<BodyEnd, NoMemory>
+/// What is told of a body that was replied to with these answers, or with none.
+fn told_by(answers: Option<Answers>) -> Told
+    ensures { result ≡ spec.told_by answers }
+{
+    match answers {
+        Some(answers) => Told::Answered(answers),
+        None => Told::Garbled,
+    }
+}
+
+/// What is told of body `i`, which was timed out, by its late answer where it has one.
+fn told_timed_out(
+    alloc: Global,
+    body: &[u32],
+    rounds: u8,
+    lates: &[Option<Words>],
+    i: usize,
+) -> Result<Told, NoMemory>
     requires { SpellsRequests body.now }
-    ensures { IfOk result (λ end. end ≡ spec.end_of (body.now, outcome.now)) }
+    ensures { IfOk result (λ told. told ≡ spec.told_timed_out body.now rounds (get_or lates.now i None)) }
+{
+    match lates.get(i) {
+        Some(Some(words)) => Ok(Told::Late {
+            rounds,
+            answers: answers_in(alloc, body, words.as_slice())?,
+        }),
+        _ => Ok(Told::TimedOut { rounds }),
+    }
+}
+
+/// How body `i` ended, which has this outcome.
+fn end_of(
+    alloc: Global,
+    body: &[u32],
+    outcome: &Outcome,
+    lates: &[Option<Words>],
+    i: usize,
+) -> Result<BodyEnd, NoMemory>
+    requires { SpellsRequests body.now }
+    ensures { IfOk result (λ end. end ≡ spec.end_of body.now outcome.now (get_or lates.now i None)) }
 {
     match outcome {
         Outcome::Replied { place, words } => Ok(BodyEnd {
             place: Some(*place),
-            told: told_by_reply(alloc, body, words.as_slice())?,
+            told: told_by(answers_in(alloc, body, words.as_slice())?),
         }),
         Outcome::TimedOut { place, rounds } => Ok(BodyEnd {
             place: Some(*place),
-            told: Told::TimedOut { rounds: *rounds },
+            told: told_timed_out(alloc, body, *rounds, lates, i)?,
         }),
         Outcome::Unsent => Ok(BodyEnd {
             place: None,
@@ -101,21 +144,23 @@ fn end_of(alloc: Global, body: &[u32], outcome: &Outcome) -> Result<BodyEnd, NoM
     }
 }
 
-/// How bodies ended that have these outcomes, in the same order. Each reply is joined to its body once.
+/// How bodies ended that have these outcomes and late answers, in the same order; those behind the last late answer
+/// have none. Each reply, in time or late, is joined to its body once.
 pub(crate) fn ends_of(
     alloc: Global,
     bodies: &[Words],
     outcomes: &[Outcome],
+    lates: &[Option<Words>],
 ) -> Result<Vec<BodyEnd>, NoMemory>
     requires { AreSpelled bodies.now }
-    ensures { IfOk result (λ ends. ends.items ≡ map spec.end_of (zip bodies.now outcomes.now)) }
+    ensures { IfOk result (λ ends. ends.items ≡ spec.ends_with bodies.now outcomes.now lates.now) }
 {
     let mut ends = Vec::with_capacity(alloc, bodies.len())?;
     for (i, body) in bodies.iter().enumerate() {
         let Some(outcome) = outcomes.get(i) else {
             return Ok(ends);
         };
-        ends.push(end_of(alloc, body.as_slice(), outcome)?)?;
+        ends.push(end_of(alloc, body.as_slice(), outcome, lates, i)?)?;
     }
     Ok(ends)
 }

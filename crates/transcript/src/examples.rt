@@ -11,18 +11,23 @@ ghost use Rattle.transcript.specs.Lines.{run_status};
 ghost use Rattle.transcript.specs.Session.{transcript};
 ghost use Rattle.transcript.specs.Examples.{
   printed,
+  printed_late,
+  answered_late,
   told,
+  told_late,
   live,
   narrow,
   read_id,
   read_mem,
   write_a,
   read_a,
+  sum_a,
   write_top,
   read_top,
   zeros_read,
   every_step,
   every_outcome,
+  every_late,
   denied_write,
   channel_registers,
   overlapping_registers,
@@ -81,8 +86,57 @@ pub fn a_timeout_that_was_executed()
         ++ codes "2 read b0:a = 0x00000001 @2.1\nboard b0 places 2 replied 1 timeout 1 lost 0\n" }
 {}
 
-/// A write that a policy denies has its number and nothing else: the reads around it are all that the board is asked. It
-/// is denied also where the board does not answer, and by rule 0 where no rule decides.
+/// What came late stands behind the timeout, shown by the verb: a write, a block, a field of one bit, and the word
+/// before a read-modify-write.
+pub fn late_answers()
+    ensures write { answered_late (write_a ∷ []) (0x20000110 ∷ [])
+        ≡ codes "client 1\n1 write b0:a timeout after 2 rounds, answered late: done @1.1\n"
+        ++ codes "board b0 places 1 replied 0 timeout 1 lost 0\n" }
+    ensures block { answered_late (read_mem 2 ∷ []) (zeros_read 0x20000200 2)
+        ≡ codes "client 1\n1 readblock b0:mem timeout after 2 rounds, answered late:"
+        ++ codes " = 0x00000000 0x00000000 @1.1\nboard b0 places 1 replied 0 timeout 1 lost 0\n" }
+    ensures masked { answered_late (read_top ∷ []) (0x20000100 ∷ 0x80000000 ∷ [])
+        ≡ codes "client 1\n1 read b0:a.top timeout after 2 rounds, answered late: = 0x00000001 @1.1\n"
+        ++ codes "board b0 places 1 replied 0 timeout 1 lost 0\n" }
+    ensures sum { answered_late (sum_a ∷ []) (0x20000150 ∷ 1 ∷ [])
+        ≡ codes "client 1\n1 rmwsum b0:a timeout after 2 rounds, answered late: was 0x00000001 @1.1\n"
+        ++ codes "board b0 places 1 replied 0 timeout 1 lost 0\n" }
+    ensures status { run_status (transcript ((write_a ∷ []) ∷ [])
+        (told_late live ((TimedOut 1 2 ∷ []) ∷ []) (Some (0x20000110 ∷ []) ∷ []))).clients ≡ 1 }
+{}
+
+/// A late answer that failed: a block read that ends past the last word of its range, the read behind it in its body,
+/// and words that are no reply to the body.
+pub fn late_answers_that_failed()
+    ensures failed { answered_late (read_mem 10 ∷ read_id ∷ []) (zeros_read 0x20000804 8)
+        ≡ codes "client 1\n1 readblock b0:mem timeout after 2 rounds, answered late: error 4 after 8 @1.1\n"
+        ++ (codes "2 read b0:sys.id timeout after 2 rounds, answered late: skipped @1.2\n"
+        ++ codes "board b0 places 1 replied 0 timeout 1 lost 0\n") }
+    ensures garbled { answered_late (read_id ∷ []) (0x20010100 ∷ 0xabcd ∷ [])
+        ≡ codes "client 1\n1 read b0:sys.id timeout after 2 rounds, answered late: garbled @1.1\n"
+        ++ codes "board b0 places 1 replied 0 timeout 1 lost 0\n" }
+{}
+
+/// A block read of 20 words in two bodies, the second of which was answered late: its words alone are shown. Where the
+/// first was timed out too and has no late answer, that of the second is not shown. Words beside a body that was
+/// replied to count for nothing.
+pub fn the_first_piece_that_is_not_done_is_shown()
+    ensures second { printed_late (read_mem 20 ∷ []) narrow
+        ((Replied 1 (zeros_read 0x20000e00 14) ∷ TimedOut 3 2 ∷ []) ∷ []) (None ∷ Some (zeros_read 0x20000600 6) ∷ [])
+        ≡ codes "client 1\n1 readblock b0:mem timeout after 2 rounds, answered late:"
+        ++ (codes " = 0x00000000 0x00000000 0x00000000 0x00000000 0x00000000 0x00000000 @1.1,3.1\n"
+        ++ codes "board b0 places 2 replied 1 timeout 1 lost 0\n") }
+    ensures first { printed_late (read_mem 20 ∷ []) narrow ((TimedOut 1 2 ∷ TimedOut 2 2 ∷ []) ∷ [])
+        (None ∷ Some (zeros_read 0x20000600 6) ∷ [])
+        ≡ codes "client 1\n1 readblock b0:mem timeout after 2 rounds, execution unknown @1.1,2.1\n"
+        ++ codes "board b0 places 2 replied 0 timeout 2 lost 0\n" }
+    ensures replied { printed_late (read_id ∷ []) live ((Replied 1 (0x20000100 ∷ 0xabcd ∷ []) ∷ []) ∷ [])
+        (Some (0x20000100 ∷ 0 ∷ []) ∷ [])
+        ≡ codes "client 1\n1 read b0:sys.id = 0x0000abcd @1.1\nboard b0 places 1 replied 1 timeout 0 lost 0\n" }
+{}
+
+/// A write that a policy denies has its number and nothing else: the reads around it are all that the board is asked.
+/// It is denied also where the board does not answer, and by rule 0 where no rule decides.
 pub fn a_denied_write_between_two_reads()
     ensures text { printed (denied_write 1) live
         ((Replied 1 (0x20000100 ∷ 0 ∷ 0x20010100 ∷ 0xabcd ∷ []) ∷ []) ∷ [])
@@ -123,14 +177,15 @@ pub fn three_pieces_in_two_bodies()
 
 /// What every operation of a session came to, each in another way.
 pub fn every_result()
-    ensures text { printed every_step live every_outcome
+    ensures text { printed_late every_step live every_outcome every_late
         ≡ codes "client 1\n1 read b0:sys.id = 0x0000abcd @1.1\n2 write b0:a done @1.2\n"
         ++ (codes "3 rmwsum b0:a was 0x00000001 @1.3\n4 readblock b0:mem error 4 after 8 @1.4\n"
         ++ (codes "5 read b0:sys.id skipped @1.5\n6 read b0:sys.id garbled @2.1\n"
         ++ (codes "7 read b0:sys.id timeout after 2 rounds, execution unknown @3.1\n"
-        ++ (codes "8 read b0:sys.id unsent\n9 read b0:sys.id link lost @4.1\n"
-        ++ (codes "10 write b0:a denied by rule 3\n" ++ codes "board b0 places 4 replied 2 timeout 1 lost 1\n"))))) }
-    ensures status { run_status (transcript (every_step ∷ []) (told live every_outcome)).clients ≡ 1 }
+        ++ (codes "8 read b0:sys.id timeout after 2 rounds, answered late: = 0x0000abcd @4.1\n"
+        ++ (codes "9 read b0:sys.id unsent\n10 read b0:sys.id link lost @5.1\n"
+        ++ (codes "11 write b0:a denied by rule 3\n" ++ codes "board b0 places 5 replied 2 timeout 2 lost 1\n")))))) }
+    ensures status { run_status (transcript (every_step ∷ []) (told_late live every_outcome every_late)).clients ≡ 1 }
 {}
 
 /// The registers of an acquisition channel, and two registers that share a bit of one word.

@@ -2,8 +2,8 @@
 //!
 //! `client_lines` and `board_lines` make the lines of a run from the steps, the bodies that these became
 //! (`script_plans`) and their outcomes, and `transcript_text` prints them; `print_runs` prints them one after the other
-//! and keeps none. The definitions that contracts cite are in `specs/`: the results and places of operations, the lines,
-//! and their bytes.
+//! and keeps none. The definitions that contracts cite are in `specs/`: the results and places of operations, the
+//! lines, and their bytes.
 #![tactic(auto)]
 
 mod boards;
@@ -25,7 +25,7 @@ pub use boards::board_lines;
 pub use body_end::{Answers, BodyEnd, Told};
 pub use ipb_base::{NoMemory, Text, Words};
 pub use lane_record::{Outcome, Outcomes};
-pub use line::{BoardLine, LinePlaces, OpLine, OpResult};
+pub use line::{BoardLine, LateAnswer, LinePlaces, OpLine, OpResult};
 pub use lines::{client_lines, lines_of_clients};
 pub use listing::listing_text;
 pub use printing::{PrintedRuns, print_runs};

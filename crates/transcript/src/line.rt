@@ -6,6 +6,24 @@ use ipb_base::{Text, Words};
 use script_steps::Verb;
 use std::marker::Model;
 
+/// What a late answer tells of an operation whose piece was timed out: what its line would show, were this piece all of
+/// it and had the reply come in time (profile).
+#[derive(Drop)]
+pub enum LateAnswer {
+    /// The words that a read gave, or the field of its word under the register's mask.
+    Value(Words),
+    /// A write was done.
+    Done,
+    /// A read-modify-write was done, and this was the word before.
+    Was(u32),
+    /// The transaction answered this info code after so many words (IPbus 2.0, transactions).
+    Error { code: u8, after: u8 },
+    /// An earlier transaction of the same body failed, so it was not executed.
+    Skipped,
+    /// The reply is none to the body.
+    Garbled,
+}
+
 /// What an operation came to (profile).
 #[derive(Drop)]
 pub enum OpResult {
@@ -21,6 +39,9 @@ pub enum OpResult {
     Skipped,
     /// The hub gave up after so many rounds: whether it was executed is not known.
     TimedOut { rounds: u8 },
+    /// The hub gave up after so many rounds, and then the reply came: this is the answer to the first piece that was
+    /// not done, alone.
+    Late { rounds: u8, answer: LateAnswer },
     /// It was never sent.
     Unsent,
     /// The link failed before the reply came.

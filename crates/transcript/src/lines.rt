@@ -19,7 +19,15 @@ fn ends_on(alloc: Global, run: &BoardRun, client: usize) -> Result<Vec<BodyEnd>,
     ensures { IfOk result (λ ends. ends.items ≡ ends_on client run.now) }
 {
     match run.parts.as_slice().get(client) {
-        Some(part) => ends_of(alloc, part.planned.bodies(), part.outcomes.as_slice()),
+        Some(part) => {
+            let bodies = part.planned.bodies();
+            ends_of(
+                alloc,
+                bodies,
+                part.outcomes.as_slice(),
+                part.lates.as_slice(),
+            )
+        }
         None => Ok(Vec::new(alloc)),
     }
 }

@@ -1,20 +1,21 @@
 //! What an operation came to, by how the bodies of its pieces ended.
 
-ghost use Rattle.std.specs.Prelude.{◌≡◌, ◌++◌, [], IfOk, OnOk, map, slice_get};
+ghost use Rattle.std.specs.Prelude.{◌≡◌, ◌++◌, [], IfOk, OnOk, map, option_map, slice_get};
 ghost use Rattle.std.specs.List.{AllByRecursion};
 ghost use Rattle.masked_fields.specs.Field.{field};
 ghost use Rattle.script_plans.specs.Plan.{IsWithinBody};
-ghost use Rattle.transcript.specs.Ends.{answered, piece_result, piece_place};
+ghost use Rattle.transcript.specs.Ends.{answered, late_at, late_of, piece_result, piece_place};
 ghost use Rattle.transcript.specs.Results as spec;
-ghost use Rattle.transcript.specs.Steps.{fault_in, or_value};
+ghost use Rattle.transcript.specs.Steps.{not_done_in, or_value};
 
-use crate::body_end::{BodyEnd, Told};
-use crate::line::OpResult;
-use ipb_base::NoMemory;
+use crate::body_end::{Answers, BodyEnd, Told};
+use crate::line::{LateAnswer, OpResult};
+use ipb_base::{NoMemory, Words};
 use masked_fields::extract;
 use reply_join::Answer;
 use script_plans::PieceAt;
 use script_steps::{RegOp, Verb};
+use std::alloc::Global;
 
 /// Adds the values of a transaction's answer. Where it failed, what it came to.
 fn answer_fault(
@@ -22,7 +23,7 @@ fn answer_fault(
     index: u16,
     words: &mut Vec<u32>,
 ) -> Result<Option<OpResult>, NoMemory>
-    ensures fault { IfOk result (λ fault. fault ≡ fault_in (answered (slice_get answers.now index))) }
+    ensures fault { IfOk result (λ fault. fault ≡ not_done_in (answered (slice_get answers.now index))) }
     ensures values { let came_to = answered (slice_get answers.now index) in
         OnOk result (words.new.items ≡ words.old.items ++ spec.values_in came_to) }
 {
@@ -38,28 +39,6 @@ fn answer_fault(
         })),
         Some(Answer::Skipped) => Ok(Some(OpResult::Skipped)),
         None => Ok(Some(OpResult::Garbled)),
-    }
-}
-
-/// Adds the values of a piece. Where it failed, what it came to.
-fn piece_fault(
-    ends: &[BodyEnd],
-    piece: PieceAt,
-    words: &mut Vec<u32>,
-) -> Result<Option<OpResult>, NoMemory>
-    ensures fault { IfOk result (λ fault. fault ≡ fault_in (piece_result ends.now piece)) }
-    ensures values { OnOk result (words.new.items
-        ≡ words.old.items ++ spec.values_in (piece_result ends.now piece)) }
-{
-    let Some(end) = ends.get(piece.body) else {
-        return Ok(Some(OpResult::Unsent));
-    };
-    match &end.told {
-        Told::Answered(answers) => answer_fault(answers.as_slice(), piece.index, words),
-        Told::Garbled => Ok(Some(OpResult::Garbled)),
-        Told::TimedOut { rounds } => Ok(Some(OpResult::TimedOut { rounds: *rounds })),
-        Told::Unsent => Ok(Some(OpResult::Unsent)),
-        Told::LinkLost => Ok(Some(OpResult::LinkLost)),
     }
 }
 
@@ -105,6 +84,79 @@ fn shown(verb: Verb, mask: u32, words: &mut Vec<u32>) -> Option<OpResult>
     }
 }
 
+/// This, or else the value of the words. It takes no memory.
+pub(crate) fn or_value(told: Option<OpResult>, words: Vec<u32>) -> OpResult
+    ensures { result ≡ or_value told words.items }
+{
+    match told {
+        Some(told) => told,
+        None => OpResult::Value(Words::from_vec(words)),
+    }
+}
+
+/// What a result is as a late answer; no transaction is answered by the others.
+fn late_of(came_to: OpResult) -> LateAnswer
+    ensures { result ≡ late_of came_to }
+{
+    match came_to {
+        OpResult::Value(words) => LateAnswer::Value(words),
+        OpResult::Done => LateAnswer::Done,
+        OpResult::Was(word) => LateAnswer::Was(word),
+        OpResult::Error { code, after } => LateAnswer::Error { code, after },
+        OpResult::Skipped => LateAnswer::Skipped,
+        _ => LateAnswer::Garbled,
+    }
+}
+
+/// What an operation shows of the late answer to one of its pieces: what it would show of this piece alone.
+fn shown_late(
+    alloc: Global,
+    op: &RegOp,
+    answers: &Option<Answers>,
+    index: u16,
+) -> Result<LateAnswer, NoMemory>
+    ensures { IfOk result (λ answer.
+        answer ≡ spec.shown_late op.now.verb op.now.mask (late_at answers.now index)) }
+{
+    let Some(answers) = answers else {
+        return Ok(LateAnswer::Garbled);
+    };
+    let mut words = Vec::new(alloc);
+    if let Some(fault) = answer_fault(answers.as_slice(), index, &mut words)? {
+        return Ok(late_of(fault));
+    }
+    let told = shown(op.verb, op.mask, &mut words);
+    Ok(late_of(or_value(told, words)))
+}
+
+/// Adds the values of a piece. Where it failed, or was answered late, what the operation shows of it.
+fn piece_fault(
+    op: &RegOp,
+    ends: &[BodyEnd],
+    piece: PieceAt,
+    words: &mut Vec<u32>,
+) -> Result<Option<OpResult>, NoMemory>
+    ensures fault { IfOk result (λ fault. fault
+        ≡ option_map (spec.shown_not_done op.now.verb op.now.mask) (not_done_in (piece_result ends.now piece))) }
+    ensures values { OnOk result (words.new.items
+        ≡ words.old.items ++ spec.values_in (piece_result ends.now piece)) }
+{
+    let Some(end) = ends.get(piece.body) else {
+        return Ok(Some(OpResult::Unsent));
+    };
+    match &end.told {
+        Told::Answered(answers) => answer_fault(answers.as_slice(), piece.index, words),
+        Told::Garbled => Ok(Some(OpResult::Garbled)),
+        Told::TimedOut { rounds } => Ok(Some(OpResult::TimedOut { rounds: *rounds })),
+        Told::Late { rounds, answers } => Ok(Some(OpResult::Late {
+            rounds: *rounds,
+            answer: shown_late(*words.allocator(), op, answers, piece.index)?,
+        })),
+        Told::Unsent => Ok(Some(OpResult::Unsent)),
+        Told::LinkLost => Ok(Some(OpResult::LinkLost)),
+    }
+}
+
 /// What an operation came to, unless that is the words that are added to none.
 pub(crate) fn op_result(
     words: &mut Vec<u32>,
@@ -116,7 +168,7 @@ pub(crate) fn op_result(
     ensures { IfOk result (λ told. or_value told words.new.items ≡ spec.op_result ends.now op.now pieces.now) }
 {
     for piece in pieces {
-        if let Some(fault) = piece_fault(ends, *piece, words)? {
+        if let Some(fault) = piece_fault(op, ends, *piece, words)? {
             return Ok(Some(fault));
         }
     }

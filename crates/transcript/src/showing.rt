@@ -12,10 +12,10 @@ ghost use Rattle.transcript.specs.Text as texts;
 
 use crate::body_end::BodyEnd;
 use crate::line::{LinePlaces, OpResult};
-use crate::results::{op_result, push_op_places};
+use crate::results::{op_result, or_value, push_op_places};
 use crate::status::is_good;
 use crate::text::{push_places, push_result, push_value};
-use ipb_base::{NoMemory, Words};
+use ipb_base::NoMemory;
 use script_plans::{BoardRun, ClientPart, Greeting, PieceAt};
 use script_steps::RegOp;
 use std::alloc::Global;
@@ -136,11 +136,7 @@ impl Shown {
             words,
             places,
         } = self;
-        let came_to = match told {
-            Some(told) => told,
-            None => OpResult::Value(Words::from_vec(words)),
-        };
-        (came_to, LinePlaces::from_vec(places))
+        (or_value(told, words), LinePlaces::from_vec(places))
     }
 
     /// Whether the operation was executed without a fault.

@@ -4,7 +4,7 @@ ghost use Rattle.std.specs.Prelude.{◌≡◌, ◌+◌, ◌++◌, ◌<◌, map, 
 ghost use Rattle.transcript.specs.Steps.{unsent_line};
 ghost use Rattle.transcript.specs.Text as spec;
 
-use crate::line::{BoardLine, OpLine, OpResult};
+use crate::line::{BoardLine, LateAnswer, OpLine, OpResult};
 use ipb_base::NoMemory;
 use script_steps::Verb;
 use std::alloc::Global;
@@ -43,8 +43,7 @@ fn verb_text(verb: Verb) -> &'static str
 
 /// `= 0xW 0xW ..`
 pub(crate) fn push_value(text: &mut String, words: &[u32]) -> Result<(), NoMemory>
-    ensures { OnOk result (string_bytes text.new
-        ≡ string_bytes text.old ++ (codes "=" ++ spec.words_text words.now)) }
+    ensures { OnOk result (string_bytes text.new ≡ string_bytes text.old ++ spec.value_text words.now) }
 {
     text.push_str("=")?;
     push_words(text, words)
@@ -52,8 +51,7 @@ pub(crate) fn push_value(text: &mut String, words: &[u32]) -> Result<(), NoMemor
 
 /// `was 0xW`
 fn push_was(text: &mut String, word: u32) -> Result<(), NoMemory>
-    ensures { OnOk result (string_bytes text.new
-        ≡ string_bytes text.old ++ (codes "was " ++ spec.word_text word)) }
+    ensures { OnOk result (string_bytes text.new ≡ string_bytes text.old ++ spec.was_text word) }
 {
     text.push_str("was ")?;
     push_word(text, word)
@@ -71,6 +69,28 @@ fn push_timeout(text: &mut String, rounds: u8) -> Result<(), NoMemory>
     ensures { OnOk result (string_bytes text.new ≡ string_bytes text.old ++ spec.timeout_text rounds) }
 {
     Ok(write!(text, "timeout after {rounds} rounds, execution unknown")?)
+}
+
+/// What a late answer shows.
+fn push_answer(text: &mut String, answer: &LateAnswer) -> Result<(), NoMemory>
+    ensures { OnOk result (string_bytes text.new ≡ string_bytes text.old ++ spec.answer_text answer.now) }
+{
+    match answer {
+        LateAnswer::Value(words) => push_value(text, words.as_slice()),
+        LateAnswer::Done => Ok(text.push_str("done")?),
+        LateAnswer::Was(word) => push_was(text, *word),
+        LateAnswer::Error { code, after } => push_error(text, *code, *after),
+        LateAnswer::Skipped => Ok(text.push_str("skipped")?),
+        LateAnswer::Garbled => Ok(text.push_str("garbled")?),
+    }
+}
+
+/// `timeout after R rounds, answered late: ` and what the answer shows
+fn push_late(text: &mut String, rounds: u8, answer: &LateAnswer) -> Result<(), NoMemory>
+    ensures { OnOk result (string_bytes text.new ≡ string_bytes text.old ++ spec.late_text rounds answer.now) }
+{
+    write!(text, "timeout after {rounds} rounds, answered late: ")?;
+    push_answer(text, answer)
 }
 
 /// `denied by rule N`
@@ -91,6 +111,7 @@ pub fn push_result(text: &mut String, came_to: &OpResult) -> Result<(), NoMemory
         OpResult::Error { code, after } => push_error(text, *code, *after),
         OpResult::Skipped => Ok(text.push_str("skipped")?),
         OpResult::TimedOut { rounds } => push_timeout(text, *rounds),
+        OpResult::Late { rounds, answer } => push_late(text, *rounds, answer),
         OpResult::Unsent => Ok(text.push_str("unsent")?),
         OpResult::LinkLost => Ok(text.push_str("link lost")?),
         OpResult::Garbled => Ok(text.push_str("garbled")?),

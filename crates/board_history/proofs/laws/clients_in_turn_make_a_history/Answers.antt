@@ -18,6 +18,7 @@ returns-clause-history c = λ opening bodies. record {
   replies = subst (λ (all : List (List ℕ)). AllByRecursion (AllByRecursion (IsReplyOf (replay opening all).replies))
       (in_turn 1 opening bodies))
       (sym (order_bodies 1 opening bodies)) (all_replies [] opening bodies);
+  late = tt;
 }
 
 pub returns-clause-replied : goal.returns-clause-replied
@@ -33,4 +34,5 @@ pub returns-clause-executed : goal.returns-clause-executed
 returns-clause-executed c = λ opening bodies. record {
   front = ([], order_bodies 1 opening bodies ∙ sym (append-nil (all_of bodies)));
   replied = all_executed (length (all_of bodies)) 1 opening bodies (omega arith);
+  late = tt;
 }

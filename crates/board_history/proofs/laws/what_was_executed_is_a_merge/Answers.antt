@@ -7,6 +7,6 @@ pub returns-clause-some : goal.returns-clause-some
 returns-clause-some c = executed_some
 
 pub returns-clause-all : goal.returns-clause-all
-returns-clause-all c = λ bodies outcomes executed shape one keeps replied once.
-    subst (IsMergeOfAll bodies) (sym (executed_whole bodies outcomes executed one replied once))
+returns-clause-all c = λ bodies outcomes lates executed shape one keeps replied once.
+    subst (IsMergeOfAll bodies) (sym (executed_whole bodies outcomes lates executed one replied once))
     (order_whole bodies outcomes shape keeps replied)

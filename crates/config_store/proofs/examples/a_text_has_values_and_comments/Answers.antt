@@ -9,3 +9,7 @@ returns-clause-value c = refl
 pub returns-clause-comment : goal.returns-clause-comment
 unfolding digits
 returns-clause-comment c = refl
+
+pub returns-clause-late : goal.returns-clause-late
+unfolding digits
+returns-clause-late c = refl

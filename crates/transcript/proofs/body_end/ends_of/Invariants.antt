@@ -1,5 +1,4 @@
-use Rattle.std.proofs.Common.{◌≡◌, ◌++◌, drop, map}
-use Rattle.std.specs.List.{zip}
+use Rattle.std.proofs.Common.{◌≡◌, ◌++◌, drop}
 use Rattle.script_plans.specs.Plan.{AreSpelled}
 use Rattle.transcript.specs.Ends as spec
 use Rattle.transcript.proofs.body_end.ends_of.Given as goal
@@ -7,7 +6,7 @@ use Rattle.transcript.proofs.body_end.ends_of.Given as goal
 -- how the bodies so far ended, and those that are left
 abbrev pub invariant-loop-i : goal.invariant-loop-i
 invariant-loop-i l = record {
-  ends : l.ends.items ++ map spec.end_of (zip (drop l.i l.bodies) (drop l.i l.outcomes))
-      ≡ map spec.end_of (zip l.bodies l.outcomes);
+  ends : l.ends.items ++ spec.ends_with (drop l.i l.bodies) (drop l.i l.outcomes) (drop l.i l.lates)
+      ≡ spec.ends_with l.bodies l.outcomes l.lates;
   spelled : AreSpelled (drop l.i l.bodies);
 }

@@ -1,5 +1,7 @@
-use Rattle.std.proofs.Common.{◌∙◌, map, sym}
+use Rattle.std.proofs.Common.{◌∙◌, ap, map, sym}
+use Rattle.std.specs.Option.{option_map}
 use Rattle.transcript.specs.Ends.{piece_result}
+use Rattle.transcript.specs.Results.{shown_not_done}
 use Rattle.transcript.proofs.PiecesSoFar.{came_to_fault, came_to_words, fault_here, fault_on, words_on}
 use Rattle.transcript.proofs.results.op_result.Goals as goal
 
@@ -9,8 +11,8 @@ returns-in-Some c =
     let pieces = c.args.pieces.now in
     let op = c.args.op.now in
     came_to_fault op.verb op.mask (map (piece_result ends) pieces) c.in-Some.fault
-    (sym c.loop-piece.invariant.fault
-    ∙ fault_here ends pieces c.loop-piece.piece-index _ c.in-Some.fault c.loop-piece-test.true
+    (sym (ap (option_map (shown_not_done op.verb op.mask)) c.loop-piece.invariant.fault)
+    ∙ fault_here op.verb op.mask ends pieces c.loop-piece.piece-index _ c.in-Some.fault c.loop-piece-test.true
     (sym c.in_ok-fault.ensures.fault ∙ c.in-Some.is))
 
 pub loop-piece-preserved : goal.loop-piece-preserved
@@ -21,7 +23,7 @@ loop-piece-preserved c =
     record {
       words = words_on ends pieces before.piece-index _ before.words.items c.piece_fault.new.words.items
           c.loop-piece-test.true c.in_ok-fault.ensures.values ∙ before.invariant.words;
-      fault = fault_on ends pieces before.piece-index _ c.loop-piece-test.true
+      fault = fault_on c.args.op.now.verb c.args.op.now.mask ends pieces before.piece-index _ c.loop-piece-test.true
           (sym c.in_ok-fault.ensures.fault ∙ c.in_default.is) ∙ before.invariant.fault;
     }
 

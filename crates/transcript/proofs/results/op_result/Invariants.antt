@@ -9,6 +9,6 @@ abbrev pub invariant-loop-piece : goal.invariant-loop-piece
 invariant-loop-piece l = record {
   words : l.words.items ++ flat_map spec.values_in (map (piece_result l.ends) (drop l.piece-index l.pieces))
       ≡ flat_map spec.values_in (map (piece_result l.ends) l.pieces);
-  fault : spec.first_fault (map (piece_result l.ends) (drop l.piece-index l.pieces))
-      ≡ spec.first_fault (map (piece_result l.ends) l.pieces);
+  fault : spec.first_not_done (map (piece_result l.ends) (drop l.piece-index l.pieces))
+      ≡ spec.first_not_done (map (piece_result l.ends) l.pieces);
 }

@@ -16,8 +16,8 @@ returns c =
     let spans_are : c.push_reserved.new.self.items
     ≡ spans ++ record { start = c.len-start.result; end = c.len-end.result } ∷ [] =
     c.push_reserved.ensures.items ∙ ap
-    (λ (ss : List Span). ss ++ record { start = c.len-start.result; end = c.len-end.result } ∷ []) c.reserve.ensures.items
-    in
+    (λ (ss : List Span). ss ++ record { start = c.len-start.result; end = c.len-end.result } ∷ [])
+    c.reserve.ensures.items in
     let starts : c.len-start.result ≡ length places = omega
     (arith, c.len-start.ensures, c.reserve-2.new.self.ok, ap length reserved) in
     let ends : c.len-end.result ≡ length (places ++ more) = omega
