@@ -20,9 +20,8 @@ use Rattle.hub_lane.specs.declared.greeting.Greeted.{Greeted}
 use Rattle.hub_lane.specs.declared.greeting.Greeted.TheVariants.{Ready, Silent, Down, NoMemory}
 use Rattle.hub_lane.specs.Greeting.{CanBegin, IfDown, IfReady, IfSilent, StaysFresh, link_of}
 use Rattle.hub_lane.specs.Lanes.{IsGreeted, opened}
-use Rattle.board_greeting.specs.Reports.{board_there}
-use Rattle.lane_history.specs.Links.{IsBoardOf, IsUntouched, LinkReport}
-use Rattle.board_greeting.specs.Boards.{AreReached, AreUntouched, HasRoom, IsGreetedAs, IsReached, shown_by}
+use Rattle.lane_history.specs.Links.{IsBoardOf, IsUntouched, LinkReport, board_there}
+use Rattle.board_greeting.specs.Boards.{AreFreshLinks, AreReached, HasRoom, IsGreetedAs, IsReached, shown_by}
 use Rattle.lane_history.specs.Links.{CanBeMade}
 
 abbrev pub WordsLaw : Type 0
@@ -32,13 +31,16 @@ WordsLaw = (ranges : List Range) → AllByRecursion (λ (range : Range). AreWord
 can_begin : WordsLaw → (settings : Limits) (spec : LinkSpec) → AreLimits settings → CanBeMade spec
     → LinkNamesWords spec → IfSome (telling_for spec) (CanBegin settings)
 can_begin law settings (Sim mtu buffers first ranges fates) limits made words = record {
-  few = limits.window_in_range;
-  mtu = made.0.mtu_in_range;
-  buffers = made.0.buffers_in_range;
-  first = made.0.first_in_range;
-  opening = law ranges words;
-  fresh = refl;
-  greetings = tt;
+  start = record {
+    few = limits.window_in_range;
+    mtu = made.0.mtu_in_range;
+    buffers = made.0.buffers_in_range;
+    first = made.0.first_in_range;
+    opening = law ranges words;
+    fresh = refl;
+    greetings = tt;
+  };
+  in_air = λ number has. absurd (omega (arith, has.1));
 }
 can_begin law settings (Udp address port wait) limits made words = tt
 
@@ -70,10 +72,12 @@ untouched_there settings (Sim mtu buffers first ranges fates) (Some u) call = ap
 untouched_there settings (Udp address port wait) None call = tt
 untouched_there settings (Udp address port wait) (Some u) call = absurd call
 
-there : (P : Type 0) (telling : Option Telling) → IfSome telling (λ _. P)
-    → IfSome (board_there telling) (λ _. P)
-there P None is = tt
-there P (Some t) is = is
+begins_still : (settings : Limits) (old new : Option Telling) → IfTelling old new (StaysFresh settings)
+    → IfSome new (CanBegin settings)
+begins_still settings None None call = tt
+begins_still settings None (Some u) call = absurd call
+begins_still settings (Some t) None call = absurd call
+begins_still settings (Some t) (Some u) call = call.begins
 
 first_told : (P Q : Type 0) (telling : Option Telling) → IfSome telling (λ _. P × Q) → IfSome telling (λ _. P)
 first_told P Q None is = tt
@@ -93,14 +97,12 @@ module _ {L : Type 0} (faults quiets gots held : L → ℕ) (telling : L → Opt
       (λ _. (settings.rounds ≤ quiets after) × (settings.rounds ≤ held after)))
       → IfDown board (λ after. Rose (faults link) (faults after))
       → IsUntouched (shown_by faults quiets gots held telling (link_of board))
-      → IsGreetedAs settings board (telling (link_of board)) (shown_by faults quiets gots held telling (link_of board))
+      → IsGreetedAs settings board (shown_by faults quiets gots held telling (link_of board))
   told_as link (Ready lane) ready told silent quiet down untouched = record { opened' = ready; greeted = told }
   told_as link (Silent after rounds) ready told silent quiet down untouched = record {
     waited = silent.1;
-    quiet = there (settings.rounds ≤ quiets after) (telling after)
-        (first_told (settings.rounds ≤ quiets after) (settings.rounds ≤ held after) (telling after) quiet);
-    held = there (settings.rounds ≤ held after) (telling after)
-        (second_told (settings.rounds ≤ quiets after) (settings.rounds ≤ held after) (telling after) quiet);
+    quiet = first_told (settings.rounds ≤ quiets after) (settings.rounds ≤ held after) (telling after) quiet;
+    held = second_told (settings.rounds ≤ quiets after) (settings.rounds ≤ held after) (telling after) quiet;
     untouched = untouched;
   }
   told_as link (Down after) ready told silent quiet down untouched =
@@ -116,15 +118,17 @@ module _ {L : Type 0} (faults quiets gots held : L → ℕ) (telling : L → Opt
       → IfSilent board (λ after rounds. IfSome (telling after)
       (λ _. (settings.rounds ≤ quiets after) × (settings.rounds ≤ held after)))
       → IfDown board (λ after. Rose (faults link) (faults after))
-      → IsReached settings spec board (telling (link_of board))
-      (shown_by faults quiets gots held telling (link_of board))
+      → IsReached settings spec board (shown_by faults quiets gots held telling (link_of board))
   is_reached spec link board made fresh ready told silent quiet down =
       let call = subst (λ (t : Option Telling). IfTelling t (telling (link_of board)) (StaysFresh settings)) made fresh
       in
       let untouched = untouched_there settings spec.link (telling (link_of board)) call in
       record {
-        board' = board_of_spec settings spec.link (telling (link_of board)) call;
-        untouched = untouched;
+        fresh = record {
+          board' = board_of_spec settings spec.link (telling (link_of board)) call;
+          untouched = untouched;
+          begins = begins_still settings (telling_for spec.link) (telling (link_of board)) call;
+        };
         as_told = told_as link board ready told silent quiet down untouched;
       }
 
@@ -146,21 +150,21 @@ one_kept before old new link rest all pushed is =
 
 -- ---- boards greeted one after another
 
-pub reached_more : {L : Type 0} (tells : L → Option Telling) (shows : L → LinkReport) (settings : Limits)
+pub reached_more : {L : Type 0} (shows : L → LinkReport) (settings : Limits)
     (specs : List BoardSpec) (boards : List (Greeted L)) (spec : BoardSpec) (board : Greeted L)
-    → slice_get specs (length boards) ≡ Some spec → AreReached tells shows settings specs boards
-    → IsReached settings spec board (tells (link_of board)) (shows (link_of board))
-    → AreReached tells shows settings specs (boards ++ board ∷ [])
-reached_more tells shows settings [] [] spec board at are is = absurd cc
-reached_more tells shows settings [] (b ∷ boards) spec board at are is = absurd are
-reached_more tells shows settings (s ∷ specs) [] spec board at are is =
+    → slice_get specs (length boards) ≡ Some spec → AreReached shows settings specs boards
+    → IsReached settings spec board (shows (link_of board))
+    → AreReached shows settings specs (boards ++ board ∷ [])
+reached_more shows settings [] [] spec board at are is = absurd cc
+reached_more shows settings [] (b ∷ boards) spec board at are is = absurd are
+reached_more shows settings (s ∷ specs) [] spec board at are is =
     let same : s ≡ spec = cc in (
-      subst (λ (x : BoardSpec). IsReached settings x board (tells (link_of board)) (shows (link_of board))) (sym same)
+      subst (λ (x : BoardSpec). IsReached settings x board (shows (link_of board))) (sym same)
           is,
       tt,
     )
-reached_more tells shows settings (s ∷ specs) (b ∷ boards) spec board at are is =
-    (are.0, reached_more tells shows settings specs boards spec board at are.1 is)
+reached_more shows settings (s ∷ specs) (b ∷ boards) spec board at are is =
+    (are.0, reached_more shows settings specs boards spec board at are.1 is)
 
 pub room_for_more : (kept kept_now made made_now count : ℕ) → kept ≤ made → kept_now ≡ kept → made_now ≡ made + 1
     → HasRoom kept made count → HasRoom kept_now made_now (count + 1)
@@ -169,10 +173,10 @@ room_for_more kept kept_now made made_now count within same one (inl none) =
 room_for_more kept kept_now made made_now count within same one (inr room) =
     inr (omega (arith, room, within, same, one))
 
-pub untouched_all : {L : Type 0} (tells : L → Option Telling) (shows : L → LinkReport) (settings : Limits)
-    (specs : List BoardSpec) (boards : List (Greeted L)) → AreReached tells shows settings specs boards
-    → AreUntouched specs (map shows (map (λ board. link_of board) boards))
-untouched_all tells shows settings specs [] are = tt
-untouched_all tells shows settings [] (b ∷ boards) are = absurd are
-untouched_all tells shows settings (s ∷ specs) (b ∷ boards) are =
-    (are.0.board', are.0.untouched, untouched_all tells shows settings specs boards are.1)
+pub fresh_links : {L : Type 0} (shows : L → LinkReport) (settings : Limits)
+    (specs : List BoardSpec) (boards : List (Greeted L)) → AreReached shows settings specs boards
+    → AreFreshLinks settings specs (map shows (map (λ board. link_of board) boards))
+fresh_links shows settings specs [] are = tt
+fresh_links shows settings [] (b ∷ boards) are = absurd are
+fresh_links shows settings (s ∷ specs) (b ∷ boards) are =
+    (are.0.fresh, fresh_links shows settings specs boards are.1)

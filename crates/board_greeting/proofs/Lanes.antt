@@ -17,11 +17,11 @@ use Rattle.lane_record.specs.declared.outcome.Outcome.{Outcome}
 use Rattle.lane_record.specs.declared.item.Item.{Item}
 use Rattle.lane_record.specs.Bounds.{HasReached}
 use Rattle.lane_record.specs.Coding.{Head}
-use Rattle.lane_history.specs.Links.{IsBoardOf, LinkReport}
+use Rattle.lane_history.specs.Links.{IsBoardOf, LinkReport, board_there}
 use Rattle.lane_history.specs.Lanes.{IsSoundLane}
 use Rattle.lane_history.specs.Runs.{TellsPayload}
 use Rattle.board_history.specs.Runs.{opening_of as opens_with}
-use Rattle.board_greeting.specs.Reports.{OpenedWith, board_there, report_of}
+use Rattle.board_greeting.specs.Reports.{OpenedWith, report_of}
 use Rattle.hub_lane.specs.Heard.{HasHeard}
 use Rattle.hub_lane.specs.Lanes.{BoardStatus, HasToldStatus, IsGreeted, IsLane, LaneState, opening_of}
 use Rattle.hub_lane.specs.declared.greeting.Greeted.{Greeted}
@@ -118,45 +118,48 @@ opened_so (Udp address port wait) (Some n) is = absurd is
 
 abbrev pub SoundLaw : Type 0
 SoundLaw = (settings : Limits) (status : BoardStatus) (hub : Hub) (items : List Item)
-    (outcomes : List (Option Outcome)) (give_ups : ℕ) (down spent : Bool) (telling : Option Telling)
-    (faults quiets gots held : ℕ) (opening : CellMap)
-    → IsLane settings status hub items outcomes give_ups down spent telling faults quiets
+    (outcomes : List (Option Outcome)) (lates : List (Option (List ℕ))) (give_ups : ℕ) (down spent : Bool)
+    (telling : Option Telling) (faults quiets gots held : ℕ) (opening : CellMap)
+    → IsLane settings status hub items outcomes lates give_ups down spent telling faults quiets
     → IfSome telling (λ _. HasReached (settings.rounds * give_ups) held) → HasHeard outcomes gots
     → IfSome telling (OpenedWith opening)
-    → IsSoundLane settings opening (report_of faults quiets gots held telling) items outcomes give_ups
+    → IsSoundLane settings opening (report_of faults quiets gots held telling) items outcomes lates give_ups
 
 pub at_end : {L : Type 0} → SoundLaw → (settings : Limits) (spec : BoardSpec) (lane : LaneState L)
     (told : Option Telling) (faults quiets gots held : ℕ) → IsLaneTo settings spec told lane
-    → IsLane lane.settings lane.status lane.hub lane.items lane.outcomes lane.give_ups lane.down lane.spent told faults
-    quiets → IfSome told (λ _. HasReached (lane.settings.rounds * lane.give_ups) held) → HasHeard lane.outcomes gots
-    → IsEndedLane settings spec lane (report_of faults quiets gots held told)
+    → IsLane lane.settings lane.status lane.hub lane.items lane.outcomes lane.lates lane.give_ups lane.down lane.spent
+    told faults quiets → IfSome told (λ _. HasReached (lane.settings.rounds * lane.give_ups) held)
+    → HasHeard lane.outcomes gots → IsEndedLane settings spec lane (report_of faults quiets gots held told)
 at_end {L} law settings spec lane told faults quiets gots held to is paid heard =
     let here = board_known lane.status spec.link told to.board' is.told in
     let shown = report_of faults quiets gots held told in
     record {
       board' = here;
       payload = payload_known lane.status spec.link (opening_of told) to.board' is.knows.mtu;
-      sound = subst (λ (s : Limits). IsSoundLane s (opens_with spec.link) shown lane.items lane.outcomes lane.give_ups)
-          to.settings' (law lane.settings lane.status lane.hub lane.items lane.outcomes lane.give_ups lane.down
-          lane.spent told faults quiets gots held (opens_with spec.link) is paid heard (opened_so spec.link told here));
+      sound = subst (λ (s : Limits).
+          IsSoundLane s (opens_with spec.link) shown lane.items lane.outcomes lane.lates lane.give_ups)
+          to.settings' (law lane.settings lane.status lane.hub lane.items lane.outcomes lane.lates lane.give_ups
+          lane.down lane.spent told faults quiets gots held (opens_with spec.link) is paid heard
+          (opened_so spec.link told here));
     }
 
 -- ---- a lane that came back
 
 -- a lane that comes back with the head of its record is to the board that was greeted
 pub lane_back : {L : Type 0} (tells : L → Option Telling) (shown : LinkReport) (settings : Limits) (spec : BoardSpec)
-    (old new : LaneState L) → IsReached settings spec (Ready old) (tells old.link) shown
-    → IsBoardOf spec.link (board_there (tells old.link))
-    → head_shown tells new ≡ head_shown tells old
+    (old new : LaneState L) → IsReached settings spec (Ready old) shown
+    → shown.telling ≡ tells old.link → head_shown tells new ≡ head_shown tells old
     → IsLaneTo settings spec (tells new.link) new
-lane_back {L} tells shown settings spec old new reached board head =
+lane_back {L} tells shown settings spec old new reached same_link head =
     let opens : old.settings ≡ settings = ap (λ (l : LaneState L). l.settings) reached.as_told.opened' in
     let same : new.settings ≡ old.settings =
     ap (λ (h : Head). let s : Limits = record { rounds = h.rounds; window = h.window } in s) head in
     let status : new.status ≡ old.status =
     ap (λ (h : Head). let s : BoardStatus = record { mtu = h.mtu; buffers = h.buffers; next = h.first } in s) head in
     let opening : opening_of (tells new.link) ≡ opening_of (tells old.link) = ap (λ (h : Head). h.opening) head in
-    let known = known_as settings old.status spec.link (tells old.link) board reached.as_told.greeted in
+    let known = known_as settings old.status spec.link (tells old.link)
+    (subst (λ (t : Option Telling). IsBoardOf spec.link (board_there t)) same_link reached.fresh.board')
+    (subst (λ (t : Option Telling). IfSome t (IsGreeted settings old.status)) same_link reached.as_told.greeted) in
     record {
       settings' = same ∙ opens;
       board' = subst (λ (o : Option CellMap). IsKnownAs spec.link new.status o) (sym opening)
@@ -166,16 +169,16 @@ lane_back {L} tells shown settings spec old new reached board head =
 -- ---- the lanes that go to the hub
 
 -- a lane that was just opened has no entry
-pub lanes_unused : {L : Type 0} (tells : L → Option Telling) (shows : L → LinkReport) (settings : Limits)
-    (specs : List BoardSpec) (boards : List (Greeted L)) → AreReached tells shows settings specs boards
+pub lanes_unused : {L : Type 0} (shows : L → LinkReport) (settings : Limits)
+    (specs : List BoardSpec) (boards : List (Greeted L)) → AreReached shows settings specs boards
     → AllByRecursion HasNoEntry (lanes_in boards)
-lanes_unused tells shows settings specs [] are = tt
-lanes_unused tells shows settings [] (b ∷ boards) are = absurd are
-lanes_unused tells shows settings (s ∷ specs) (Ready lane ∷ boards) are =
-    (ap (λ (l : LaneState _). l.items) are.0.as_told.opened', lanes_unused tells shows settings specs boards are.1)
-lanes_unused tells shows settings (s ∷ specs) (Silent link rounds ∷ boards) are =
-    lanes_unused tells shows settings specs boards are.1
-lanes_unused tells shows settings (s ∷ specs) (Down link ∷ boards) are =
-    lanes_unused tells shows settings specs boards are.1
-lanes_unused tells shows settings (s ∷ specs) (NoMemory link ∷ boards) are =
-    lanes_unused tells shows settings specs boards are.1
+lanes_unused shows settings specs [] are = tt
+lanes_unused shows settings [] (b ∷ boards) are = absurd are
+lanes_unused shows settings (s ∷ specs) (Ready lane ∷ boards) are =
+    (ap (λ (l : LaneState _). l.items) are.0.as_told.opened', lanes_unused shows settings specs boards are.1)
+lanes_unused shows settings (s ∷ specs) (Silent link rounds ∷ boards) are =
+    lanes_unused shows settings specs boards are.1
+lanes_unused shows settings (s ∷ specs) (Down link ∷ boards) are =
+    lanes_unused shows settings specs boards are.1
+lanes_unused shows settings (s ∷ specs) (NoMemory link ∷ boards) are =
+    lanes_unused shows settings specs boards are.1

@@ -1,16 +1,16 @@
 -- What a lane keeps, in the words of the history of its board.
-use Rattle.std.proofs.Common.{◌≡◌, ℕ, ◌+◌, ◌*◌, ◌≤◌, Bool, true, cond, List, [], ◌++◌, map}
+use Rattle.std.proofs.Common.{◌≡◌, ◌⊎◌, ℕ, ◌+◌, ◌*◌, ◌≤◌, Bool, true, false, cond, List, [], ◌++◌, inr}
 use Rattle.std.proofs.Common.{◌∷◌, Option, Some, None, refl, sym, ap, ◌∙◌, subst, arith, ◌||◌, append_assoc}
 use Rattle.std.specs.Prelude.{IfSome}
 use Rattle.std.specs.List.{count_by, slice_get}
 use Rattle.std.proofs.Math.Nat.{mul-le-mul_left, mul_comm}
-use Rattle.std.proofs.lemmas.List.{map-append}
 use Rattle.ipb_base.specs.Lists.{IsPrefix}
 use Rattle.board_bus.specs.Cells.{CellMap}
 use Rattle.board_bus.specs.Bodies.{replay}
 use Rattle.world_model.specs.declared.offered.Offered.{Offered}
 use Rattle.world_model.specs.Board.{Board, executed}
-use Rattle.world_model.specs.Facts.{bodies_of, offered_body}
+use Rattle.world_model.specs.Places.{at_place}
+use Rattle.world_model.specs.Facts.{bodies_of}
 use Rattle.world_model.specs.Hub.{Hub}
 use Rattle.world_model.specs.Settings.{Limits}
 use Rattle.world_core.specs.Telling.{Telling}
@@ -20,21 +20,30 @@ use Rattle.lane_record.specs.declared.item.Item.{Item}
 use Rattle.lane_record.specs.Claims.{Claim, claims}
 use Rattle.lane_record.specs.Bounds.{AreLostOnlyIf, HasReached, HasWaited, IsKept}
 use Rattle.lane_record.specs.Offers.{offers_from}
-use Rattle.lane_record.specs.Outcomes.{is_replied}
+use Rattle.lane_record.specs.Outcomes.{AreSettled, is_replied}
 use Rattle.hub_lane.specs.Calls as lane
 use Rattle.hub_lane.specs.Heard.{HasHeard}
 use Rattle.hub_lane.specs.Lanes.{BoardStatus, IsLane}
 use Rattle.hub_lane.specs.Standing.{IsStanding}
-use Rattle.hub_lane.specs.Truth.{AreRightReplies, IsTrueTo}
+use Rattle.hub_lane.specs.Truth.{AreRightReplies, HasEachLate, IsTrueTo}
 use Rattle.board_history.specs.Parts.{IsReplyOf}
 use Rattle.lane_history.specs.Records.{has_become}
+use Rattle.lane_history.proofs.Merges.{sent_offered}
 use Rattle.lane_history.proofs.Waits.{count_cons}
-use Rattle.lane_history.specs.Lanes.{IsSoundLane, IsTrueOf, bodies_offered}
-use Rattle.board_greeting.specs.Reports.{OpenedWith, board_there, report_of}
+use Rattle.lane_history.specs.Lanes.{IsLateAsHanded, IsSoundLane, IsTrueOf, bodies_offered}
+use Rattle.lane_history.specs.Links.{board_there}
+use Rattle.board_greeting.specs.Reports.{OpenedWith, report_of}
 
 abbrev pub TrueLaw : Type 0
-TrueLaw = (stopped : Bool) (limits : Limits) (hub : Hub) (outcomes : List (Option Outcome)) (t : Telling)
-    → IsStanding stopped limits hub outcomes t → IsTrueTo t (bodies_of hub.sent) outcomes
+TrueLaw = (stopped : Bool) (limits : Limits) (hub : Hub) (outcomes : List (Option Outcome))
+    (lates : List (Option (List ℕ))) (t : Telling) → IsStanding stopped limits hub outcomes lates t
+    → IsTrueTo t (bodies_of hub.sent) outcomes lates
+
+abbrev pub EachLateLaw : Type 0
+EachLateLaw = (settings : Limits) (status : BoardStatus) (hub : Hub) (items : List Item)
+    (outcomes : List (Option Outcome)) (lates : List (Option (List ℕ))) (give_ups : ℕ) (down spent : Bool) (t : Telling)
+    (faults quiets : ℕ) → IsLane settings status hub items outcomes lates give_ups down spent (Some t) faults quiets
+    → (spent ≡ false) ⊎ AreSettled outcomes → HasEachLate t outcomes lates
 
 -- ---- a window that is no wider
 
@@ -63,11 +72,6 @@ front_longer : (done sent all : List (List ℕ)) → IsPrefix done sent → IsPr
 front_longer done sent all one two =
     (one.0 ++ two.0, two.1 ∙ (ap (λ (xs : List (List ℕ)). xs ++ two.0) one.1 ∙ append_assoc done one.0 two.0))
 
-sent_offered : (sent queue : List Offered) (cs : List Claim) (outcomes : List (Option Outcome))
-    → sent ++ queue ≡ offers_from 0 cs outcomes → IsPrefix (bodies_of sent) (bodies_offered cs outcomes)
-sent_offered sent queue cs outcomes same =
-    (bodies_of queue, sym (ap (map offered_body) same) ∙ map-append offered_body sent queue)
-
 reply_is : (opening : CellMap) (t : Telling) (outcomes : List (Option Outcome)) (k : ℕ) (outcome : Outcome)
     → OpenedWith opening t → AreRightReplies t outcomes → slice_get outcomes k ≡ Some (Some outcome)
     → IsReplyOf (replay opening (executed t.told.board)).replies outcome
@@ -79,16 +83,32 @@ reply_is opening t outcomes k Unsent opened right there = tt
 reply_is opening t outcomes k (LinkLost place) opened right there = tt
 
 true_of : TrueLaw → (stopped : Bool) (limits : Limits) (hub : Hub) (queue : List Offered) (cs : List Claim)
-    (outcomes : List (Option Outcome)) (opening : CellMap) (t : Telling) → OpenedWith opening t
-    → hub.sent ++ queue ≡ offers_from 0 cs outcomes → IsStanding stopped limits hub outcomes t
-    → IsTrueOf opening cs outcomes (executed t.told.board)
-true_of law stopped limits hub queue cs outcomes opening t opened same standing =
-    let truth = law stopped limits hub outcomes t standing in
+    (outcomes : List (Option Outcome)) (lates : List (Option (List ℕ))) (opening : CellMap) (t : Telling)
+    → OpenedWith opening t → hub.sent ++ queue ≡ offers_from 0 cs outcomes
+    → IsStanding stopped limits hub outcomes lates t
+    → IsTrueOf opening cs outcomes lates (executed t.told.board)
+true_of law stopped limits hub queue cs outcomes lates opening t opened same standing =
+    let truth = law stopped limits hub outcomes lates t standing in
     record {
       front = front_longer (executed t.told.board) (bodies_of hub.sent) (bodies_offered cs outcomes) truth.in_order
           (sent_offered hub.sent queue cs outcomes same);
       replies = λ k outcome there. reply_is opening t outcomes k outcome opened truth.replied there;
+      late = λ place words came.
+          subst (λ (o : CellMap). at_place (replay o (executed t.told.board)).replies place ≡ Some words) opened
+          (truth.late.right place words came);
     }
+
+-- what came late for a body that was timed out is what the link handed out for it
+late_as_handed : TrueLaw → EachLateLaw → (settings : Limits) (status : BoardStatus) (hub : Hub) (items : List Item)
+    (outcomes : List (Option Outcome)) (lates : List (Option (List ℕ))) (give_ups : ℕ) (down spent : Bool)
+    (telling : Option Telling) (faults quiets : ℕ)
+    → IsLane settings status hub items outcomes lates give_ups down spent telling faults quiets
+    → AreSettled outcomes → IfSome telling (IsLateAsHanded outcomes lates)
+late_as_handed law each settings status hub items outcomes lates give_ups down spent None faults quiets is settled = tt
+late_as_handed law each settings status hub items outcomes lates give_ups down spent (Some t) faults quiets is settled =
+    let truth = law (down || spent) settings hub outcomes lates t is.standing in
+    let has = each settings status hub items outcomes lates give_ups down spent t faults quiets is (inr settled) in
+    λ k place rounds there words. (truth.late.handed place words, has k place rounds words there)
 
 -- what holds where a link tells is said of the board that it shows
 shown : (P Q : Telling → Type 0) (R : Board → Type 0) (telling : Option Telling) → IfSome telling P → IfSome telling Q
@@ -117,15 +137,15 @@ replies_counted (o ∷ os) = count_cons (has_become is_replied) o os
 
 -- ---- a lane
 
-pub sound_lane : TrueLaw → (settings : Limits) (status : BoardStatus) (hub : Hub) (items : List Item)
-    (outcomes : List (Option Outcome)) (give_ups : ℕ) (down spent : Bool) (telling : Option Telling)
-    (faults quiets gots held : ℕ) (opening : CellMap)
-    → IsLane settings status hub items outcomes give_ups down spent telling faults quiets
+pub sound_lane : TrueLaw → EachLateLaw → (settings : Limits) (status : BoardStatus) (hub : Hub) (items : List Item)
+    (outcomes : List (Option Outcome)) (lates : List (Option (List ℕ))) (give_ups : ℕ) (down spent : Bool)
+    (telling : Option Telling) (faults quiets gots held : ℕ) (opening : CellMap)
+    → IsLane settings status hub items outcomes lates give_ups down spent telling faults quiets
     → IfSome telling (λ _. HasReached (settings.rounds * give_ups) held) → HasHeard outcomes gots
     → IfSome telling (OpenedWith opening)
-    → IsSoundLane settings opening (report_of faults quiets gots held telling) items outcomes give_ups
-sound_lane law settings status hub items outcomes give_ups down spent telling faults quiets gots held opening is paid
-    heard opened = record {
+    → IsSoundLane settings opening (report_of faults quiets gots held telling) items outcomes lates give_ups
+sound_lane law each settings status hub items outcomes lates give_ups down spent telling faults quiets gots held
+    opening is paid heard opened = record {
       kept = wider items outcomes hub.window settings.window give_ups (let w = is.knows.window in omega (arith, w))
           is.kept;
       waited = waited_all settings.rounds give_ups hub.status_requests quiets
@@ -134,11 +154,13 @@ sound_lane law settings status hub items outcomes give_ups down spent telling fa
           (sym (replies_counted outcomes)) heard;
       lost = lost_if (down ≡ true) (1 ≤ faults) outcomes is.fault is.lost;
       tells = is.tells;
-      told = shown (IsStanding (down || spent) settings hub outcomes) (OpenedWith opening)
-          (λ (board : Board). IsTrueOf opening (claims items) outcomes (executed board)) telling is.standing opened
+      late = is.late.timed_out;
+      told = shown (IsStanding (down || spent) settings hub outcomes lates) (OpenedWith opening)
+          (λ (board : Board). IsTrueOf opening (claims items) outcomes lates (executed board)) telling is.standing
+          opened
           (λ t standing opens. true_of law (down || spent) settings hub (cond down [] hub.queue) (claims items) outcomes
-          opening t opens is.agrees.offered standing);
-      held = shown (λ _. HasReached (settings.rounds * give_ups) held) (OpenedWith opening)
-          (λ (board : Board). HasReached (settings.rounds * give_ups) held) telling paid opened (λ t is_paid opens.
-          is_paid);
+          lates opening t opens is.agrees.offered standing);
+      exactly = late_as_handed law each settings status hub items outcomes lates give_ups down spent telling faults
+          quiets is;
+      held = paid;
     }

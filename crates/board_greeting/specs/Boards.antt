@@ -8,7 +8,7 @@ use Rattle.lane_record.specs.Coding.{Head}
 use Rattle.hub_lane.specs.Records.{head_of}
 use Rattle.hub_lane.specs.declared.greeting.Greeted.{Greeted}
 use Rattle.hub_lane.specs.declared.greeting.Greeted.TheVariants.{Ready, Silent, Down, NoMemory}
-use Rattle.hub_lane.specs.Greeting.{link_of}
+use Rattle.hub_lane.specs.Greeting.{CanBegin, link_of}
 use Rattle.script_plans.specs.declared.greeting.Greeting.{Greeting}
 use Rattle.script_plans.specs.declared.greeting.Greeting.TheVariants as greeting
 use Rattle.board_bus.specs.Cells.{CellMap}
@@ -17,7 +17,7 @@ use Rattle.board_node.specs.declared.spec.LinkSpec.{LinkSpec}
 use Rattle.board_node.specs.declared.spec.LinkSpec.TheVariants.{Sim, Udp}
 use Rattle.hub_lane.specs.Lanes.{BoardStatus, IsGreeted, LaneState, opened, opening_of}
 use Rattle.board_greeting.specs.Reports.{report_of}
-use Rattle.lane_history.specs.Links.{IsBoardOf, IsUntouched, LinkReport}
+use Rattle.lane_history.specs.Links.{IsBoardOf, IsUntouched, LinkReport, board_there}
 use Rattle.lane_history.specs.Lanes.{IsSoundLane}
 use Rattle.lane_history.specs.Runs.{IsDownRun, IsSilentRun, TellsPayload}
 use Rattle.board_history.specs.Runs.{opening_of as opens_with}
@@ -33,19 +33,25 @@ IsIdle (greeting.Live payload) = ⊥
 IsIdle greeting.Silent = Unit {0}
 IsIdle greeting.Down = Unit {0}
 
--- what a greeting came to, over a link that tells this and shows this
-abbrev pub IsGreetedAs : {L : Type 0} → Limits → Greeted L → Option Telling → LinkReport → Type 0
-IsGreetedAs settings (Ready lane) telling shown = IsReadyLane settings lane telling
-IsGreetedAs settings (Silent link rounds) telling shown = IsSilentRun settings shown
-IsGreetedAs settings (Down link) telling shown = IsDownRun shown
-IsGreetedAs settings (NoMemory link) telling shown = Unit {0}
+-- what a greeting came to, over a link that shows this
+abbrev pub IsGreetedAs : {L : Type 0} → Limits → Greeted L → LinkReport → Type 0
+IsGreetedAs settings (Ready lane) shown = IsReadyLane settings lane shown.telling
+IsGreetedAs settings (Silent link rounds) shown = IsSilentRun settings shown
+IsGreetedAs settings (Down link) shown = IsDownRun shown
+IsGreetedAs settings (NoMemory link) shown = Unit {0}
 
--- The board of this document was greeted, and executed nothing.
+-- The link is to the board of this document, which was asked for nothing but its status: it executed nothing, and where
+-- the link tells a run can begin there.
+pub record IsFreshLink (settings : Limits) (spec : BoardSpec) (link : LinkReport) : Type 0 where
+  pub board' : IsBoardOf spec.link (board_there link.telling)
+  pub untouched : IsUntouched link
+  pub begins : IfSome link.telling (CanBegin settings)
+
+-- The board of this document was greeted.
 pub record IsReached {L : Type 0} (settings : Limits) (spec : BoardSpec) (greeted : Greeted L)
-    (telling : Option Telling) (shown : LinkReport) : Type 0 where
-  pub board' : IsBoardOf spec.link shown.board
-  pub untouched : IsUntouched shown
-  pub as_told : IsGreetedAs settings greeted telling shown
+    (shown : LinkReport) : Type 0 where
+  pub fresh : IsFreshLink settings spec shown
+  pub as_told : IsGreetedAs settings greeted shown
 
 -- what a link shows; the first five are what contracts see of it
 abbrev pub shown_by : {L : Type 0} → (L → ℕ) → (L → ℕ) → (L → ℕ) → (L → ℕ) → (L → Option Telling) → L → LinkReport
@@ -53,13 +59,12 @@ shown_by faults quiets gots held telling link =
     report_of (faults link) (quiets link) (gots link) (held link) (telling link)
 
 -- so of the first boards, in order; there may be fewer than documents
-abbrev pub AreReached : {L : Type 0} → (L → Option Telling) → (L → LinkReport) → Limits → List BoardSpec
-    → List (Greeted L) → Type 0
-AreReached tells shows settings specs [] = Unit {0}
-AreReached tells shows settings [] (greeted ∷ others) = ⊥
-AreReached tells shows settings (spec ∷ specs) (greeted ∷ others) =
-    IsReached settings spec greeted (tells (link_of greeted)) (shows (link_of greeted))
-    × AreReached tells shows settings specs others
+abbrev pub AreReached : {L : Type 0} → (L → LinkReport) → Limits → List BoardSpec → List (Greeted L) → Type 0
+AreReached shows settings specs [] = Unit {0}
+AreReached shows settings [] (greeted ∷ others) = ⊥
+AreReached shows settings (spec ∷ specs) (greeted ∷ others) =
+    IsReached settings spec greeted (shows (link_of greeted))
+    × AreReached shows settings specs others
 
 -- memory did not run out at the greeting
 abbrev pub HasMemory : {L : Type 0} → Greeted L → Type 0
@@ -72,12 +77,12 @@ HasMemory (NoMemory link) = ⊥
 abbrev pub HasRoom : ℕ → ℕ → ℕ → Type 0
 HasRoom kept made count = (count ≡ 0) ⊎ (kept + count ≤ made)
 
--- the links are those of the first boards, in order, which executed nothing
-abbrev pub AreUntouched : List BoardSpec → List LinkReport → Type 0
-AreUntouched specs [] = Unit {0}
-AreUntouched [] (link ∷ links) = ⊥
-AreUntouched (spec ∷ specs) (link ∷ links) =
-    IsBoardOf spec.link link.board × IsUntouched link × AreUntouched specs links
+-- the links are those of the first boards, in order
+abbrev pub AreFreshLinks : Limits → List BoardSpec → List LinkReport → Type 0
+AreFreshLinks settings specs [] = Unit {0}
+AreFreshLinks settings [] (link ∷ links) = ⊥
+AreFreshLinks settings (spec ∷ specs) (link ∷ links) =
+    IsFreshLink settings spec link × AreFreshLinks settings specs links
 
 -- ---- the board of a lane
 
@@ -105,6 +110,6 @@ HasNoEntry lane = lane.items ≡ []
 -- a lane at its end, over a link that shows this: all that the history of its board rests on
 pub record IsEndedLane {L : Type 0} (settings : Limits) (spec : BoardSpec) (lane : LaneState L) (shown : LinkReport)
     : Type 0 where
-  pub board' : IsBoardOf spec.link shown.board
+  pub board' : IsBoardOf spec.link (board_there shown.telling)
   pub payload : TellsPayload spec.link (payload_of lane.status.mtu)
-  pub sound : IsSoundLane settings (opens_with spec.link) shown lane.items lane.outcomes lane.give_ups
+  pub sound : IsSoundLane settings (opens_with spec.link) shown lane.items lane.outcomes lane.lates lane.give_ups

@@ -1,9 +1,8 @@
 -- Boards that were greeted, while the lanes of the live ones are at a hub; and what stands in each board's place once
 -- the lanes came back. Profile.
-use Rattle.std.specs.Prelude.{◌≡◌, ℕ, ◌+◌, ◌≤◌, List, [], ◌∷◌, ◌++◌, length, map, Option, Some, None}
+use Rattle.std.specs.Prelude.{◌≡◌, ℕ, ◌+◌, ◌≤◌, List, [], ◌∷◌, ◌++◌, length, map, Some, None}
 use Rattle.std.specs.List.{AllByRecursion}
 use Rattle.std.specs.Vec.{vec_capacity, vec_len}
-use Rattle.world_core.specs.Telling.{Telling}
 use Rattle.world_model.specs.Settings.{Limits}
 use Rattle.board_node.specs.declared.spec.BoardSpec.{BoardSpec}
 use Rattle.hub_lane.specs.Lanes.{LaneState}
@@ -11,9 +10,9 @@ use Rattle.hub_lane.specs.declared.greeting.Greeted.{Greeted}
 use Rattle.hub_lane.specs.declared.greeting.Greeted.TheVariants.{Ready, Silent, Down, NoMemory}
 use Rattle.script_plans.specs.declared.greeting.Greeting.{Greeting}
 use Rattle.script_plans.specs.declared.greeting.Greeting.TheVariants as greeting
-use Rattle.lane_history.specs.Links.{IsBoardOf, IsUntouched, LinkReport}
+use Rattle.lane_history.specs.Links.{LinkReport}
 use Rattle.lane_history.specs.Runs.{IsDownRun, IsSilentRun}
-use Rattle.board_greeting.specs.Boards.{AreReached, HasMemory}
+use Rattle.board_greeting.specs.Boards.{AreReached, HasMemory, IsFreshLink}
 use Rattle.board_greeting.specs.declared.split.Place.{Place}
 use Rattle.board_greeting.specs.declared.split.Place.TheVariants.{Live, Idle}
 use Rattle.board_greeting.specs.declared.split.Split.{Split}
@@ -60,13 +59,13 @@ pub record IsApart {L : Type 0} (boards : List (Greeted L)) (split : Split L) : 
   pub lanes' : split.lanes.items ≡ lanes_in boards
 
 -- So were boards taken apart that were greeted, each that of its document.
-pub record IsSplitOf {L : Type 0} (tells : L → Option Telling) (shows : L → LinkReport) (settings : Limits)
-    (specs : List BoardSpec) (split : Split L) : Type 0 where
+pub record IsSplitOf {L : Type 0} (shows : L → LinkReport) (settings : Limits) (specs : List BoardSpec)
+    (split : Split L) : Type 0 where
   pub boards : List (Greeted L)
   pub apart : IsApart boards split
   pub all : length boards ≡ length specs
   pub memory : AllByRecursion HasMemory boards
-  pub reached : AreReached tells shows settings specs boards
+  pub reached : AreReached shows settings specs boards
 
 -- there is room for so many boards more
 pub record HasRoomForBoards {L : Type 0} (count : ℕ) (split : Split L) : Type 0 where
@@ -100,6 +99,5 @@ IsIdleAs settings greeting.Silent shown = IsSilentRun settings shown
 IsIdleAs settings greeting.Down shown = IsDownRun shown
 
 pub record IsIdleBoard (settings : Limits) (spec : BoardSpec) (told : Greeting) (shown : LinkReport) : Type 0 where
-  pub board' : IsBoardOf spec.link shown.board
-  pub untouched : IsUntouched shown
+  pub fresh : IsFreshLink settings spec shown
   pub as_told : IsIdleAs settings told shown

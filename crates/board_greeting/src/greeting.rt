@@ -6,7 +6,7 @@ ghost use Rattle.std.specs.Vec.{vec_capacity, vec_len};
 ghost use Rattle.ipb_base.specs.Faults.{Rose};
 ghost use Rattle.lossy_network.specs.Racks.{made_after};
 ghost use Rattle.hub_lane.specs.Greeting.{link_of};
-ghost use Rattle.board_greeting.specs.Boards.{AreReached, AreUntouched, HasMemory, HasRoom, IsReached, shown_by};
+ghost use Rattle.board_greeting.specs.Boards.{AreFreshLinks, AreReached, HasMemory, HasRoom, IsReached, shown_by};
 ghost use Rattle.board_greeting.specs.Links.{CanBeReached, Keeps};
 
 use board_bus::laws::words_stay_words;
@@ -49,7 +49,7 @@ fn greet_board<R: Rack>(
     rack: &mut R,
 ) -> Result<Greeted<R::L>, RackFault>
     requires reached { CanBeReached spec.now }
-    ensures reached { IfOk result (λ board. IsReached settings spec.now board (R.L.telling (link_of board))
+    ensures reached { IfOk result (λ board. IsReached settings spec.now board
         (shown_by R.L.faults R.L.quiets R.L.gots R.L.held R.L.telling (link_of board))) }
     ensures failed { result ≡ Err RackFault.Failed → Rose (R.faults rack.old) (R.faults rack.new) }
     ensures faults { R.faults rack.old ≤ R.faults rack.new }
@@ -83,7 +83,7 @@ fn greet_into<R: Rack>(
     requires reached { AllByRecursion CanBeReached specs.now }
     requires empty { boards.old.items ≡ [] }
     requires room { vec_len boards.old + length specs.now ≤ vec_capacity boards.old }
-    ensures reached { AreReached R.L.telling (shown_by R.L.faults R.L.quiets R.L.gots R.L.held R.L.telling) settings
+    ensures reached { AreReached (shown_by R.L.faults R.L.quiets R.L.gots R.L.held R.L.telling) settings
         specs.now boards.new.items }
     ensures all { OnOk result (length boards.new.items ≡ length specs.now) }
     ensures memory { OnOk result (AllByRecursion HasMemory boards.new.items) }
@@ -114,7 +114,7 @@ pub fn greet_boards<R: Rack>(
     rack: &mut R,
 ) -> Result<Vec<Greeted<R::L>>, RackFault>
     requires reached { AllByRecursion CanBeReached specs.now }
-    ensures reached { IfOk result (λ boards. AreReached R.L.telling
+    ensures reached { IfOk result (λ boards. AreReached
         (shown_by R.L.faults R.L.quiets R.L.gots R.L.held R.L.telling) settings specs.now boards.items) }
     ensures all { IfOk result (λ boards. length boards.items ≡ length specs.now) }
     ensures memory { IfOk result (λ boards. AllByRecursion HasMemory boards.items) }
@@ -122,7 +122,7 @@ pub fn greet_boards<R: Rack>(
     ensures made { OnOk result (R.made rack.new ≡ R.made rack.old + length specs.now) }
     ensures room { OnOk result (HasRoom (length (R.kept rack.new)) (R.made rack.new) (length specs.now)) }
     ensures left { OnErr result (Keeps R.L.faults R.L.quiets R.L.gots R.L.held R.L.telling (R.kept rack.old)
-        (R.kept rack.new) (λ links. AreUntouched specs.now links
+        (R.kept rack.new) (λ links. AreFreshLinks settings specs.now links
         × (R.made rack.new ≡ R.made rack.old + length links))) }
     ensures failed { result ≡ Err RackFault.Failed → Rose (R.faults rack.old) (R.faults rack.new) }
     ensures faults { R.faults rack.old ≤ R.faults rack.new }

@@ -14,20 +14,22 @@ ghost use Rattle.hub_lane.specs.Lanes.{BoardStatus, IsLane};
 ghost use Rattle.lane_history.specs.Lanes.{IsSoundLane};
 ghost use Rattle.board_greeting.specs.Reports.{OpenedWith, report_of};
 
-use hub_lane::laws::a_lane_over_a_link_that_tells_is_true;
+use hub_lane::laws::{a_lane_over_a_link_that_tells_is_true, a_timed_out_body_has_its_late_answer};
 
 /// A lane whose give-ups are paid and whose replies came in datagrams, over a link to a board that opened with this
 /// bus, keeps all that the history of the board rests on: `Lane::is_sound`, `Lane::has_paid` and `Lane::has_heard` tell
 /// the first three premises.
 pub fn a_lane_is_a_sound_one()
     ensures { (settings : Limits) (status : BoardStatus) (hub : Hub) (items : List Item)
-        (outcomes : List (Option Outcome)) (give_ups : ℕ) (down spent : Bool) (telling : Option Telling)
-        (faults quiets gots held : ℕ) (opening : CellMap)
-        → IsLane settings status hub items outcomes give_ups down spent telling faults quiets
+        (outcomes : List (Option Outcome)) (lates : List (Option (List ℕ))) (give_ups : ℕ) (down spent : Bool)
+        (telling : Option Telling) (faults quiets gots held : ℕ) (opening : CellMap)
+        → IsLane settings status hub items outcomes lates give_ups down spent telling faults quiets
         → IfSome telling (λ _. HasReached (settings.rounds * give_ups) held)
         → HasHeard outcomes gots
         → IfSome telling (OpenedWith opening)
-        → IsSoundLane settings opening (report_of faults quiets gots held telling) items outcomes give_ups }
+        → IsSoundLane settings opening (report_of faults quiets gots held telling) items outcomes lates
+        give_ups }
 {
     a_lane_over_a_link_that_tells_is_true();
+    a_timed_out_body_has_its_late_answer();
 }

@@ -2,7 +2,6 @@
 use Rattle.std.proofs.Common.{◌≡◌, ℕ, ◌≤◌, List, map, subst, sym, arith}
 use Rattle.std.specs.List.{AllByRecursion}
 use Rattle.board_node.specs.declared.spec.BoardSpec.{BoardSpec}
-use Rattle.world_model.specs.Board.{Board}
 use Rattle.world_model.specs.Settings.{Limits}
 use Rattle.lane_record.specs.Dispatches.{joined}
 use Rattle.lane_record.specs.Submissions.{Submission}
@@ -12,7 +11,7 @@ use Rattle.board_history.specs.GiveUps.{GaveUpOnlyAfter}
 use Rattle.board_history.specs.History.{dispatches_by_client, outcomes_by_client}
 use Rattle.board_history.specs.Parts.{AllReplied, IsReplied}
 use Rattle.board_history.specs.Runs.{greeting_of, opening_of}
-use Rattle.lane_history.specs.Links.{IsBoardOf, IsFaithful, LinkReport}
+use Rattle.lane_history.specs.Links.{IsBoardOf, IsFaithful, LinkReport, board_there}
 use Rattle.lane_history.specs.Runs.{IsAsTold, IsLiveRun, IsTrueRun}
 use Rattle.lane_history.proofs.Calm.{IsNotLost, all_calm}
 use Rattle.lane_history.proofs.Shown.{at_some, not_lost, told_greeting}
@@ -20,6 +19,7 @@ use Rattle.client_history.specs.Boards.{IsServedOver, ServedBoard, run_of}
 use Rattle.client_history.specs.Shown.{OfEach}
 use Rattle.client_history.proofs.Lines.{of_each}
 use Rattle.client_history.proofs.Parts.{same_joined}
+use Rattle.lane_history.proofs.Told.{if_told}
 
 abbrev pub EachIsReplied : List (List Submission) → Type 0
 EachIsReplied connections = OfEach (λ (s : Submission). IsReplied s.outcome) connections
@@ -29,8 +29,8 @@ live_replied : (settings : Limits) (spec : BoardSpec) (served : ServedBoard) (li
     → EachIsReplied served.connections
 live_replied settings spec served link payload some calm live =
     let run = run_of spec served in
-    let true' = at_some (IsTrueRun settings (opening_of spec.link) run link.held) link.board calm.there calm.tells
-    live.told in
+    let true' = at_some (IsTrueRun settings (opening_of spec.link) run link.held) (board_there link.telling)
+    calm.there calm.tells live.told in
     let same = same_joined served.connections in
     let patient : GaveUpOnlyAfter settings.window settings.rounds 0 (dispatches_by_client run) =
     subst (λ (n : ℕ). GaveUpOnlyAfter settings.window settings.rounds n (dispatches_by_client run)) calm.held'
@@ -48,14 +48,14 @@ pub record IsCalm (spec : BoardSpec) (served : ServedBoard) (told : Greeting) : 
   pub replied : EachIsReplied served.connections
 
 calm_as : (settings : Limits) (spec : BoardSpec) (served : ServedBoard) (link : LinkReport) (told : Greeting)
-    → 1 ≤ settings.rounds → IsFaithful link → IsBoardOf spec.link link.board
+    → 1 ≤ settings.rounds → IsFaithful link → IsBoardOf spec.link (board_there link.telling)
     → IsAsTold settings spec (run_of spec served) link told → IsCalm spec served told
 calm_as settings spec served link (Live payload) some calm of is = record {
-  live = told_greeting spec.link link.board calm.there payload calm.tells of is.any_link.packets;
+  live = told_greeting spec.link (board_there link.telling) calm.there payload calm.tells of is.any_link.packets;
   replied = live_replied settings spec served link payload some calm is;
 }
 calm_as settings spec served link Silent some calm of is =
-    let held = at_some (λ (b : Board). settings.rounds ≤ link.held) link.board calm.there calm.tells is.held in
+    let held = if_told (settings.rounds ≤ link.held) link.telling calm.there calm.tells is.held in
     absurd (omega (arith, some, held, calm.held'))
 calm_as settings spec served link Down some calm of is =
     let failed = is.failed in absurd (omega (arith, failed, calm.faults'))

@@ -19,7 +19,7 @@ use Rattle.script_plans.specs.Runs.{outcomes_on}
 use Rattle.board_history.specs.GiveUps.{IsExact, time_outs, times_given_up, was_given_up}
 use Rattle.board_history.specs.History.{dispatches_by_client}
 use Rattle.board_history.specs.Runs.{opening_of}
-use Rattle.lane_history.specs.Links.{HasFailed, IsLostOnlyIfFailed, LinkReport}
+use Rattle.lane_history.specs.Links.{HasFailed, IsLostOnlyIfFailed, LinkReport, board_there}
 use Rattle.lane_history.specs.Runs.{IsAsTold, IsTrueRun, RepliesCame, TimeOutsWaited}
 use Rattle.lane_history.proofs.BoardLines.{line_at, line_heard, line_waited}
 use Rattle.lane_history.proofs.Shown.{some_then}
@@ -30,6 +30,7 @@ use Rattle.client_history.specs.Shown.{GaveUpOnlyAfterRounds, HasLostOnlyIfFaile
 use Rattle.client_history.specs.Shown.{OfEach, given_up}
 use Rattle.client_history.proofs.Parts.{all_outcomes, dispatches_shown, flat_again, one_dispatch_each, outcomes_shown}
 use Rattle.client_history.proofs.Parts.{same_dispatches}
+use Rattle.lane_history.proofs.Told.{of_telling}
 
 -- ---- what a line counts
 
@@ -135,21 +136,23 @@ paid_as : (settings : Limits) (spec : BoardSpec) (served : ServedBoard) (link : 
 paid_as settings spec served link (Live payload) asked is = record {
   quiets' = λ exact. all_paid (settings.rounds + 1) link.quiets served.connections
       (is.any_link.rounds.dispatches exact);
-  held' = some_then (IsTrueRun settings (opening_of spec.link) (run_of spec served) link.held)
-      (λ (b : Board). IsExact link.held → Paid settings.rounds link.held served.connections) link.board
-      (λ b true' exact. all_paid settings.rounds link.held served.connections (true'.held'.dispatches exact)) is.told;
+  held' = of_telling (IsExact link.held → Paid settings.rounds link.held served.connections) link.telling
+      (some_then (IsTrueRun settings (opening_of spec.link) (run_of spec served) link.held)
+      (λ (b : Board). IsExact link.held → Paid settings.rounds link.held served.connections) (board_there link.telling)
+      (λ b true' exact. all_paid settings.rounds link.held served.connections (true'.held'.dispatches exact)) is.told);
 }
 paid_as settings spec served link Silent asked is = record {
   quiets' = λ exact. none_paid (settings.rounds + 1) link.quiets served.connections asked;
-  held' = some_then (λ (b : Board). settings.rounds ≤ link.held)
-      (λ (b : Board). IsExact link.held → Paid settings.rounds link.held served.connections) link.board
-      (λ b waited exact. none_paid settings.rounds link.held served.connections asked) is.held;
+  held' = some_then (λ _. settings.rounds ≤ link.held)
+      (λ _. IsExact link.held → Paid settings.rounds link.held served.connections) link.telling
+      (λ t waited exact. none_paid settings.rounds link.held served.connections asked) is.held;
 }
 paid_as settings spec served link Down asked is = record {
   quiets' = λ exact. none_paid (settings.rounds + 1) link.quiets served.connections asked;
-  held' = some_then (λ (b : Board). executed b ≡ [])
-      (λ (b : Board). IsExact link.held → Paid settings.rounds link.held served.connections) link.board
-      (λ b none exact. none_paid settings.rounds link.held served.connections asked) is.untouched;
+  held' = of_telling (IsExact link.held → Paid settings.rounds link.held served.connections) link.telling
+      (some_then (λ (b : Board). executed b ≡ [])
+      (λ (b : Board). IsExact link.held → Paid settings.rounds link.held served.connections) (board_there link.telling)
+      (λ b none exact. none_paid settings.rounds link.held served.connections asked) is.untouched);
 }
 
 pub paid : (settings : Limits) (spec : BoardSpec) (served : ServedBoard) (link : LinkReport)

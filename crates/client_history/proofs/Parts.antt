@@ -1,5 +1,6 @@
 -- The parts of connections in the run of a board.
-use Rattle.std.proofs.Common.{◌≡◌, ℕ, suc, List, [], ◌∷◌, ◌++◌, length, map, refl, sym, ap, subst, ◌∙◌}
+use Rattle.std.proofs.Common.{◌≡◌, ℕ, suc, List, [], ◌∷◌, ◌++◌, length, map, Option, refl, sym, ap, subst}
+use Rattle.std.proofs.Common.{◌∙◌}
 use Rattle.std.specs.List.{flat_map}
 use Rattle.lane_record.specs.declared.outcome.Outcome.{Outcome}
 use Rattle.lane_record.specs.declared.item.Item.{Item}
@@ -9,6 +10,7 @@ use Rattle.mtu_packer.specs.Packed.{deal}
 use Rattle.script_plans.specs.declared.board_run.ClientPart.{ClientPart}
 use Rattle.script_plans.specs.Runs.{outcomes_in}
 use Rattle.board_history.specs.History as shown
+use Rattle.lane_history.specs.Lates.{AreLatesOf}
 use Rattle.lane_history.specs.Records.{IsRecordOf}
 use Rattle.client_history.specs.Connections.{bodies_of, dispatches_of, outcomes_of}
 use Rattle.client_history.specs.Boards.{part_of}
@@ -39,6 +41,17 @@ same_lengths (s ∷ ss) =
     one_length : (s : List Submission) → length (outcomes_of s) ≡ length (bodies_of s)
     one_length [] = refl
     one_length (x ∷ xs) = ap suc (one_length xs)
+
+-- ---- what came late
+
+abbrev pub lates_shown : List (List Submission) → List (List (Option (List ℕ)))
+lates_shown connections = map (λ (part : ClientPart). part.lates) (parts_of connections)
+
+-- nothing of it is shown
+pub none_late : (lates : List (Option (List ℕ))) (connections : List (List Submission))
+    → AreLatesOf lates (outcomes_shown connections) (lates_shown connections)
+none_late lates [] = tt
+none_late lates (s ∷ ss) = (tt, none_late lates ss)
 
 -- ---- dispatch by dispatch
 

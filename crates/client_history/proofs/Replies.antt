@@ -29,14 +29,14 @@ use Rattle.board_history.specs.Order.{Placed, all_placed, bodies_of as bodies_in
 use Rattle.board_history.specs.Parts.{AreRepliesOf, HasOneOrder, IsExecuted, IsExecutedOnce, IsReplyOf}
 use Rattle.board_history.proofs.Sorting.{sorted_all}
 use Rattle.board_history.specs.Runs.{opening_of}
-use Rattle.lane_history.specs.Links.{IsUntouched, LinkReport}
+use Rattle.lane_history.specs.Links.{IsUntouched, LinkReport, board_there}
 use Rattle.lane_history.specs.Runs.{IsAsTold, IsTrueRun}
 use Rattle.lane_history.proofs.BoardLines.{line_at}
 use Rattle.lane_history.proofs.Shown.{some_then}
 use Rattle.client_history.specs.Connections.{bodies_of, outcomes_of}
 use Rattle.client_history.specs.Boards.{IsAskedOnlyIfLive, IsServedOver, ServedBoard, run_of}
 use Rattle.client_history.specs.Shown.{IsRight, IsRightlyReplied, OfEach}
-use Rattle.client_history.proofs.Parts.{bodies_shown, outcomes_shown, same_lengths}
+use Rattle.client_history.proofs.Parts.{bodies_shown, lates_shown, outcomes_shown, same_lengths}
 
 -- ---- the first sends
 
@@ -51,21 +51,21 @@ Sends = (run : BoardRun) → map length (outcomes_by_client run) ≡ map length 
     → count_by is_sent (outcomes_on run) ≡ length (order (bodies_by_client run) (outcomes_by_client run))
 
 none_executed : (line : ℕ) (link : LinkReport) → IsUntouched link
-    → IfSome link.board (λ (board : Board). length (executed board) ≤ line)
+    → IfSome (board_there link.telling) (λ (board : Board). length (executed board) ≤ line)
 none_executed line link none =
-    some_then (λ (b : Board). executed b ≡ []) (λ (b : Board). length (executed b) ≤ line) link.board
+    some_then (λ (b : Board). executed b ≡ []) (λ (b : Board). length (executed b) ≤ line) (board_there link.telling)
     (λ b e. subst (λ (l : List (List ℕ)). length l ≤ line) (sym e) (omega arith)) none
 
 executed_as : Sends → (settings : Limits) (spec : BoardSpec) (served : ServedBoard) (link : LinkReport)
     (told : Greeting) → IsAsTold settings spec (run_of spec served) link told
-    → IfSome link.board
+    → IfSome (board_there link.telling)
     (λ (board : Board). length (executed board) ≤ places_told (line_at (run_of spec served) told))
 executed_as sends settings spec served link (Live payload) is =
     let run = run_of spec served in
     let placed_bodies = order (bodies_by_client run) (outcomes_by_client run) in
     let many = sends run (same_lengths served.connections) in
     some_then (IsTrueRun settings (opening_of spec.link) run link.held)
-    (λ (b : Board). length (executed b) ≤ count_by is_sent (outcomes_on run)) link.board
+    (λ (b : Board). length (executed b) ≤ count_by is_sent (outcomes_on run)) (board_there link.telling)
     (λ b true'.
     let few = length_front (executed b) (bodies_in placed_bodies) true'.executed_once.front in
     let same = length-map placed_bodies (λ (p : Placed). p.body) in
@@ -190,7 +190,8 @@ right_all opening done more (s ∷ ss) at few replies = (
 
 replied_rightly : (opening : CellMap) (done : List (List ℕ)) (connections : List (List Submission))
     → HasOneOrder (bodies_shown connections) (outcomes_shown connections)
-    → IsExecutedOnce (order (bodies_shown connections) (outcomes_shown connections)) (outcomes_shown connections) done
+    → IsExecutedOnce (order (bodies_shown connections) (outcomes_shown connections)) (outcomes_shown connections)
+    (lates_shown connections) done
     → AreRepliesOf opening (order (bodies_shown connections) (outcomes_shown connections))
     (outcomes_shown connections)
     → OfEach (IsRightlyReplied opening done) connections
@@ -218,31 +219,34 @@ none_replied opening done (s ∷ ss) none = (
 
 replied_as : (settings : Limits) (spec : BoardSpec) (served : ServedBoard) (link : LinkReport) (told : Greeting)
     → IsAskedOnlyIfLive told served.connections → IsAsTold settings spec (run_of spec served) link told
-    → IfSome link.board
+    → IfSome (board_there link.telling)
     (λ (board : Board). OfEach (IsRightlyReplied (opening_of spec.link) (executed board)) served.connections)
 replied_as settings spec served link (Live payload) asked is =
     some_then (IsTrueRun settings (opening_of spec.link) (run_of spec served) link.held)
-    (λ (b : Board). OfEach (IsRightlyReplied (opening_of spec.link) (executed b)) served.connections) link.board
+    (λ (b : Board). OfEach (IsRightlyReplied (opening_of spec.link) (executed b)) served.connections)
+    (board_there link.telling)
     (λ b true'. replied_rightly (opening_of spec.link) (executed b) served.connections is.any_link.one_order
     true'.executed_once true'.replies) is.told
 replied_as settings spec served link Silent asked is =
     some_then (λ (b : Board). executed b ≡ [])
-    (λ (b : Board). OfEach (IsRightlyReplied (opening_of spec.link) (executed b)) served.connections) link.board
+    (λ (b : Board). OfEach (IsRightlyReplied (opening_of spec.link) (executed b)) served.connections)
+    (board_there link.telling)
     (λ b e. none_replied (opening_of spec.link) (executed b) served.connections asked) is.untouched
 replied_as settings spec served link Down asked is =
     some_then (λ (b : Board). executed b ≡ [])
-    (λ (b : Board). OfEach (IsRightlyReplied (opening_of spec.link) (executed b)) served.connections) link.board
+    (λ (b : Board). OfEach (IsRightlyReplied (opening_of spec.link) (executed b)) served.connections)
+    (board_there link.telling)
     (λ b e. none_replied (opening_of spec.link) (executed b) served.connections asked) is.untouched
 
 pub executed_within : Sends → (settings : Limits) (spec : BoardSpec) (served : ServedBoard) (link : LinkReport)
     → IsServedOver settings spec served link
-    → IfSome link.board
+    → IfSome (board_there link.telling)
     (λ (board : Board). length (executed board) ≤ places_told (line_at (run_of spec served) served.told))
 executed_within sends settings spec served link is =
     executed_as sends settings spec served link served.told is.as_told
 
 pub are_replied : (settings : Limits) (spec : BoardSpec) (served : ServedBoard) (link : LinkReport)
     → IsServedOver settings spec served link
-    → IfSome link.board
+    → IfSome (board_there link.telling)
     (λ (board : Board). OfEach (IsRightlyReplied (opening_of spec.link) (executed board)) served.connections)
 are_replied settings spec served link is = replied_as settings spec served link served.told is.asked is.as_told

@@ -8,7 +8,7 @@ use Rattle.script_plans.specs.declared.greeting.Greeting.{Greeting}
 use Rattle.script_plans.specs.declared.greeting.Greeting.TheVariants.{Live, Silent, Down}
 use Rattle.script_plans.specs.declared.board_run.ClientPart.{ClientPart}
 use Rattle.script_plans.specs.declared.board_run.BoardRun.{BoardRun}
-use Rattle.lane_history.specs.Links.{IsBoardOf, LinkReport}
+use Rattle.lane_history.specs.Links.{IsBoardOf, LinkReport, board_there}
 use Rattle.lane_history.specs.Runs.{IsAsTold}
 use Rattle.client_history.specs.Connections.{bodies_of, outcomes_of}
 
@@ -19,7 +19,7 @@ pub record ServedBoard : Type 0 where
   pub connections : List (List Submission)
 
 -- A connection as a client of a run: each dispatch has one body. A body comes as it is, so there are no operations of
--- which it has pieces.
+-- which it has pieces. A connection is told of its body once, so it is shown no late answer.
 abbrev pub part_of : List Submission → ClientPart
 part_of submissions = record {
   planned = record {
@@ -28,6 +28,7 @@ part_of submissions = record {
     counts = map (λ (s : Submission). 1) submissions;
   };
   outcomes = outcomes_of submissions;
+  lates = [];
 }
 
 -- a served board as a run of its connections
@@ -45,7 +46,7 @@ IsAskedOnlyIfLive Down connections = AllByRecursion (λ (submissions : List Subm
 pub record IsServedOver (settings : Limits) (spec : BoardSpec) (served : ServedBoard) (link : LinkReport) : Type 0
   where
     pub asked : IsAskedOnlyIfLive served.told served.connections
-    pub board' : IsBoardOf spec.link link.board
+    pub board' : IsBoardOf spec.link (board_there link.telling)
     pub as_told : IsAsTold settings spec (run_of spec served) link served.told
 
 -- The same of all boards, in order: there is one link for each.

@@ -86,5 +86,5 @@ pub record GaveUpOnlyAfterRounds (settings : Limits) (link : LinkReport) (connec
   where
     pub quiets' : IsExact link.quiets
         → AllByRecursion (λ (s : List Submission). (settings.rounds + 1) * given_up s ≤ link.quiets) connections
-    pub held' : IfSome link.board (λ board. IsExact link.held
+    pub held' : IfSome link.telling (λ _. IsExact link.held
         → AllByRecursion (λ (s : List Submission). settings.rounds * given_up s ≤ link.held) connections)

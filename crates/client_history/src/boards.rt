@@ -13,7 +13,7 @@ ghost use Rattle.transcript.specs.Lines.{board_line, is_lost};
 ghost use Rattle.transcript.specs.Shown.{places_told};
 ghost use Rattle.board_history.specs.Parts.{IsReplied};
 ghost use Rattle.board_history.specs.Runs.{greeting_of, opening_of};
-ghost use Rattle.lane_history.specs.Links.{IsFaithful, LinkReport};
+ghost use Rattle.lane_history.specs.Links.{IsFaithful, LinkReport, board_there};
 ghost use Rattle.lane_history.specs.Runs.{RepliesCame, TimeOutsWaited};
 ghost use Rattle.client_history.specs.Boards.{AreServedOver, IsServedAt, IsServedOver, ServedBoard, run_of};
 ghost use Rattle.client_history.specs.Connections.{outcomes_of};
@@ -43,9 +43,10 @@ pub fn each_body_has_a_place_of_its_own()
 pub fn a_board_that_tells_executed_what_was_replied()
     ensures executed { (settings : Limits) (spec : BoardSpec) (served : ServedBoard) (link : LinkReport) →
         IsServedOver settings spec served link →
-        IfSome link.board (λ board. length (executed board) ≤ places_told (board_line (run_of spec served))) }
+        IfSome (board_there link.telling)
+        (λ board. length (executed board) ≤ places_told (board_line (run_of spec served))) }
     ensures replied { (settings : Limits) (spec : BoardSpec) (served : ServedBoard) (link : LinkReport) →
-        IsServedOver settings spec served link → IfSome link.board
+        IsServedOver settings spec served link → IfSome (board_there link.telling)
         (λ board. OfEach (IsRightlyReplied (opening_of spec.link) (executed board)) served.connections) }
 {
     the_first_sends_are_the_order();

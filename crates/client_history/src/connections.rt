@@ -22,7 +22,7 @@ ghost use Rattle.hub_multiplexer.specs.Ends.{Ends};
 ghost use Rattle.script_plans.specs.declared.greeting.Greeting.TheVariants.{Live};
 ghost use Rattle.transcript.specs.declared.line.BoardLine.TheVariants as board_lines;
 ghost use Rattle.transcript.specs.Lines.{board_line};
-ghost use Rattle.lane_history.specs.Links.{IsBoardOf, LinkReport};
+ghost use Rattle.lane_history.specs.Links.{IsBoardOf, LinkReport, board_there};
 ghost use Rattle.lane_history.specs.Lanes.{IsSoundLane};
 ghost use Rattle.lane_history.specs.Records.{IsRecordOf};
 ghost use Rattle.lane_history.specs.Runs.{TellsPayload};
@@ -78,10 +78,11 @@ pub fn connections_of_a_hub_keep_the_limits()
 /// shown.
 pub fn a_finished_lane_was_served()
     ensures { (settings : Limits) (spec : BoardSpec) (link : LinkReport) (payload : ℕ)
-        (connections : List (List Submission)) (items : List Item) (outcomes : List (Option Outcome)) (give_ups : ℕ) →
-        IsBoardOf spec.link link.board → TellsPayload spec.link payload →
+        (connections : List (List Submission)) (items : List Item) (outcomes : List (Option Outcome))
+        (lates : List (Option (List ℕ))) (give_ups : ℕ) →
+        IsBoardOf spec.link (board_there link.telling) → TellsPayload spec.link payload →
         IsRecordOf (map bodies_of connections) (map dispatches_of connections) items →
-        IsSoundLane settings (opening_of spec.link) link items outcomes give_ups →
+        IsSoundLane settings (opening_of spec.link) link items outcomes lates give_ups →
         IsServedOver settings spec (record { told = Live payload; connections = connections }) link }
 {
     a_finished_lane_is_live();
@@ -91,9 +92,9 @@ pub fn a_finished_lane_was_served()
 /// replied to, timed out and lost with the link. `Lane::sent` and `Lane::counts` answer them.
 pub fn a_finished_lane_tells_the_numbers_of_its_line()
     ensures { (settings : Limits) (status : BoardStatus) (hub : Hub) (items : List Item)
-        (outcomes : List (Option Outcome)) (give_ups : ℕ) (down spent : Bool) (telling : Option Telling)
-        (faults quiets : ℕ) (spec : BoardSpec) (payload : ℕ) (connections : List (List Submission)) →
-        IsLane settings status hub items outcomes give_ups down spent telling faults quiets →
+        (outcomes : List (Option Outcome)) (lates : List (Option (List ℕ))) (give_ups : ℕ) (down spent : Bool)
+        (telling : Option Telling) (faults quiets : ℕ) (spec : BoardSpec) (payload : ℕ) (connections : List (List Submission)) →
+        IsLane settings status hub items outcomes lates give_ups down spent telling faults quiets →
         IsRecordOf (map bodies_of connections) (map dispatches_of connections) items →
         board_line (run_of spec (record { told = Live payload; connections = connections })) ≡
         board_lines.Live spec.name (length hub.sent) (count_by is_replied outcomes) (timeouts outcomes)

@@ -14,7 +14,7 @@ use Rattle.config_input.specs.Work.{ConfigCommand}
 
 -- every link tells what its board did, as that of a simulated board does
 abbrev pub AllTell : List LinkReport → Type 0
-AllTell links = AllByRecursion (λ (link : LinkReport). is_some link.board ≡ true) links
+AllTell links = AllByRecursion (λ (link : LinkReport). is_some link.telling ≡ true) links
 
 -- Of the steps of the one client that a command runs, what the links that were given back show, the status and the text:
 pub record IsWritten (session : Session) (steps : List Step) (links : List LinkReport) (status : ℕ) (text : List ℕ)
@@ -30,8 +30,8 @@ pub record IsWritten (session : Session) (steps : List Step) (links : List LinkR
   pub told : status ≡ run_status (transcript_of (steps ∷ []) runs).clients
 
 -- At every status: the bytes stand for a session by which the command runs these steps, and the links are those of its
--- first boards, in order, each given back once; what each board executed is a merge of bodies that the steps ask of it,
--- in their order.
+-- first boards, in order, each given back once; what was sent to each board, and so what it executed, is a merge of
+-- bodies that the steps ask of it, in their order.
 pub record RanSomeFor (command : ConfigCommand) (bytes : List ℕ) (links : List LinkReport) : Type 0 where
   pub session : Session
   pub steps : List (List Step)

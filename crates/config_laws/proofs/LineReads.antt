@@ -1,8 +1,8 @@
 -- What good lines show of a client that reads single words.
 use Rattle.std.proofs.Common.{◌≡◌, ℕ, zero, suc, ◌+◌, ◌≤◌, true, false, List, [], ◌∷◌, ◌++◌, length, map, Option, Some}
 use Rattle.std.proofs.Common.{None, Ok, inl, inr, refl, sym, ap, ◌∙◌, subst, arith}
-use Rattle.std.specs.Prelude.{is_some, unwrap_or}
-use Rattle.std.specs.List.{AllByRecursion, slice_get, zip}
+use Rattle.std.specs.Prelude.{is_some}
+use Rattle.std.specs.List.{AllByRecursion, slice_get}
 use Rattle.std.proofs.lemmas.Option.{same_Some}
 use Rattle.ipb_base.specs.Numbers.{payload_of}
 use Rattle.transaction_codec.specs.declared.request.Op.{Op}
@@ -18,7 +18,6 @@ use Rattle.board_node.specs.declared.spec.BoardSpec.{BoardSpec}
 use Rattle.board_node.specs.declared.spec.LinkSpec.{LinkSpec}
 use Rattle.board_node.specs.declared.spec.LinkSpec.TheVariants.{Sim, Udp}
 use Rattle.board_node.specs.OpeningWords.{OpensOnWords}
-use Rattle.world_model.specs.Board.{Board}
 use Rattle.world_model.specs.Settings.{Limits}
 use Rattle.lane_record.specs.declared.outcome.Outcome.TheVariants.{Replied}
 use Rattle.script_steps.specs.declared.operation.RegOp.{RegOp}
@@ -39,8 +38,10 @@ use Rattle.transcript.specs.declared.line.OpLine.{OpLine}
 use Rattle.transcript.specs.declared.line.OpResult.{OpResult}
 use Rattle.transcript.specs.declared.line.OpResult.TheVariants.{Value}
 use Rattle.transcript.specs.Claims.{IsDone, IsDoneResult}
-use Rattle.transcript.specs.Ends.{answered, end_of, ends_of, piece_result, result_in, told_at, told_by, told_of}
-use Rattle.transcript.specs.Results.{combined, first_fault, is_good, shown, values_in}
+use Rattle.transcript.specs.Ends.{answered, end_of, ends_of, ends_with, piece_result, result_in, told_at, told_by}
+use Rattle.transcript.specs.Ends.{told_of}
+use Rattle.transcript.specs.Results.{combined, is_good}
+use Rattle.transcript.proofs.GoodResults.{good_piece}
 use Rattle.transcript.specs.Lines.{by_pieces, client_lines, line_of, lines_from, shown_behind, showing}
 use Rattle.transcript.proofs.Allowed.{allowed-append, asked_allowed}
 use Rattle.board_history.specs.InTurn.{IsUsedByOne, outcomes_from}
@@ -52,11 +53,12 @@ use Rattle.board_history.proofs.Asking.{op_at}
 use Rattle.board_history.proofs.BusLines.{session_holds}
 use Rattle.board_history.proofs.Lists.{all_at}
 use Rattle.board_history.proofs.Readiness.{ArePackedFor, IsReady, all_verbs_kept, is_ready}
-use Rattle.lane_history.specs.Links.{CanBeMade, IsBoardOf, LinkReport}
+use Rattle.lane_history.specs.Links.{CanBeMade, IsBoardOf, LinkReport, board_there}
 use Rattle.lane_history.specs.Runs.{AreRunsOver, ShowAloneRunsWhereTold}
 use Rattle.config_laws.specs.Reads.{IsMaskedRead, IsWordRead, ReadSingleWords, ShowsOpeningWord, base_of}
 use Rattle.config_laws.proofs.BusReads.{IsThere}
 use Rattle.config_laws.proofs.PlanReads.{IsReadAt, both_all, planned_reads, reads_of}
+use Rattle.world_core.specs.Telling.{Telling}
 
 -- ---- good results
 
@@ -73,15 +75,12 @@ bad_result r good bad = let both : true ≡ false = sym good ∙ bad in absurd c
 
 -- a read of one piece is good where its piece is, and shows the field of its word
 one_piece : (mask word : ℕ) (r : OpResult) → (is_good r ≡ true → r ≡ Value (word ∷ []))
-    → is_good (combined verb.Read mask (r ∷ [])) ≡ true → combined verb.Read mask (r ∷ []) ≡ Value (field word mask ∷ [])
+    → is_good (combined verb.Read mask (r ∷ [])) ≡ true
+    → combined verb.Read mask (r ∷ []) ≡ Value (field word mask ∷ [])
 one_piece mask word r there good = elim (is_good r) as
     (λ b. is_good r ≡ b → combined verb.Read mask (r ∷ []) ≡ Value (field word mask ∷ [])) [
       | true ↦ λ is. ap (λ (x : OpResult). combined verb.Read mask (x ∷ [])) (there is)
-      | false ↦ λ is.
-          let fault : first_fault (r ∷ []) ≡ Some r = rw is refl in
-          let same : combined verb.Read mask (r ∷ []) ≡ r =
-          ap (λ (o : Option OpResult). unwrap_or o (shown verb.Read mask (values_in r ++ []))) fault in
-          absurd (bad_result r (subst (λ (x : OpResult). is_good x ≡ true) same good) is)
+      | false ↦ λ is. absurd (bad_result r (good_piece verb.Read mask r good) is)
     ] refl
 
 -- ---- boards
@@ -98,11 +97,12 @@ lives_of (Sim mtu buffers first ranges fates) here =
     record { payload = payload_of mtu; is = refl; low = omega (arith, bounds.0) }
 lives_of (Udp address port wait) here = absurd here
 
-here_of : (link : LinkSpec) (board : Option Board) → CanBeMade link → IsBoardOf link board → is_some board ≡ true
+here_of : (link : LinkSpec) (telling : Option Telling) → CanBeMade link → IsBoardOf link (board_there telling)
+    → is_some telling ≡ true
     → RunsHere link
-here_of (Sim mtu buffers first ranges fates) board made of tells = made
+here_of (Sim mtu buffers first ranges fates) telling made of tells = made
 here_of (Udp address port wait) None made of tells = absurd cc
-here_of (Udp address port wait) (Some b) made of tells = absurd of
+here_of (Udp address port wait) (Some t) made of tells = absurd of
 
 one_asks : (bodies : List (List ℕ)) → IsUsedByOne (bodies ∷ [])
 one_asks [] = tt
@@ -124,7 +124,7 @@ pub record BoardAt (specs : List BoardSpec) (steps : List Step) (board k : ℕ) 
 pub board_at : PacksWords → (settings : Limits) (first : ℕ) (specs : List BoardSpec) (steps : List Step)
     (runs : List BoardRun) (links : List LinkReport) → AreRunsOver settings first specs (steps ∷ []) runs links
     → ShowAloneRunsWhereTold first specs (steps ∷ []) runs links
-    → AllByRecursion (λ (link : LinkReport). is_some link.board ≡ true) links
+    → AllByRecursion (λ (link : LinkReport). is_some link.telling ≡ true) links
     → AllByRecursion (λ (spec : BoardSpec). CanBeMade spec.link) specs → AllByRecursion OpensOnWords specs
     → AllByRecursion AreExecutable (steps ∷ []) → (k : ℕ) (run : BoardRun) → slice_get runs k ≡ Some run
     → BoardAt specs steps (first + k) k run
@@ -133,7 +133,7 @@ board_at packs settings first [] steps (r ∷ runs) links is alone tell made wor
 board_at packs settings first (spec ∷ specs) steps [] links is alone tell made words can k run at = absurd cc
 board_at packs settings first (spec ∷ specs) steps (r ∷ runs) [] is alone tell made words can k run at = absurd is
 board_at packs settings first (spec ∷ specs) steps (r ∷ runs) (l ∷ links) is alone tell made words can zero run at =
-    let here = here_of spec.link l.board made.0 is.0.board' tell.0 in
+    let here = here_of spec.link l.telling made.0 is.0.board' tell.0 in
     let one : IsUsedByOne (bodies_by_client r) =
     used_by_one r.parts (planned_on first r.greeting steps) is.0.scripts'.plans in
     let same : first ≡ first + 0 = omega arith in
@@ -186,15 +186,16 @@ Answered = (cells : CellMap) (part : List Op) (answers : List Answer) (i : ℕ) 
 -- how the body of this number ended
 record EndsAs (cells : CellMap) (ends : List BodyEnd) (b : ℕ) (part : List Op) : Type 0 where
   place : ℕ
-  here : slice_get ends b ≡ Some (end_of (body_words part, Replied place (run_body cells (body_words part)).reply))
+  here : slice_get ends b
+      ≡ Some (end_of (body_words part) (Replied place (run_body cells (body_words part)).reply) None)
 
 ends_as : BusStays → (place : ℕ) (cells : CellMap) (parts : List (List Op)) → AreReadable parts
     → AllByRecursion (AllByRecursion IsWordRead) parts → (b : ℕ) (part : List Op) → slice_get parts b ≡ Some part
-    → EndsAs cells (map end_of (zip (map body_words parts) (outcomes_from place cells (map body_words parts)))) b part
+    → EndsAs cells (ends_with (map body_words parts) (outcomes_from place cells (map body_words parts)) []) b part
 ends_as stays place cells [] readable reads b part at = absurd cc
 ends_as stays place cells (p ∷ parts) readable reads zero part at = record {
   place = place;
-  here = ap (λ (x : List Op). Some (end_of (body_words x, Replied place (run_body cells (body_words x)).reply)))
+  here = ap (λ (x : List Op). Some (end_of (body_words x) (Replied place (run_body cells (body_words x)).reply) None))
       (same_Some p part at);
 }
 ends_as stays place cells (p ∷ parts) readable reads (suc b) part at =
@@ -202,8 +203,8 @@ ends_as stays place cells (p ∷ parts) readable reads (suc b) part at =
     record {
       place = later.place;
       here = subst (λ (left : CellMap).
-          slice_get (map end_of (zip (map body_words parts) (outcomes_from (place + 1) left (map body_words parts)))) b
-          ≡ Some (end_of (body_words part, Replied later.place (run_body cells (body_words part)).reply)))
+          slice_get (ends_with (map body_words parts) (outcomes_from (place + 1) left (map body_words parts)) []) b
+          ≡ Some (end_of (body_words part) (Replied later.place (run_body cells (body_words part)).reply) None))
           (sym (stays cells p readable.0 reads.0)) later.here;
     }
 
@@ -212,7 +213,7 @@ module _ (answering : Answering) (any : AnsweringAny) (keeping : Keeping) (keepi
   told_there : (cells : CellMap) (place : ℕ) (part : List Op) (i : ℕ) (op : Op) → HoldsWords cells
       → AreRequests (body_requests part) → AllByRecursion IsWordRead part → slice_get part i ≡ Some op
       → IsThere cells op
-      (told_at (told_of (body_words part) (Replied place (run_body cells (body_words part)).reply)) i)
+      (told_at (told_of (body_words part) (Replied place (run_body cells (body_words part)).reply) None) i)
   told_there cells place part i op holds ranges reads at =
       let body = body_words part in
       let told : IsTold body (Replied place (run_body cells body).reply) =
@@ -246,24 +247,22 @@ module _ (answering : Answering) (any : AnsweringAny) (keeping : Keeping) (keepi
               shown' = ap (λ (v : Verb). combined v op.mask (r ∷ [])) reads.verb'
                   ∙ one_piece op.mask found.0 r (λ _. found.2) masked;
             }
-        | false ↦ λ bad.
-            let fault : first_fault (r ∷ []) ≡ Some r = rw bad refl in
-            let same : combined verb.Read op.mask (r ∷ []) ≡ r =
-            ap (λ (o : Option OpResult). unwrap_or o (shown verb.Read op.mask (values_in r ++ []))) fault in
-            absurd (bad_result r (subst (λ (x : OpResult). is_good x ≡ true) same masked) bad)
+        | false ↦ λ bad. absurd (bad_result r (good_piece verb.Read op.mask r masked) bad)
       ] refl
 
   alone_part : (stays : BusStays) (cells : CellMap) (planned : ClientBodies) (k : ℕ) (op : RegOp) → HoldsWords cells
       → IsMaskedRead op → IsReadAt planned k op.op
-      → let part : ClientPart = record { planned = planned; outcomes = outcomes_from 1 cells planned.bodies } in
+      → let part : ClientPart =
+      record { planned = planned; outcomes = outcomes_from 1 cells planned.bodies; lates = [] } in
       is_good (by_pieces part op (slice_get planned.pieces k)).0 ≡ true
       → WordShown cells op (by_pieces part op (slice_get planned.pieces k)).0
   alone_part stays cells planned k op holds reads is =
-      let part : ClientPart = record { planned = planned; outcomes = outcomes_from 1 cells planned.bodies } in
+      let part : ClientPart =
+      record { planned = planned; outcomes = outcomes_from 1 cells planned.bodies; lates = [] } in
       let mine : List (List ℕ) → List BodyEnd =
-      λ (bodies : List (List ℕ)). map end_of (zip bodies (outcomes_from 1 cells bodies)) in
+      λ (bodies : List (List ℕ)). ends_with bodies (outcomes_from 1 cells bodies) [] in
       let ended = ends_as stays 1 cells is.parts is.readable is.reads is.place.body is.part is.there in
-      let end = end_of (body_words is.part, Replied ended.place (run_body cells (body_words is.part)).reply) in
+      let end = end_of (body_words is.part) (Replied ended.place (run_body cells (body_words is.part)).reply) None in
       let here : slice_get (ends_of part) is.place.body ≡ Some end =
       ap (λ (bodies : List (List ℕ)). slice_get (mine bodies) is.place.body) is.bodies' ∙ ended.here in
       let ranges = all_at (λ (p : List Op). AreRequests (body_requests p)) is.parts is.place.body is.part is.readable
@@ -362,7 +361,7 @@ module _ (answering : Answering) (any : AnsweringAny) (keeping : Keeping) (keepi
   pub session_shown : BusStays → PacksWords → (settings : Limits) (specs : List BoardSpec) (steps : List Step)
       (runs : List BoardRun) (links : List LinkReport) → AreRunsOver settings 0 specs (steps ∷ []) runs links
       → ShowAloneRunsWhereTold 0 specs (steps ∷ []) runs links
-      → AllByRecursion (λ (link : LinkReport). is_some link.board ≡ true) links
+      → AllByRecursion (λ (link : LinkReport). is_some link.telling ≡ true) links
       → AllByRecursion (λ (spec : BoardSpec). CanBeMade spec.link) specs → AllByRecursion OpensOnWords specs
       → AreExecutable steps → ReadSingleWords steps
       → AllByRecursion (AllByRecursion IsDone) (lines_from runs 0 (steps ∷ []))

@@ -1,8 +1,7 @@
 -- What is shown of the operations of a client alone on a board, where each of them was done.
-use Rattle.std.proofs.Common.{◌≡◌, ℕ, zero, suc, ◌+◌, ◌<◌, true, false, List, [], ◌∷◌, ◌++◌, length, map}
+use Rattle.std.proofs.Common.{◌≡◌, ℕ, zero, suc, ◌+◌, ◌<◌, true, List, [], ◌∷◌, ◌++◌, length, map}
 use Rattle.std.proofs.Common.{Option, Some, None, refl, sym, ap, ◌∙◌, subst, arith, length-append}
-use Rattle.std.specs.Prelude.{unwrap_or}
-use Rattle.std.specs.List.{flat_map, range_with_len, slice_get, zip}
+use Rattle.std.specs.List.{flat_map, range_with_len, slice_get}
 use Rattle.std.specs.Option.{option_map}
 use Rattle.std.proofs.lemmas.List.{length-map}
 use Rattle.std.proofs.lemmas.List.FromFn.{length-range_with_len}
@@ -12,14 +11,14 @@ use Rattle.transaction_codec.specs.declared.request.Op.{Op}
 use Rattle.board_bus.specs.Cells.{CellMap, HoldsWords}
 use Rattle.board_bus.specs.Transactions.{outcome}
 use Rattle.script_steps.specs.declared.operation.RegOp.{RegOp}
-use Rattle.script_steps.specs.declared.operation.Verb.{Verb}
 use Rattle.script_plans.specs.declared.board_run.ClientPart.{ClientPart}
 use Rattle.script_plans.specs.declared.planned.PieceAt.{PieceAt}
 use Rattle.script_plans.specs.Plan.{ClientBodies}
 use Rattle.transcript.specs.declared.body_end.BodyEnd.{BodyEnd}
 use Rattle.transcript.specs.declared.line.OpResult.{OpResult}
-use Rattle.transcript.specs.Ends.{end_of, ends_of, piece_result}
-use Rattle.transcript.specs.Results.{combined, first_fault, is_good, shown, values_in}
+use Rattle.transcript.specs.Ends.{ends_of, ends_with, piece_result}
+use Rattle.transcript.specs.Results.{combined, is_good, shown}
+use Rattle.transcript.proofs.GoodResults.{good_piece}
 use Rattle.transcript.specs.Lines.{by_pieces}
 use Rattle.board_history.specs.InTurn.{outcomes_from}
 use Rattle.board_history.proofs.Answering.{Answering, AnsweringAny, Garbling, Joins, Keeping, KeepingAll}
@@ -29,19 +28,6 @@ use Rattle.config_laws.proofs.TurnOps.{AreAllDone, done_behind, shown_done, told
 use Rattle.config_laws.proofs.TurnBodies.{AllGood, OneAnswer}
 use Rattle.config_laws.proofs.TurnParts.{ends, parts_done, results_at, spots, spots_in}
 use Rattle.config_laws.proofs.TurnPlans.{IsLaidOut}
-
--- ---- one piece
-
--- an operation of one piece is good where its piece is
-good_piece : (verb : Verb) (mask : ℕ) (r : OpResult) → is_good (combined verb mask (r ∷ [])) ≡ true → is_good r ≡ true
-good_piece verb mask r good = elim (is_good r) as (λ b. is_good r ≡ b → is_good r ≡ true) [
-  | true ↦ λ is. is
-  | false ↦ λ is.
-      let fault : first_fault (r ∷ []) ≡ Some r = rw is refl in
-      let same : combined verb mask (r ∷ []) ≡ r =
-      ap (λ (o : Option OpResult). unwrap_or o (shown verb mask (values_in r ++ []))) fault in
-      subst (λ (x : OpResult). is_good x ≡ true) same good
-] refl
 
 -- ---- as many places as operations
 
@@ -65,7 +51,8 @@ get_there (x ∷ xs) (suc k) within = get_there xs k (omega arith)
 
 -- what became of these bodies where nobody else asked for any
 abbrev pub part_alone : CellMap → ClientBodies → ClientPart
-part_alone cells planned = record { planned = planned; outcomes = outcomes_from 1 cells planned.bodies }
+part_alone cells planned =
+    record { planned = planned; outcomes = outcomes_from 1 cells planned.bodies; lates = [] }
 
 -- for each operation on the board something good is shown
 abbrev pub AllShownGood : CellMap → ClientBodies → List Op → Type 0
@@ -87,7 +74,7 @@ module _ (success : Successes) (failure : Failures) (only : OneAnswer) (answerin
 
     ends_are : ends_of (part_alone cells planned) ≡ ends 1 cells laid.parts
     ends_are =
-        ap (λ (bodies : List (List ℕ)). map end_of (zip bodies (outcomes_from 1 cells bodies))) laid.bodies'
+        ap (λ (bodies : List (List ℕ)). ends_with bodies (outcomes_from 1 cells bodies) []) laid.bodies'
 
     -- what the operation of a number came to
     piece_at_place : (k : ℕ) (asked : RegOp) (p : PieceAt) → slice_get places k ≡ Some p
@@ -114,7 +101,8 @@ module _ (success : Successes) (failure : Failures) (only : OneAnswer) (answerin
           (subst (λ (r : OpResult). is_good r ≡ true) (piece_at_place k asked.0 p at) asked.1)
 
       good_from : (ps : List PieceAt)
-          → ((k : ℕ) (p : PieceAt) → slice_get ps k ≡ Some p → is_good (piece_result (ends 1 cells laid.parts) p) ≡ true)
+          → ((k : ℕ) (p : PieceAt) → slice_get ps k ≡ Some p
+          → is_good (piece_result (ends 1 cells laid.parts) p) ≡ true)
           → AllGood (map (piece_result (ends 1 cells laid.parts)) ps)
       good_from [] look = tt
       good_from (p ∷ ps) look = (look zero p refl, good_from ps (λ k q at. look (suc k) q at))
@@ -134,7 +122,8 @@ module _ (success : Successes) (failure : Failures) (only : OneAnswer) (answerin
         let count : length places ≡ length before + suc (length later) =
         spots_count 0 laid.parts ∙ ap length split_parts ∙ length-append before (op.op ∷ later) in
         let found = get_there places (length before) (omega (arith, count)) in
-        let here : Some (piece_result (ends 1 cells laid.parts) found.0) ≡ Some (told_turn (after_ops cells before) op.op) =
+        let here : Some (piece_result (ends 1 cells laid.parts) found.0)
+        ≡ Some (told_turn (after_ops cells before) op.op) =
         sym (slice_get-map (piece_result (ends 1 cells laid.parts)) places (length before)
         ∙ ap (option_map (piece_result (ends 1 cells laid.parts))) found.1)
         ∙ ap (λ (rs : List OpResult). slice_get rs (length before)) told ∙ turn_behind cells before later op.op in
@@ -142,6 +131,7 @@ module _ (success : Successes) (failure : Failures) (only : OneAnswer) (answerin
           done = none;
           shown' = piece_at_place (length before) op found.0 found.1
               ∙ ap (λ (r : OpResult). combined op.verb op.mask (r ∷ []))
-              (same_Some (piece_result (ends 1 cells laid.parts) found.0) (told_turn (after_ops cells before) op.op) here)
+              (same_Some (piece_result (ends 1 cells laid.parts) found.0) (told_turn (after_ops cells before) op.op)
+              here)
               ∙ shown_done (after_ops cells before) op.op op.verb op.mask none;
         }

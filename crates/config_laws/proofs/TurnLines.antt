@@ -319,7 +319,7 @@ module _ (success : Successes) (failure : Failures) (only : OneAnswer) (answerin
   pub turns_shown : PacksWords → (settings : Limits) (specs : List BoardSpec) (steps : List Step) (runs : List BoardRun)
       (links : List LinkReport) → AreRunsOver settings 0 specs (steps ∷ []) runs links
       → ShowAloneRunsWhereTold 0 specs (steps ∷ []) runs links
-      → AllByRecursion (λ (link : LinkReport). is_some link.board ≡ true) links
+      → AllByRecursion (λ (link : LinkReport). is_some link.telling ≡ true) links
       → AllByRecursion (λ (spec : BoardSpec). CanBeMade spec.link) specs → AllByRecursion OpensOnWords specs
       → AreExecutable steps → StepsAreOn (length specs) steps → AreOfOneWord steps
       → AllByRecursion IsDone (client_lines runs 0 steps)

@@ -1,7 +1,7 @@
 -- The bodies of a client alone on a board, where each of their operations was done.
-use Rattle.std.proofs.Common.{◌≡◌, ℕ, ◌+◌, true, List, [], ◌∷◌, ◌++◌, length, map, Option, Some}
+use Rattle.std.proofs.Common.{◌≡◌, ℕ, ◌+◌, true, List, [], ◌∷◌, ◌++◌, length, map, Option, Some, None}
 use Rattle.std.proofs.Common.{refl, sym, ap, ◌∙◌, subst, arith, append_assoc, length-append}
-use Rattle.std.specs.List.{flat_map, range_with_len, slice_get, zip}
+use Rattle.std.specs.List.{flat_map, range_with_len, slice_get}
 use Rattle.std.proofs.lemmas.List.{map-append}
 use Rattle.ipb_base.proofs.AllLemmas.{back_of_all, front_of_all}
 use Rattle.world_model.proofs.Lists.{get_seam}
@@ -18,7 +18,7 @@ use Rattle.transcript.specs.declared.body_end.BodyEnd.{BodyEnd}
 use Rattle.transcript.specs.declared.body_end.Told.{Told}
 use Rattle.transcript.specs.declared.body_end.Told.TheVariants.{Answered}
 use Rattle.transcript.specs.declared.line.OpResult.{OpResult}
-use Rattle.transcript.specs.Ends.{answered, end_of, piece_result, result_in, told_at, told_by, told_of}
+use Rattle.transcript.specs.Ends.{answered, end_of, ends_with, piece_result, result_in, told_at, told_by, told_of}
 use Rattle.transcript.specs.Results.{is_good}
 use Rattle.board_history.specs.InTurn.{outcomes_from}
 use Rattle.board_history.proofs.Answering.{Answering, AnsweringAny, Garbling, IsTold, Joins, Keeping, KeepingAll}
@@ -44,7 +44,7 @@ spots body (part ∷ parts) = spots_in body (length part) ++ spots (body + 1) pa
 -- ---- what they came to
 
 abbrev told_body : ℕ → CellMap → List Op → Told
-told_body place cells part = told_of (body_words part) (Replied place (run_body cells (body_words part)).reply)
+told_body place cells part = told_of (body_words part) (Replied place (run_body cells (body_words part)).reply) None
 
 abbrev told_part : ℕ → CellMap → List Op → List OpResult
 told_part place cells part = map (told_at (told_body place cells part)) (range_with_len 0 (length part))
@@ -55,7 +55,7 @@ results place cells (part ∷ parts) =
     told_part place cells part ++ results (place + 1) (run_body cells (body_words part)).cells parts
 
 abbrev pub ends : ℕ → CellMap → List (List Op) → List BodyEnd
-ends place cells parts = map end_of (zip (map body_words parts) (outcomes_from place cells (map body_words parts)))
+ends place cells parts = ends_with (map body_words parts) (outcomes_from place cells (map body_words parts)) []
 
 spots_told : (all : List BodyEnd) (body : ℕ) (end : BodyEnd) → slice_get all body ≡ Some end → (places : List ℕ)
     → map (piece_result all) (map (spot body) places) ≡ map (told_at end.told) places
@@ -69,7 +69,7 @@ results_behind : (front : List BodyEnd) (place : ℕ) (cells : CellMap) (parts :
 results_behind front place cells [] = refl
 results_behind front place cells (part ∷ parts) =
     let left = (run_body cells (body_words part)).cells in
-    let end : BodyEnd = end_of (body_words part, Replied place (run_body cells (body_words part)).reply) in
+    let end : BodyEnd = end_of (body_words part) (Replied place (run_body cells (body_words part)).reply) None in
     let all = front ++ end ∷ ends (place + 1) left parts in
     let more : length (front ++ end ∷ []) ≡ length front + 1 = omega (arith, length-append front (end ∷ [])) in
     map-append (piece_result all) (spots_in (length front) (length part)) (spots (length front + 1) parts)

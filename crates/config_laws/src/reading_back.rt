@@ -78,7 +78,7 @@ pub fn a_saved_text_is_written_again()
         HaveOwnNames specs → HaveWordNames (indexed specs indexes) → HaveFields (indexed specs indexes) →
         applying_faults (indexed specs indexes) state ≡ [] → AreInOrder state → AllByRecursion HasWord state →
         AreRunsOver settings 0 specs (steps ∷ []) runs links →
-        AllByRecursion (λ link. is_some link.board ≡ true) links →
+        AllByRecursion (λ link. is_some link.telling ≡ true) links →
         AllByRecursion (λ spec. CanBeMade spec.link) specs → AllByRecursion OpensOnWords specs → AreExecutable steps →
         run_status (transcript_of (steps ∷ []) runs).clients ≡ 0 →
         state_text specs (client_lines runs 0 steps) ≡ saved_text others entries }

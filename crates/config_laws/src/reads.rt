@@ -53,7 +53,7 @@ pub fn a_body_of_word_reads_answers_what_is_there()
 pub fn good_reads_show_the_words_that_boards_open_with()
     ensures { (settings : Limits) (specs : List BoardSpec) (steps : List Step) (runs : List BoardRun)
         (links : List LinkReport) → AreRunsOver settings 0 specs (steps ∷ []) runs links →
-        AllByRecursion (λ link. is_some link.board ≡ true) links →
+        AllByRecursion (λ link. is_some link.telling ≡ true) links →
         AllByRecursion (λ spec. CanBeMade spec.link) specs → AllByRecursion OpensOnWords specs → AreExecutable steps →
         ReadSingleWords steps → run_status (transcript_of (steps ∷ []) runs).clients ≡ 0 →
         AllByRecursion (ShowsOpeningWord specs steps) (client_lines runs 0 steps) }

@@ -33,7 +33,7 @@ pub fn a_saved_text_is_that_of_the_opening_values()
         (runs : List BoardRun) (links : List LinkReport) →
         steps ≡ steps_from specs indexes 1 (save_lines (kept_of (indexed specs indexes))) → HaveOwnNames specs →
         HaveWordNames (indexed specs indexes) → AreRunsOver settings 0 specs (steps ∷ []) runs links →
-        AllByRecursion (λ link. is_some link.board ≡ true) links →
+        AllByRecursion (λ link. is_some link.telling ≡ true) links →
         AllByRecursion (λ spec. CanBeMade spec.link) specs → AllByRecursion OpensOnWords specs → AreExecutable steps →
         run_status (transcript_of (steps ∷ []) runs).clients ≡ 0 →
         (entries : List StateEntry) × AreSaved specs (kept_of (indexed specs indexes)) entries

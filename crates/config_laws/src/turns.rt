@@ -30,7 +30,7 @@ use transcript::laws::the_status_tells_whether_all_was_done;
 pub fn good_lines_show_operations_one_after_another()
     ensures { (settings : Limits) (specs : List BoardSpec) (steps : List Step) (runs : List BoardRun)
         (links : List LinkReport) → AreRunsOver settings 0 specs (steps ∷ []) runs links →
-        AllByRecursion (λ link. is_some link.board ≡ true) links →
+        AllByRecursion (λ link. is_some link.telling ≡ true) links →
         AllByRecursion (λ spec. CanBeMade spec.link) specs → AllByRecursion OpensOnWords specs → AreExecutable steps →
         StepsAreOn (length specs) steps → AreOfOneWord steps → run_status (transcript_of (steps ∷ []) runs).clients ≡ 0 →
         ShowTurns specs [] (asked steps) (client_lines runs 0 steps) }

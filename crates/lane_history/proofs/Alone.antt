@@ -1,6 +1,5 @@
 -- One client that uses a board alone, over a link that may lose, repeat and delay datagrams.
-use Rattle.std.proofs.Common.{◌≡◌, ℕ, ◌+◌, true, List, [], ◌∷◌, Option, Some, None, refl, ◌∙◌, subst}
-use Rattle.std.specs.Prelude.{is_some}
+use Rattle.std.proofs.Common.{◌≡◌, ℕ, ◌+◌, List, [], ◌∷◌, Some, ◌∙◌, subst}
 use Rattle.std.specs.List.{AllByRecursion}
 use Rattle.board_node.specs.declared.spec.BoardSpec.{BoardSpec}
 use Rattle.world_model.specs.Board.{Board}
@@ -13,9 +12,11 @@ use Rattle.board_history.specs.Parts.{HasOneOrder, KeepsScripts, AllReplied}
 use Rattle.board_history.specs.InTurn.{AreInTurn, IsUsedByOne}
 use Rattle.board_history.specs.History.{bodies_by_client, outcomes_by_client}
 use Rattle.board_history.specs.Runs.{IsRun, board_run}
-use Rattle.lane_history.specs.Links.{LinkReport}
+use Rattle.lane_history.specs.Links.{LinkReport, board_there}
 use Rattle.lane_history.specs.Runs.{IsLiveRun, IsAsTold, IsRunOver, AreRunsOver, ShowAloneRunsWhereTold}
+use Rattle.lane_history.proofs.Lates.{in_time}
 use Rattle.lane_history.proofs.Shown.{is_history, told_greeting}
+use Rattle.lane_history.proofs.Told.{told_there}
 
 -- a client alone is in turn
 abbrev pub InTurn : Type 0
@@ -29,7 +30,7 @@ OneRun = (spec : BoardSpec) (board : ℕ) (scripts : List (List Step)) (run : Bo
 
 pub alone_replied : InTurn → OneRun → (settings : Limits) (spec : BoardSpec) (board : ℕ) (scripts : List (List Step))
     (run : BoardRun) (link : LinkReport) (there : Board) (payload : ℕ) → IsRunOver settings spec board scripts run link
-    → run.greeting ≡ Live payload → link.board ≡ Some there → IsUsedByOne (bodies_by_client run)
+    → run.greeting ≡ Live payload → board_there link.telling ≡ Some there → IsUsedByOne (bodies_by_client run)
     → AllReplied (outcomes_by_client run) → run ≡ board_run spec board scripts
 alone_replied in_turn only settings spec board scripts run link there payload is greeted tells one replied =
     let live : IsLiveRun settings spec payload run link =
@@ -37,10 +38,12 @@ alone_replied in_turn only settings spec board scripts run link there payload is
     let history = is_history settings spec board scripts run link there payload is greeted tells in
     only spec board scripts run (record {
       name = is.scripts'.name;
-      greeting = greeted ∙ told_greeting spec.link link.board there payload tells is.board' live.any_link.packets;
+      greeting = greeted ∙ told_greeting spec.link (board_there link.telling) there payload tells is.board'
+          live.any_link.packets;
       plans = is.scripts'.plans;
       history = history;
       replied = replied;
+      in_time = in_time run.parts replied is.lates.timed_out;
       in_turn = in_turn (bodies_by_client run) (outcomes_by_client run) one history.one_order history.script_order;
     })
 
@@ -48,12 +51,8 @@ alone_replied in_turn only settings spec board scripts run link there payload is
 abbrev pub AloneReplied : Type 0
 AloneReplied = (settings : Limits) (spec : BoardSpec) (board : ℕ) (scripts : List (List Step)) (run : BoardRun)
     (link : LinkReport) (there : Board) (payload : ℕ) → IsRunOver settings spec board scripts run link
-    → run.greeting ≡ Live payload → link.board ≡ Some there → IsUsedByOne (bodies_by_client run)
+    → run.greeting ≡ Live payload → board_there link.telling ≡ Some there → IsUsedByOne (bodies_by_client run)
     → AllReplied (outcomes_by_client run) → run ≡ board_run spec board scripts
-
-who_tells : (board : Option Board) → is_some board ≡ true → (there : Board) × (board ≡ Some there)
-who_tells None tells = absurd cc
-who_tells (Some there) tells = (there, refl)
 
 pub all_alone : AloneReplied → (settings : Limits) (board : ℕ) (specs : List BoardSpec) (scripts : List (List Step))
     (runs : List BoardRun) (links : List LinkReport) → AreRunsOver settings board specs scripts runs links
@@ -66,7 +65,7 @@ all_alone law settings board (spec ∷ specs) scripts [] links is replied = absu
 all_alone law settings board (spec ∷ specs) scripts (run ∷ runs) [] is replied = absurd is
 all_alone law settings board (spec ∷ specs) scripts (run ∷ runs) (link ∷ links) is replied = (
   λ payload greeted tells one.
-      let there = who_tells link.board tells in
+      let there = told_there link.telling tells in
       law settings spec board scripts run link there.0 payload is.0 greeted there.1 one replied.0,
   all_alone law settings (board + 1) specs scripts runs links is.1 replied.1,
 )

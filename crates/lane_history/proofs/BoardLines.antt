@@ -3,7 +3,7 @@ use Rattle.std.proofs.Common.{◌≡◌, ℕ, ◌+◌, ◌*◌, ◌≤◌, List,
 use Rattle.std.specs.Prelude.{IfSome}
 use Rattle.std.specs.List.{AllZip, count_by}
 use Rattle.board_node.specs.declared.spec.BoardSpec.{BoardSpec}
-use Rattle.world_model.specs.Board.{Board}
+use Rattle.world_core.specs.Telling.{Telling}
 use Rattle.world_model.specs.Settings.{Limits}
 use Rattle.script_steps.specs.declared.operation.Step.{Step}
 use Rattle.lane_record.specs.Outcomes.{is_timed_out}
@@ -17,7 +17,7 @@ use Rattle.script_plans.specs.Runs.{outcomes_on}
 use Rattle.board_history.specs.GiveUps.{IsExact, time_outs}
 use Rattle.board_history.specs.History.{dispatches_by_client}
 use Rattle.board_history.specs.Runs.{opening_of}
-use Rattle.lane_history.specs.Links.{LinkReport}
+use Rattle.lane_history.specs.Links.{LinkReport, board_there}
 use Rattle.lane_history.specs.Runs.{AreRunsOver, IsAsTold, IsTrueRun, ShowsScripts}
 use Rattle.lane_history.specs.Runs.{RepliesCame, TimeOutsWaited}
 
@@ -30,13 +30,13 @@ Counting = (spec : BoardSpec) (board : ℕ) (scripts : List (List Step)) (run : 
     → time_outs (dispatches_by_client run) ≡ count_by is_timed_out (outcomes_on run)
 
 -- so many datagrams were held, where the link tells
-held_by_line : (settings : Limits) (spec : BoardSpec) (run : BoardRun) (held : ℕ) (there : Option Board)
+held_by_line : (settings : Limits) (spec : BoardSpec) (run : BoardRun) (held : ℕ) (telling : Option Telling)
     → time_outs (dispatches_by_client run) ≡ count_by is_timed_out (outcomes_on run)
-    → IfSome there (IsTrueRun settings (opening_of spec.link) run held)
-    → IfSome there (λ _. IsExact held
+    → IfSome (board_there telling) (IsTrueRun settings (opening_of spec.link) run held)
+    → IfSome telling (λ _. IsExact held
     → settings.rounds * count_by is_timed_out (outcomes_on run) ≤ settings.window * held)
 held_by_line settings spec run held None same told = tt
-held_by_line settings spec run held (Some there) same told =
+held_by_line settings spec run held (Some t) same told =
     subst (λ (n : ℕ). IsExact held → settings.rounds * n ≤ settings.window * held) same told.held'.bodies
 
 abbrev pub line_at : BoardRun → Greeting → BoardLine
@@ -52,7 +52,7 @@ pub line_waited : (settings : Limits) (spec : BoardSpec) (run : BoardRun) (link 
 line_waited settings spec run link (Live payload) same live = (
   subst (λ (n : ℕ). IsExact link.quiets → (settings.rounds + 1) * n ≤ settings.window * link.quiets) same
       live.any_link.rounds.bodies,
-  held_by_line settings spec run link.held link.board same live.told,
+  held_by_line settings spec run link.held link.telling same live.told,
 )
 line_waited settings spec run link Silent same silent = tt
 line_waited settings spec run link Down same down = tt

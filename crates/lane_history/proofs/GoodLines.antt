@@ -1,9 +1,9 @@
 -- Where all lines of a run are good, each body was replied to.
-use Rattle.std.proofs.Common.{◌≡◌, ℕ, zero, suc, ◌+◌, ◌<◌, ◌==◌, cond, Bool, true, false, List, [], ◌∷◌, ◌++◌, length}
+use Rattle.std.proofs.Common.{◌≡◌, ℕ, zero, suc, ◌+◌, ◌<◌, ◌==◌, cond, true, false, List, [], ◌∷◌, ◌++◌, length}
 use Rattle.std.proofs.Common.{map, Option, Some, None, option_to_list, refl, sym, ap, subst, ◌∙◌, inl, inr, arith}
-use Rattle.std.proofs.Common.{if◌then◌else◌}
+use Rattle.std.proofs.Common.{drop, get_or, if◌then◌else◌}
 use Rattle.std.specs.Prelude.{unwrap_or}
-use Rattle.std.specs.List.{AllByRecursion, Any, flat_map, slice_get, zip}
+use Rattle.std.specs.List.{AllByRecursion, Any, flat_map, slice_get}
 use Rattle.std.specs.Option.{option_map}
 use Rattle.std.proofs.lemmas.Bool.{cases_Bool}
 use Rattle.std.proofs.lemmas.Bool.Decides.{nat_tests}
@@ -26,14 +26,16 @@ use Rattle.script_plans.specs.Runs.{ArePlanned}
 use Rattle.script_plans.proofs.Covering.{count_by-append, each_has_pieces}
 use Rattle.transcript.specs.declared.body_end.BodyEnd.{BodyEnd}
 use Rattle.transcript.specs.declared.line.OpLine.{OpLine}
+use Rattle.script_steps.specs.declared.operation.Verb.{Verb}
 use Rattle.transcript.specs.declared.line.OpResult.{OpResult}
 use Rattle.transcript.specs.Claims.{IsDone, IsDoneResult}
-use Rattle.transcript.specs.Ends.{end_of, ends_of, told_of, told_at, result_in, piece_result}
-use Rattle.transcript.specs.Results.{first_fault, is_good, op_result, shown, values_in}
+use Rattle.transcript.specs.Ends.{end_of, ends_of, ends_with, told_of, told_timed_out, told_at, result_in, piece_result}
+use Rattle.transcript.specs.Results.{first_not_done, is_good, op_result, shown, shown_not_done, values_in}
 use Rattle.transcript.specs.Lines.{showing, line_of, lines_behind, client_lines, lines_from}
 use Rattle.transcript.proofs.Allowed.{allowed-append, asked_allowed}
+use Rattle.transcript.proofs.GoodResults.{shown_as_good}
 use Rattle.board_history.specs.Parts.{IsReplied, AllReplied}
-use Rattle.board_history.specs.History.{IsOrdered, bodies_by_client, outcomes_by_client}
+use Rattle.board_history.specs.History.{IsOrdered, outcomes_by_client}
 
 abbrev pub IsGood : OpLine → Type 0
 IsGood line = is_good line.result ≡ true
@@ -138,28 +140,29 @@ module _ (runs : List BoardRun) (client board : ℕ) (run : BoardRun) (there : s
 
 -- ---- from operations to pieces
 
-faults_are_bad : (rs : List OpResult) (r : OpResult) → first_fault rs ≡ Some r → is_good r ≡ false
+faults_are_bad : (rs : List OpResult) (r : OpResult) → first_not_done rs ≡ Some r → is_good r ≡ false
 faults_are_bad [] r is = absurd cc
 faults_are_bad (x ∷ xs) r is = elim (is_good x) as
-    (λ b. is_good x ≡ b → (if b then first_fault xs else Some x) ≡ Some r → is_good r ≡ false) [
+    (λ b. is_good x ≡ b → (if b then first_not_done xs else Some x) ≡ Some r → is_good r ≡ false) [
       | true ↦ λ _ h. faults_are_bad xs r h
       | false ↦ λ bad h. subst (λ y. is_good y ≡ false) (same_Some x r h) bad
     ] refl is
 
-none_bad : (rs : List OpResult) (otherwise : OpResult) (found : Option OpResult) → first_fault rs ≡ found
-    → is_good (unwrap_or found otherwise) ≡ true → first_fault rs ≡ None
-none_bad rs otherwise None is good = is
-none_bad rs otherwise (Some r) is good =
-    let bad = faults_are_bad rs r is in
+none_bad : (v : Verb) (mask : ℕ) (rs : List OpResult) (otherwise : OpResult) (found : Option OpResult)
+    → first_not_done rs ≡ found → is_good (unwrap_or (option_map (shown_not_done v mask) found) otherwise) ≡ true
+    → first_not_done rs ≡ None
+none_bad v mask rs otherwise None is good = is
+none_bad v mask rs otherwise (Some r) is good =
+    let bad = shown_as_good v mask r ∙ faults_are_bad rs r is in
     let both : true ≡ false = sym good ∙ bad in absurd cc
 
 record BothGood (r : OpResult) (rs : List OpResult) : Type 0 where
   first : is_good r ≡ true
-  rest : first_fault rs ≡ None
+  rest : first_not_done rs ≡ None
 
-both_good : (r : OpResult) (rs : List OpResult) → first_fault (r ∷ rs) ≡ None → BothGood r rs
+both_good : (r : OpResult) (rs : List OpResult) → first_not_done (r ∷ rs) ≡ None → BothGood r rs
 both_good r rs is = elim (is_good r) as
-    (λ b. is_good r ≡ b → (if b then first_fault rs else Some r) ≡ None → BothGood r rs) [
+    (λ b. is_good r ≡ b → (if b then first_not_done rs else Some r) ≡ None → BothGood r rs) [
       | true ↦ λ good h. record { first = good; rest = h }
       | false ↦ λ _ h. absurd cc
     ] refl is
@@ -169,7 +172,7 @@ abbrev ToldGood : BodyEnd → Type 0
 ToldGood end = (index : ℕ) × (is_good (told_at end.told index) ≡ true)
 
 told_good : (ends : List BodyEnd) (body : ℕ) (end : BodyEnd) → slice_get ends body ≡ Some end
-    → (pieces : List PieceAt) → first_fault (map (piece_result ends) pieces) ≡ None
+    → (pieces : List PieceAt) → first_not_done (map (piece_result ends) pieces) ≡ None
     → Any (λ (p : PieceAt). p.body ≡ body) pieces → ToldGood end
 told_good ends body end at [] none any = absurd (any_nowhere (λ (p : PieceAt). p.body ≡ body) any)
 told_good ends body end at (p ∷ ps) none any =
@@ -184,36 +187,45 @@ told_good ends body end at (p ∷ ps) none any =
     ]
 
 op_good : (ends : List BodyEnd) (op : RegOp) (pieces : List PieceAt) → is_good (op_result ends op pieces) ≡ true
-    → first_fault (map (piece_result ends) pieces) ≡ None
+    → first_not_done (map (piece_result ends) pieces) ≡ None
 op_good ends op pieces good =
-    none_bad (map (piece_result ends) pieces)
+    none_bad op.verb op.mask (map (piece_result ends) pieces)
     (shown op.verb op.mask (flat_map values_in (map (piece_result ends) pieces)))
-    (first_fault (map (piece_result ends) pieces)) refl good
+    (first_not_done (map (piece_result ends) pieces)) refl good
 
 -- ---- from pieces to bodies
 
-good_was_replied : (body : List ℕ) (o : Outcome) (index : ℕ) → is_good (told_at (told_of body o) index) ≡ true
-    → IsReplied o
-good_was_replied body (Replied place words) index good = tt
-good_was_replied body (TimedOut place rounds) index good = absurd cc
-good_was_replied body Unsent index good = absurd cc
-good_was_replied body (LinkLost place) index good = absurd cc
+late_is_bad : (body : List ℕ) (rounds : ℕ) (late : Option (List ℕ)) (index : ℕ)
+    → is_good (told_at (told_timed_out body rounds late) index) ≡ false
+late_is_bad body rounds None index = refl
+late_is_bad body rounds (Some words) index = refl
 
-all_good_were_replied : (bodies : List (List ℕ)) (outcomes : List Outcome) → length outcomes ≡ length bodies
-    → ((j : ℕ) (end : BodyEnd) → j < length bodies → slice_get (map end_of (zip bodies outcomes)) j ≡ Some end
+good_was_replied : (body : List ℕ) (o : Outcome) (late : Option (List ℕ)) (index : ℕ)
+    → is_good (told_at (told_of body o late) index) ≡ true → IsReplied o
+good_was_replied body (Replied place words) late index good = tt
+good_was_replied body (TimedOut place rounds) late index good =
+    absurd (let both : true ≡ false = sym good ∙ late_is_bad body rounds late index in cc)
+good_was_replied body Unsent late index good = absurd cc
+good_was_replied body (LinkLost place) late index good = absurd cc
+
+all_good_were_replied : (bodies : List (List ℕ)) (outcomes : List Outcome) (lates : List (Option (List ℕ)))
+    → length outcomes ≡ length bodies
+    → ((j : ℕ) (end : BodyEnd) → j < length bodies → slice_get (ends_with bodies outcomes lates) j ≡ Some end
     → ToldGood end) → AllByRecursion IsReplied outcomes
-all_good_were_replied [] [] long good = tt
-all_good_were_replied [] (o ∷ os) long good = absurd (omega (arith, long))
-all_good_were_replied (b ∷ bs) [] long good = tt
-all_good_were_replied (b ∷ bs) (o ∷ os) long good =
-    let here = good 0 (end_of (b, o)) (omega arith) refl in (
-      good_was_replied b o here.0 here.1,
-      all_good_were_replied bs os (omega (arith, long)) (λ j end within at. good (suc j) end (omega (arith, within)) at),
+all_good_were_replied [] [] lates long good = tt
+all_good_were_replied [] (o ∷ os) lates long good = absurd (omega (arith, long))
+all_good_were_replied (b ∷ bs) [] lates long good = tt
+all_good_were_replied (b ∷ bs) (o ∷ os) lates long good =
+    let late = get_or lates 0 None in
+    let here = good 0 (end_of b o late) (omega arith) refl in (
+      good_was_replied b o late here.0 here.1,
+      all_good_were_replied bs os (drop 1 lates) (omega (arith, long))
+          (λ j end within at. good (suc j) end (omega (arith, within)) at),
     )
 
 nothing_asked : (part : ClientPart) → length part.outcomes ≡ length part.planned.bodies → part.planned.bodies ≡ []
     → AllByRecursion IsReplied part.outcomes
-nothing_asked part long none = all_good_were_replied part.planned.bodies part.outcomes long
+nothing_asked part long none = all_good_were_replied part.planned.bodies part.outcomes part.lates long
     (λ j end within at. absurd (omega (arith, within, ap length none)))
 
 shown_good : (run : BoardRun) (client k payload : ℕ) (op : RegOp) (part : ClientPart) (pieces : List PieceAt)
@@ -231,7 +243,7 @@ module _ (law : (payload board : ℕ) (steps : List Step) (body : ℕ)
         → length part.outcomes ≡ length part.planned.bodies
         → AllByRecursion IsGood (client_lines runs client steps) → AllByRecursion IsReplied part.outcomes
     live_part payload client steps part greeted at planned long all =
-        all_good_were_replied part.planned.bodies part.outcomes long (λ j end within ended.
+        all_good_were_replied part.planned.bodies part.outcomes part.lates long (λ j end within ended.
         let has : HasPiece j part.planned.pieces =
         subst (λ (p : ClientBodies). j < length p.bodies → HasPiece j p.pieces) (sym planned)
         (law payload board steps j) within in

@@ -1,8 +1,9 @@
 -- Over a link that tells: what the board executed, and its replies.
-use Rattle.std.proofs.Common.{◌≡◌, ℕ, ◌+◌, ◌≤◌, List, [], ◌∷◌, ◌++◌, length, map}
+use Rattle.std.proofs.Common.{◌≡◌, ◌≢◌, ℕ, zero, suc, ◌+◌, ◌≤◌, List, [], ◌∷◌, ◌++◌, length, map}
 use Rattle.std.proofs.Common.{Option, Some, None, refl, sym, ap, ◌∙◌, subst, if◌then◌else◌}
 use Rattle.std.specs.Prelude.{is_some, IfSome}
 use Rattle.std.specs.List.{AllByRecursion, slice_get}
+use Rattle.std.proofs.lemmas.Option.{same_Some}
 use Rattle.ipb_base.specs.Lists.{IsPrefix}
 use Rattle.ipb_base.proofs.AllLemmas.{all-map}
 use Rattle.board_bus.specs.Cells.{CellMap}
@@ -14,14 +15,17 @@ use Rattle.world_model.proofs.Lists.{at_front, at_within}
 use Rattle.lane_record.specs.declared.outcome.Outcome.{Outcome}
 use Rattle.lane_record.specs.declared.outcome.Outcome.TheVariants.{Replied, TimedOut, Unsent, LinkLost}
 use Rattle.lane_record.specs.declared.item.Item.{Item}
-use Rattle.lane_record.specs.Outcomes.{place_of}
+use Rattle.lane_record.specs.Outcomes.{AreSettled, place_of}
 use Rattle.lane_record.specs.Claims.{Claim, claims, taken, outcome_taken, IsFinished}
 use Rattle.lane_record.specs.Legal.{IsLegal}
+use Rattle.lane_record.specs.Lates.{late_in}
 use Rattle.lane_record.specs.Offers.{offers_from}
 use Rattle.lane_record.proofs.Finished.{outcomes_taken}
 use Rattle.board_history.specs.Order.{Placed, with_place, order, bodies_of}
-use Rattle.board_history.specs.Parts.{IsReplyOf, IsExecuted, IsExecutedOnce, AreRepliesOf}
+use Rattle.board_history.specs.Parts.{IsReplyOf, IsExecuted, IsExecutedOnce, AreRepliesOf, AreLateRepliesOf}
 use Rattle.lane_history.specs.Lanes.{bodies_offered, IsTrueOf}
+use Rattle.lane_history.specs.Lates.{AreLatesOf}
+use Rattle.lane_history.proofs.Lates.{lates_executed, late_replies}
 use Rattle.lane_history.proofs.Steps.{Step, steps_of, steps, outcome_in, of, all_of, AreOf}
 use Rattle.lane_history.proofs.Steps.{AreStepsOfAll, all_at}
 use Rattle.lane_history.proofs.Orders.{sent, AreInOrder, order_is}
@@ -72,6 +76,20 @@ became_outcomes P items became legal done all = steps_outcomes P (claims items) 
     (all_at (λ (o : Option Outcome). IfSome o P) became
     (λ k o e. if_there P o (λ p same. all k p (e ∙ ap (λ z. Some z) same)))))
 
+-- where each Ask has its Took something became of it
+all_some : (f : Claim → Option Outcome) (cs : List Claim)
+    → AllByRecursion (λ (c : Claim). (o : Outcome) × (f c ≡ Some o)) cs → (k : ℕ)
+    → slice_get (map f cs) k ≢ Some None
+all_some f [] all k none = absurd cc
+all_some f (c ∷ cs) all zero none =
+    let here : f c ≡ None = same_Some (f c) None none in absurd (let both = sym here ∙ all.0.1 in cc)
+all_some f (c ∷ cs) all (suc k) none = all_some f cs all.1 k none
+
+pub are_settled : (items : List Item) (became : List (Option Outcome)) → IsLegal items became → IsFinished items
+    → AreSettled became
+are_settled items became legal done = λ k none. all_some (outcome_taken items) (claims items) done k
+    (ap (λ (os : List (Option Outcome)). slice_get os k) (sym (outcomes_taken items became legal done)) ∙ none)
+
 -- ---- what may have been sent was sent
 
 abbrev pub offered_body : Offered → List ℕ
@@ -105,59 +123,89 @@ offered_are_sent items became legal done =
 
 -- ---- replays
 
-reply_in_order : (opening : CellMap) (done all : List (List ℕ)) → IsPrefix done all → (o : Outcome)
-    → IsReplyOf (replay opening done).replies o → IsReplyOf (replay opening all).replies o
-reply_in_order opening done all front (Replied place words) is =
+-- the reply of a front is that of the whole
+same_in_whole : (opening : CellMap) (done all : List (List ℕ)) → IsPrefix done all → (place : ℕ) (words : List ℕ)
+    → at_place (replay opening done).replies place ≡ Some words
+    → at_place (replay opening all).replies place ≡ Some words
+same_in_whole opening done all front place words is =
     let more = (replay (replay opening done).cells front.0).replies in
     subst (λ (bs : List (List ℕ)). at_place (replay opening bs).replies place ≡ Some words) (sym front.1)
     (subst (λ (rs : List (List ℕ)). at_place rs place ≡ Some words) (sym (replay-append-replies opening done front.0))
     (at_front (replay opening done).replies more place words is))
+
+-- and its body is among the front
+place_executed : (opening : CellMap) (done : List (List ℕ)) (place : ℕ) (words : List ℕ)
+    → at_place (replay opening done).replies place ≡ Some words → place ≤ length done
+place_executed opening done place words is = subst (λ (n : ℕ). place ≤ n) (replay-length opening done)
+    (at_within (replay opening done).replies place words is)
+
+reply_in_order : (opening : CellMap) (done all : List (List ℕ)) → IsPrefix done all → (o : Outcome)
+    → IsReplyOf (replay opening done).replies o → IsReplyOf (replay opening all).replies o
+reply_in_order opening done all front (Replied place words) is =
+    same_in_whole opening done all front place words is
 reply_in_order opening done all front (TimedOut place rounds) is = tt
 reply_in_order opening done all front Unsent is = tt
 reply_in_order opening done all front (LinkLost place) is = tt
 
 pub reply_executed : (opening : CellMap) (done : List (List ℕ)) (o : Outcome)
     → IsReplyOf (replay opening done).replies o → IsExecuted (length done) o
-reply_executed opening done (Replied place words) is = subst (λ (n : ℕ). place ≤ n) (replay-length opening done)
-    (at_within (replay opening done).replies place words is)
+reply_executed opening done (Replied place words) is = place_executed opening done place words is
 reply_executed opening done (TimedOut place rounds) is = tt
 reply_executed opening done Unsent is = tt
 reply_executed opening done (LinkLost place) is = tt
 
 -- ---- the history
 
--- what the board executed is a front of what was sent, and each reply is that of this front
-pub record IsTrueOfSteps (opening : CellMap) (ss : List Step) (done : List (List ℕ)) : Type 0 where
+-- What the board executed is a front of what was sent, and each reply is that of this front. So is what came late at a
+-- place.
+pub record IsTrueOfSteps (opening : CellMap) (ss : List Step) (lates : List (Option (List ℕ)))
+    (done : List (List ℕ)) : Type 0 where
   pub front : IsPrefix done (bodies_of (sent ss))
   pub replies : AllByRecursion (λ (s : Step). IsReplyOf (replay opening done).replies s.outcome) ss
+  pub late : (place : ℕ) (words : List ℕ) → late_in lates place ≡ Some words
+      → at_place (replay opening done).replies place ≡ Some words
 
-pub true_steps : (opening : CellMap) (items : List Item) (became : List (Option Outcome)) (done : List (List ℕ))
-    → IsLegal items became → IsFinished items → IsTrueOf opening (claims items) became done
-    → IsTrueOfSteps opening (steps items) done
-true_steps opening items became done legal all is = record {
+pub true_steps : (opening : CellMap) (items : List Item) (became : List (Option Outcome))
+    (lates : List (Option (List ℕ))) (done : List (List ℕ)) → IsLegal items became → IsFinished items
+    → IsTrueOf opening (claims items) became lates done → IsTrueOfSteps opening (steps items) lates done
+true_steps opening items became lates done legal all is = record {
   front = subst (IsPrefix done) (offered_are_sent items became legal all) is.front;
   replies = became_outcomes (IsReplyOf (replay opening done).replies) items became legal all is.replies;
+  late = is.late;
 }
 
-pub executed_once : (bodies : List (List (List ℕ))) (outcomes : List (List Outcome)) (ss : List Step)
-    (opening : CellMap) (done : List (List ℕ)) → AreStepsOfAll bodies outcomes ss → AreInOrder ss
-    → IsTrueOfSteps opening ss done → IsExecutedOnce (order bodies outcomes) outcomes done
-executed_once bodies outcomes ss opening done are counts is = record {
-  front = subst (λ (ps : List Placed). IsPrefix done (bodies_of ps)) (sym (order_is bodies outcomes ss are counts))
-      is.front;
-  replied = each_outcome (IsExecuted (length done)) bodies outcomes ss are
+module _ (bodies : List (List (List ℕ))) (outcomes : List (List Outcome)) (ss : List Step) (opening : CellMap)
+    (lates : List (Option (List ℕ))) (done : List (List ℕ)) (are : AreStepsOfAll bodies outcomes ss)
+    (counts : AreInOrder ss) (is : IsTrueOfSteps opening ss lates done) where
+  pub executed_once : (shown : List (List (Option (List ℕ)))) → AreLatesOf lates outcomes shown
+      → IsExecutedOnce (order bodies outcomes) outcomes shown done
+  executed_once shown of_lane = record {
+    front = subst (λ (ps : List Placed). IsPrefix done (bodies_of ps)) (sym (order_is bodies outcomes ss are counts))
+        is.front;
+    replied = each_outcome (IsExecuted (length done)) bodies outcomes ss are
+        (all-map (λ (s : Step). IsReplyOf (replay opening done).replies s.outcome)
+        (λ (s : Step). IsExecuted (length done) s.outcome) ss (λ s r. reply_executed opening done s.outcome r)
+        is.replies);
+    late = lates_executed lates (length done)
+        (λ place words came. place_executed opening done place words (is.late place words came)) outcomes shown
+        of_lane;
+  }
+
+  pub replies_of : AreRepliesOf opening (order bodies outcomes) outcomes
+  replies_of =
+      let all = bodies_of (sent ss) in
+      subst (λ (ps : List Placed). AreRepliesOf opening ps outcomes) (sym (order_is bodies outcomes ss are counts))
+      (each_outcome (IsReplyOf (replay opening all).replies) bodies outcomes ss are
       (all-map (λ (s : Step). IsReplyOf (replay opening done).replies s.outcome)
-      (λ (s : Step). IsExecuted (length done) s.outcome) ss (λ s r. reply_executed opening done s.outcome r)
-      is.replies);
-}
+      (λ (s : Step). IsReplyOf (replay opening all).replies s.outcome) ss
+      (λ s r. reply_in_order opening done all is.front s.outcome r) is.replies))
 
-pub replies_of : (bodies : List (List (List ℕ))) (outcomes : List (List Outcome)) (ss : List Step) (opening : CellMap)
-    (done : List (List ℕ)) → AreStepsOfAll bodies outcomes ss → AreInOrder ss → IsTrueOfSteps opening ss done
-    → AreRepliesOf opening (order bodies outcomes) outcomes
-replies_of bodies outcomes ss opening done are counts is =
-    let all = bodies_of (sent ss) in
-    subst (λ (ps : List Placed). AreRepliesOf opening ps outcomes) (sym (order_is bodies outcomes ss are counts))
-    (each_outcome (IsReplyOf (replay opening all).replies) bodies outcomes ss are
-    (all-map (λ (s : Step). IsReplyOf (replay opening done).replies s.outcome)
-    (λ (s : Step). IsReplyOf (replay opening all).replies s.outcome) ss
-    (λ s r. reply_in_order opening done all is.front s.outcome r) is.replies))
+  pub late_replies_of : (shown : List (List (Option (List ℕ)))) → AreLatesOf lates outcomes shown
+      → AreLateRepliesOf opening (order bodies outcomes) outcomes shown
+  late_replies_of shown of_lane =
+      let all = bodies_of (sent ss) in
+      subst (λ (ps : List Placed). AreLateRepliesOf opening ps outcomes shown)
+      (sym (order_is bodies outcomes ss are counts))
+      (late_replies lates (replay opening all).replies
+      (λ place words came. same_in_whole opening done all is.front place words (is.late place words came)) outcomes
+      shown of_lane)

@@ -1,4 +1,5 @@
 pub mod Own
+pub mod Told
 mod Rans
 mod Lookups
 mod Beside
@@ -6,9 +7,10 @@ mod Planned
 pub mod Opening
 mod Steps
 mod Orders
+mod Lates
 mod Histories
 pub mod Waits
-mod Merges
+pub mod Merges
 mod Sealed
 pub mod Calm
 mod Growing

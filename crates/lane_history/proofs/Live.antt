@@ -9,6 +9,8 @@ use Rattle.board_node.specs.declared.spec.BoardSpec.{BoardSpec}
 use Rattle.world_model.specs.Board.{Board, executed}
 use Rattle.world_model.proofs.Lists.{all_get}
 use Rattle.world_model.specs.Settings.{Limits}
+use Rattle.world_core.specs.Telling.{Telling}
+use Rattle.ipb_base.proofs.AllLemmas.{all-map}
 use Rattle.script_steps.specs.declared.operation.Step.{Step}
 use Rattle.lane_record.specs.declared.outcome.Outcome.{Outcome}
 use Rattle.lane_record.specs.declared.item.Item.{Item}
@@ -16,7 +18,7 @@ use Rattle.lane_record.specs.Outcomes.{TellsRounds, is_replied}
 use Rattle.lane_record.specs.Claims.{claims, taken}
 use Rattle.lane_record.specs.FirstSends.{bodies_sent, first_sends}
 use Rattle.lane_record.specs.Legal.{IsLegal}
-use Rattle.lane_record.specs.Bounds.{AreLostOnlyIf, HasReached, TellRounds}
+use Rattle.lane_record.specs.Bounds.{AreLostOnlyIf, HasReached, IsKept, TellRounds}
 use Rattle.script_plans.specs.declared.greeting.Greeting.{Greeting}
 use Rattle.script_plans.specs.declared.greeting.Greeting.TheVariants.{Live}
 use Rattle.script_plans.specs.declared.board_run.ClientPart.{ClientPart}
@@ -24,25 +26,28 @@ use Rattle.script_plans.specs.declared.board_run.BoardRun.{BoardRun}
 use Rattle.script_plans.specs.Runs.{outcomes_on}
 use Rattle.board_history.specs.GiveUps.{IsExact}
 use Rattle.board_history.specs.Order.{order, bodies_of}
-use Rattle.board_history.specs.Parts.{HasOneOrder, KeepsScripts, IsExecutedOnce, AreRepliesOf}
+use Rattle.board_history.specs.Parts.{HasOneOrder, KeepsScripts, IsExecutedOnce, AreRepliesOf, AreLateRepliesOf}
 use Rattle.board_history.specs.History.{IsHistory, bodies_by_client, outcomes_by_client, dispatches_by_client}
-use Rattle.board_history.specs.History.{dispatches_of}
+use Rattle.board_history.specs.History.{dispatches_of, lates_by_client}
 use Rattle.lane_record.specs.Dispatches.{joined}
 use Rattle.script_plans.specs.Plan.{plans_on}
 use Rattle.board_history.specs.Runs.{opening_of}
 use Rattle.board_history.proofs.Shaped.{Standing, is_cut, whole_again, heads, lengths, IsCut}
-use Rattle.lane_history.specs.Links.{LinkReport, HasFailed, IsBoardOf, IsLostOnlyIfFailed}
+use Rattle.lane_history.specs.Links.{LinkReport, HasFailed, IsBoardOf, IsLostOnlyIfFailed, board_there}
 use Rattle.lane_history.specs.Runs.{ShowsScripts, TellsPayload, IsTrueRun, IsLiveRun, IsAsTold, IsRunOver}
-use Rattle.lane_history.specs.Runs.{HoldsOverAnyLink}
+use Rattle.lane_history.specs.Runs.{HoldsOverAnyLink, ShowsLates}
 use Rattle.lane_history.specs.Records.{IsClientsRecord, IsRecordOf, has_become}
-use Rattle.lane_history.specs.Lanes.{IsTrueOf, IsSoundLane}
+use Rattle.lane_history.specs.Lanes.{IsTrueOf, IsLateAsHanded, IsSoundLane}
+use Rattle.lane_history.specs.Lates.{AreLateExactly, AreLatesOf, AreLateOnlyIfTimedOut, lates_of}
+use Rattle.lane_history.proofs.Lates.{IsAsHanded, are_of_lane, exactly_late, of_timed_out}
 use Rattle.lane_history.proofs.Opening.{same_shape}
 use Rattle.lane_history.proofs.Steps.{steps, steps_of_all, finished}
-use Rattle.lane_history.proofs.Orders.{in_order, order_is, one_order, keeps_scripts, sent_bodies}
-use Rattle.lane_history.proofs.Histories.{true_steps, executed_once, replies_of, each_outcome}
-use Rattle.lane_history.proofs.Histories.{became_outcomes}
+use Rattle.lane_history.proofs.Orders.{AreInOrder, in_order, order_is, one_order, keeps_scripts, sent_bodies}
+use Rattle.lane_history.proofs.Histories.{IsTrueOfSteps, true_steps, executed_once, replies_of, late_replies_of}
+use Rattle.lane_history.proofs.Histories.{are_settled, became_outcomes, each_outcome}
 use Rattle.lane_history.proofs.Waits.{became_counted, has_waited, reached}
 use Rattle.lane_history.proofs.Sealed.{is_record_of}
+use Rattle.lane_history.proofs.Told.{of_board, some_then}
 
 -- ---- the outcomes of a run, dispatch by dispatch
 
@@ -95,25 +100,31 @@ in_script_order bodies outcomes items became is legal =
     keeps_scripts bodies (map joined outcomes) (steps items) (steps_of_all bodies outcomes items became is legal)
     (in_order items became legal (finished bodies outcomes items became is legal))
 
-pub done_once : (bodies : List (List (List ℕ))) (outcomes : List (List (List Outcome))) (items : List Item)
-    (became : List (Option Outcome)) (opening : CellMap) (done : List (List ℕ)) → IsRecordOf bodies outcomes items
-    → IsLegal items became → IsTrueOf opening (claims items) became done
-    → IsExecutedOnce (order bodies (map joined outcomes)) (map joined outcomes) done
-done_once bodies outcomes items became opening done is legal true' =
-    let all = finished bodies outcomes items became is legal in
-    executed_once bodies (map joined outcomes) (steps items) opening done
-    (steps_of_all bodies outcomes items became is legal) (in_order items became legal all)
-    (true_steps opening items became done legal all true')
+-- ---- over a link that tells
 
-pub are_replies : (bodies : List (List (List ℕ))) (outcomes : List (List (List Outcome))) (items : List Item)
-    (became : List (Option Outcome)) (opening : CellMap) (done : List (List ℕ)) → IsRecordOf bodies outcomes items
-    → IsLegal items became → IsTrueOf opening (claims items) became done
-    → AreRepliesOf opening (order bodies (map joined outcomes)) (map joined outcomes)
-are_replies bodies outcomes items became opening done is legal true' =
-    let all = finished bodies outcomes items became is legal in
-    replies_of bodies (map joined outcomes) (steps items) opening done
-    (steps_of_all bodies outcomes items became is legal) (in_order items became legal all)
-    (true_steps opening items became done legal all true')
+module _ (bodies : List (List (List ℕ))) (outcomes : List (List (List Outcome))) (items : List Item)
+    (became : List (Option Outcome)) (lates : List (Option (List ℕ))) (opening : CellMap) (done : List (List ℕ))
+    (is : IsRecordOf bodies outcomes items) (legal : IsLegal items became)
+    (true' : IsTrueOf opening (claims items) became lates done) where
+  ordered_steps : AreInOrder (steps items)
+  ordered_steps = in_order items became legal (finished bodies outcomes items became is legal)
+
+  truth : IsTrueOfSteps opening (steps items) lates done
+  truth = true_steps opening items became lates done legal (finished bodies outcomes items became is legal) true'
+
+  pub done_once : (shown : List (List (Option (List ℕ)))) → AreLatesOf lates (map joined outcomes) shown
+      → IsExecutedOnce (order bodies (map joined outcomes)) (map joined outcomes) shown done
+  done_once shown of_lane = executed_once bodies (map joined outcomes) (steps items) opening lates done
+      (steps_of_all bodies outcomes items became is legal) ordered_steps truth shown of_lane
+
+  pub are_replies : AreRepliesOf opening (order bodies (map joined outcomes)) (map joined outcomes)
+  are_replies = replies_of bodies (map joined outcomes) (steps items) opening lates done
+      (steps_of_all bodies outcomes items became is legal) ordered_steps truth
+
+  pub are_late_replies : (shown : List (List (Option (List ℕ)))) → AreLatesOf lates (map joined outcomes) shown
+      → AreLateRepliesOf opening (order bodies (map joined outcomes)) (map joined outcomes) shown
+  are_late_replies shown of_lane = late_replies_of bodies (map joined outcomes) (steps items) opening lates done
+      (steps_of_all bodies outcomes items became is legal) ordered_steps truth shown of_lane
 
 same_lengths : (outcomes : List (List (List Outcome)))
     → map length (map joined outcomes) ≡ map (λ (dispatches : List (List Outcome)). length (joined dispatches)) outcomes
@@ -121,14 +132,16 @@ same_lengths [] = refl
 same_lengths (os ∷ others) = ap (λ (ns : List ℕ). length (joined os) ∷ ns) (same_lengths others)
 
 pub is_history : (bodies : List (List (List ℕ))) (outcomes : List (List (List Outcome))) (items : List Item)
-    (became : List (Option Outcome)) (opening : CellMap) (done : List (List ℕ)) → IsRecordOf bodies outcomes items
-    → IsLegal items became → IsTrueOf opening (claims items) became done
-    → IsHistory opening bodies (map joined outcomes)
-is_history bodies outcomes items became opening done is legal true' = record {
+    (became : List (Option Outcome)) (lates : List (Option (List ℕ))) (shown : List (List (Option (List ℕ))))
+    (opening : CellMap) (done : List (List ℕ)) → IsRecordOf bodies outcomes items → IsLegal items became
+    → AreLatesOf lates (map joined outcomes) shown → IsTrueOf opening (claims items) became lates done
+    → IsHistory opening bodies (map joined outcomes) shown
+is_history bodies outcomes items became lates shown opening done is legal of_lane true' = record {
   shape = same_lengths outcomes ∙ same_shape 1 bodies outcomes items is.each;
   one_order = in_one_order bodies outcomes items became is legal;
   script_order = in_script_order bodies outcomes items became is legal;
-  replies = are_replies bodies outcomes items became opening done is legal true';
+  replies = are_replies bodies outcomes items became lates opening done is legal true';
+  late = are_late_replies bodies outcomes items became lates opening done is legal true' shown of_lane;
 }
 
 pub order_sent : (bodies : List (List (List ℕ))) (outcomes : List (List (List Outcome))) (items : List Item)
@@ -178,13 +191,39 @@ told_with : (P Q R : Board → Type 0) (board : Option Board) → ((b : Board) �
 told_with P Q R None f p q = tt
 told_with P Q R (Some b) f p q = f b p q
 
+-- what the link tells of a lane is what the run shows of it
+told_of_run : (settings : Limits) (opening : CellMap) (run : BoardRun) (held : ℕ) (items : List Item)
+    (became : List (Option Outcome)) (lates : List (Option (List ℕ))) (given_up : ℕ)
+    → map joined (dispatches_by_client run) ≡ outcomes_by_client run
+    → IsRecordOf (bodies_by_client run) (dispatches_by_client run) items
+    → AreLatesOf lates (outcomes_by_client run) (lates_by_client run)
+    → IsKept items became settings.window given_up → (board : Board)
+    → IsTrueOf opening (claims items) became lates (executed board) → HasReached (settings.rounds * given_up) held
+    → IsTrueRun settings opening run held board
+told_of_run settings opening run held items became lates given_up same is of_lane kept board true' paid =
+    let bodies = bodies_by_client run in
+    let outcomes = dispatches_by_client run in
+    let shown = lates_by_client run in
+    let done = executed board in
+    let beside = subst (λ (oss : List (List Outcome)). AreLatesOf lates oss shown) (sym same) of_lane in
+    record {
+      executed_once = subst (λ (oss : List (List Outcome)). IsExecutedOnce (order bodies oss) oss shown done) same
+          (done_once bodies outcomes items became lates opening done is kept.legal true' shown beside);
+      replies = subst (λ (oss : List (List Outcome)). AreRepliesOf opening (order bodies oss) oss) same
+          (are_replies bodies outcomes items became lates opening done is kept.legal true');
+      late = subst (λ (oss : List (List Outcome)). AreLateRepliesOf opening (order bodies oss) oss shown) same
+          (are_late_replies bodies outcomes items became lates opening done is kept.legal true' shown beside);
+      held' = has_waited settings.window settings.rounds held given_up bodies outcomes items became is kept paid;
+    }
+
 pub live : (settings : Limits) (spec : BoardSpec) (run : BoardRun) (link : LinkReport) (payload : ℕ)
-    (items : List Item) (became : List (Option Outcome)) (given_up : ℕ)
+    (items : List Item) (became : List (Option Outcome)) (lates : List (Option (List ℕ))) (given_up : ℕ)
     → map joined (dispatches_by_client run) ≡ outcomes_by_client run → TellsPayload spec.link payload
     → IsRecordOf (bodies_by_client run) (dispatches_by_client run) items
-    → IsSoundLane settings (opening_of spec.link) link items became given_up
+    → AreLatesOf lates (outcomes_by_client run) (lates_by_client run)
+    → IsSoundLane settings (opening_of spec.link) link items became lates given_up
     → IsLiveRun settings spec payload run link
-live settings spec run link payload items became given_up same packets is lane =
+live settings spec run link payload items became lates given_up same packets is of_lane lane =
     let bodies = bodies_by_client run in
     let outcomes = dispatches_by_client run in
     let legal = lane.kept.legal in
@@ -201,34 +240,94 @@ live settings spec run link payload items became given_up same packets is lane =
           (all_tell bodies outcomes items became settings.rounds is legal lane.tells);
     } in record {
       any_link = any_link;
-      told = told_with (λ (b : Board). IsTrueOf (opening_of spec.link) (claims items) became (executed b))
+      told = told_with (λ (b : Board). IsTrueOf (opening_of spec.link) (claims items) became lates (executed b))
           (λ (b : Board). HasReached (settings.rounds * given_up) link.held)
-          (IsTrueRun settings (opening_of spec.link) run link.held) link.board
-          (λ b true' held. record {
-            executed_once = subst
-                (λ (oss : List (List Outcome)). IsExecutedOnce (order bodies oss) oss (executed b)) same
-                (done_once bodies outcomes items became (opening_of spec.link) (executed b) is legal true');
-            replies = subst
-                (λ (oss : List (List Outcome)). AreRepliesOf (opening_of spec.link) (order bodies oss) oss) same
-                (are_replies bodies outcomes items became (opening_of spec.link) (executed b) is legal true');
-            held' = has_waited settings.window settings.rounds link.held given_up bodies outcomes items became is
-                lane.kept held;
-          }) lane.told lane.held;
+          (IsTrueRun settings (opening_of spec.link) run link.held) (board_there link.telling)
+          (told_of_run settings (opening_of spec.link) run link.held items became lates given_up same is of_lane
+          lane.kept) lane.told
+          (of_board (HasReached (settings.rounds * given_up) link.held) link.telling lane.held);
+    }
+
+-- ---- what came late
+
+-- the late answers of each client's part are those of its lane
+each_part : (lates : List (Option (List ℕ))) (parts : List ClientPart)
+    → map (λ (p : ClientPart). p.lates) parts ≡ map (lates_of lates) (map (λ (p : ClientPart). p.outcomes) parts)
+    → AllByRecursion (λ (p : ClientPart). p.lates ≡ lates_of lates p.outcomes) parts
+each_part lates [] same = tt
+each_part lates (p ∷ parts) same =
+    let head : p.lates ≡ lates_of lates p.outcomes = cc in
+    let tail : map (λ (q : ClientPart). q.lates) parts
+    ≡ map (lates_of lates) (map (λ (q : ClientPart). q.outcomes) parts) = cc in
+    (head, each_part lates parts tail)
+
+parts_of_timed_out : (lates : List (Option (List ℕ))) (parts : List ClientPart)
+    → AllByRecursion (λ (p : ClientPart). p.lates ≡ lates_of lates p.outcomes) parts
+    → AllByRecursion (λ (p : ClientPart). AreLateOnlyIfTimedOut p.outcomes p.lates) parts
+parts_of_timed_out lates parts = all-map (λ (p : ClientPart). p.lates ≡ lates_of lates p.outcomes)
+    (λ (p : ClientPart). AreLateOnlyIfTimedOut p.outcomes p.lates) parts
+    (λ p same. subst (AreLateOnlyIfTimedOut p.outcomes) (sym same) (of_timed_out lates p.outcomes))
+
+parts_exactly : (t : Telling) (lates : List (Option (List ℕ))) (parts : List ClientPart)
+    → AllByRecursion (λ (p : ClientPart). p.lates ≡ lates_of lates p.outcomes) parts
+    → AllByRecursion (AllByRecursion (IsAsHanded lates t)) (map (λ (p : ClientPart). p.outcomes) parts)
+    → AllByRecursion (λ (p : ClientPart). AreLateExactly t p.outcomes p.lates) parts
+parts_exactly t lates [] same all = tt
+parts_exactly t lates (p ∷ parts) same all = (
+  subst (AreLateExactly t p.outcomes) (sym same.0) (exactly_late lates t p.outcomes all.0),
+  parts_exactly t lates parts same.1 all.1,
+)
+
+-- over a link that tells
+each_as_handed : (t : Telling) (bodies : List (List (List ℕ))) (outcomes : List (List (List Outcome)))
+    (items : List Item) (became : List (Option Outcome)) (lates : List (Option (List ℕ)))
+    → IsRecordOf bodies outcomes items → IsLegal items became → IsLateAsHanded became lates t
+    → AllByRecursion (AllByRecursion (IsAsHanded lates t)) (map joined outcomes)
+each_as_handed t bodies outcomes items became lates is legal handed =
+    each_outcome (IsAsHanded lates t) bodies (map joined outcomes) (steps items)
+    (steps_of_all bodies outcomes items became is legal)
+    (became_outcomes (IsAsHanded lates t) items became legal (finished bodies outcomes items became is legal)
+    (λ k o there place rounds same. handed k place rounds (there ∙ ap (λ (p : Outcome). Some (Some p)) same)))
+
+pub shows_lates : (run : BoardRun) (link : LinkReport) (items : List Item) (became : List (Option Outcome))
+    (lates : List (Option (List ℕ))) → map joined (dispatches_by_client run) ≡ outcomes_by_client run
+    → IsRecordOf (bodies_by_client run) (dispatches_by_client run) items → IsLegal items became
+    → lates_by_client run ≡ map (lates_of lates) (outcomes_by_client run)
+    → IfSome link.telling (IsLateAsHanded became lates) → ShowsLates run link
+shows_lates run link items became lates same is legal shown handed =
+    let each = each_part lates run.parts shown in
+    record {
+      timed_out = parts_of_timed_out lates run.parts each;
+      exactly = some_then (IsLateAsHanded became lates)
+          (λ t. AllByRecursion (λ (p : ClientPart). AreLateExactly t p.outcomes p.lates) run.parts) link.telling
+          (λ t exact. parts_exactly t lates run.parts each
+          (subst (AllByRecursion (AllByRecursion (IsAsHanded lates t))) same
+          (each_as_handed t (bodies_by_client run) (dispatches_by_client run) items became lates is legal exact)))
+          handed;
     }
 
 module _ (standing : Standing) where
   pub run_over : (settings : Limits) (spec : BoardSpec) (board : ℕ) (scripts : List (List Step)) (run : BoardRun)
-      (link : LinkReport) (payload : ℕ) (items : List Item) (became : List (Option Outcome)) (given_up : ℕ)
-      → ShowsScripts spec board scripts run → IsBoardOf spec.link link.board → run.greeting ≡ Live payload
-      → TellsPayload spec.link payload → IsClientsRecord (bodies_by_client run) (dispatches_by_client run) items
-      → IsSoundLane settings (opening_of spec.link) link items became given_up
+      (link : LinkReport) (payload : ℕ) (items : List Item) (became : List (Option Outcome))
+      (lates : List (Option (List ℕ))) (given_up : ℕ) → ShowsScripts spec board scripts run
+      → IsBoardOf spec.link (board_there link.telling) → run.greeting ≡ Live payload → TellsPayload spec.link payload
+      → IsClientsRecord (bodies_by_client run) (dispatches_by_client run) items
+      → lates_by_client run ≡ map (lates_of lates) (outcomes_by_client run)
+      → IsSoundLane settings (opening_of spec.link) link items became lates given_up
       → IsRunOver settings spec board scripts run link
-  run_over settings spec board scripts run link payload items became given_up shows of greeted packets is lane =
+  run_over settings spec board scripts run link payload items became lates given_up shows of greeted packets is shown
+      lane =
+      let same = run_joined standing spec board scripts run shows in
+      let recorded = is_record_of (bodies_by_client run) (dispatches_by_client run) items is in
+      let legal = lane.kept.legal in
       record {
         scripts' = shows;
         board' = of;
         as_told = subst (IsAsTold settings spec run link) (sym greeted)
-            (live settings spec run link payload items became given_up
-            (run_joined standing spec board scripts run shows) packets
-            (is_record_of (bodies_by_client run) (dispatches_by_client run) items is) lane);
+            (live settings spec run link payload items became lates given_up same packets recorded
+            (subst (AreLatesOf lates (outcomes_by_client run)) (sym shown) (are_of_lane lates (outcomes_by_client run)))
+            lane);
+        lates = shows_lates run link items became lates same recorded legal shown
+            (lane.exactly (are_settled items became legal
+            (finished (bodies_by_client run) (dispatches_by_client run) items became recorded legal)));
       }

@@ -4,10 +4,13 @@ use Rattle.std.proofs.Common.{◌++◌, length, map, drop, Option, Some, refl, s
 use Rattle.std.proofs.Common.{append-nil, if◌then◌else◌, inl}
 use Rattle.std.specs.List.{AllByRecursion, cons_option, filter_map, slice_get}
 use Rattle.std.proofs.lemmas.Bool.{eqb-true, eq-eqb}
+use Rattle.std.proofs.lemmas.List.{map-append}
 use Rattle.ipb_base.specs.Lists.{IsPrefix}
 use Rattle.ipb_base.proofs.AllLemmas.{AllByRecursion-append, all-map}
 use Rattle.world_model.proofs.Lists.{get_front}
 use Rattle.world_model.specs.declared.offered.Offered.{Offered}
+use Rattle.world_model.specs.Facts.{bodies_of, offered_body}
+use Rattle.board_node.specs.declared.spec.BoardSpec.{BoardSpec}
 use Rattle.lane_record.specs.declared.outcome.Outcome.{Outcome}
 use Rattle.lane_record.specs.declared.item.Item.{Item}
 use Rattle.lane_record.specs.Lists.{CountsFrom}
@@ -22,7 +25,11 @@ use Rattle.board_history.proofs.Merging.{front_of_merge, sub_skip}
 use Rattle.lane_history.specs.Records.{planned_in, bodies_planned, ArePlansOf, IsPartlyPlanned}
 use Rattle.lane_record.specs.Dispatches.{plans_from, all_plans_from}
 use Rattle.lane_history.specs.Records.{HaveLeft, IsRecordOf}
+use Rattle.script_steps.specs.declared.operation.Step.{Step}
+use Rattle.script_plans.specs.declared.greeting.Greeting.TheVariants.{Live}
+use Rattle.script_plans.specs.Plan.{ClientBodies, plans_on}
 use Rattle.lane_history.specs.Lanes.{bodies_offered}
+use Rattle.lane_history.specs.Runs.{IsMergeOfAsked, TellsPayload}
 use Rattle.lane_history.proofs.Lookups.{IsNot}
 use Rattle.lane_history.proofs.Planned.{plan_at}
 use Rattle.lane_history.proofs.Steps.{asked_within, seqs_of, claims_seqs, claims_within, step_planned}
@@ -145,6 +152,35 @@ merge_at bodies items became done legal planned front =
     (subst (IsPrefix done) (sym (owned_same 0 (claims items) became)) front)
     (each_sub 1 bodies items became legal planned.each)
     (all_owned (length bodies) (claims items) became (claims_within (length bodies) items within))
+
+-- ---- what the scripts ask
+
+-- what a hub has sent is the first part of what its lane offered
+pub sent_offered : (sent queue : List Offered) (cs : List Claim) (became : List (Option Outcome))
+    → sent ++ queue ≡ offers_from 0 cs became → IsPrefix (bodies_of sent) (bodies_offered cs became)
+sent_offered sent queue cs became same =
+    (bodies_of queue, sym (ap (map offered_body) same) ∙ map-append offered_body sent queue)
+
+pub sent_asked : (spec : BoardSpec) (board : ℕ) (scripts : List (List Step)) (payload : ℕ) (items : List Item)
+    (became : List (Option Outcome)) (sent queue : List Offered) → TellsPayload spec.link payload
+    → IsPartlyPlanned (map (λ (p : ClientBodies). p.bodies) (plans_on board (Live payload) scripts)) items
+    → IsLegal items became → sent ++ queue ≡ offers_from 0 (claims items) became
+    → IsMergeOfAsked spec board scripts (bodies_of sent)
+sent_asked spec board scripts payload items became sent queue packets planned legal same = record {
+  payload = payload;
+  told = packets;
+  merge = merge_at (map (λ (p : ClientBodies). p.bodies) (plans_on board (Live payload) scripts)) items became
+      (bodies_of sent) legal planned (sent_offered sent queue (claims items) became same);
+}
+
+pub first_asked : (spec : BoardSpec) (board : ℕ) (scripts : List (List Step)) (first bodies : List (List ℕ))
+    → IsPrefix first bodies → IsMergeOfAsked spec board scripts bodies → IsMergeOfAsked spec board scripts first
+first_asked spec board scripts first bodies front asked = record {
+  payload = asked.payload;
+  told = asked.told;
+  merge = front_of_merge (map (λ (p : ClientBodies). p.bodies) (plans_on board (Live asked.payload) scripts)) first
+      asked.merge.owned (subst (IsPrefix first) asked.merge.same front) asked.merge.each asked.merge.nobody_else;
+}
 
 -- ---- the record that clients leave
 

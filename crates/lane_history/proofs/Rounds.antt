@@ -1,9 +1,9 @@
 -- A line that was timed out shows the rounds of the session.
 use Rattle.std.proofs.Common.{◌≡◌, ℕ, zero, suc, ◌+◌, List, [], ◌∷◌, map, Option, Some}
-use Rattle.std.proofs.Common.{None}
-use Rattle.std.proofs.Common.{refl, subst, inl, inr}
+use Rattle.std.proofs.Common.{None, drop, get_or, refl, subst, inl, inr}
 use Rattle.std.specs.Prelude.{unwrap_or}
-use Rattle.std.specs.List.{AllByRecursion, slice_get, flat_map, zip}
+use Rattle.std.specs.List.{AllByRecursion, slice_get, flat_map}
+use Rattle.std.specs.Option.{option_map}
 use Rattle.std.proofs.lemmas.Bool.{cases_Bool}
 use Rattle.std.proofs.lemmas.Option.{same_Some}
 use Rattle.board_node.specs.declared.spec.BoardSpec.{BoardSpec}
@@ -24,11 +24,14 @@ use Rattle.script_plans.specs.declared.board_run.BoardRun.{BoardRun}
 use Rattle.script_plans.specs.declared.greeting.Greeting.{Greeting}
 use Rattle.script_plans.specs.declared.greeting.Greeting.TheVariants.{Live, Silent, Down}
 use Rattle.transcript.specs.declared.line.OpResult.{OpResult}
+use Rattle.transcript.specs.declared.line.OpResult.TheVariants as result
 use Rattle.script_plans.specs.declared.planned.PieceAt.{PieceAt}
 use Rattle.script_plans.specs.Plan.{count_on}
-use Rattle.transcript.specs.Ends.{answered, end_of, ends_of, piece_result, result_in, told_at, told_by, told_of}
+use Rattle.transcript.specs.Ends.{answered, ends_of, ends_with, piece_result, result_in, told_at, told_by}
+use Rattle.transcript.specs.Ends.{told_timed_out}
+use Rattle.transcript.specs.Ends.{told_of}
 use Rattle.transcript.specs.Lines.{by_pieces, in_part, showing, shown_behind}
-use Rattle.transcript.specs.Results.{first_fault, is_good, shown, values_in, word_before}
+use Rattle.transcript.specs.Results.{first_not_done, is_good, shown, shown_not_done, values_in, word_before}
 use Rattle.board_history.specs.History.{outcomes_by_client}
 use Rattle.lane_history.specs.Links.{LinkReport}
 use Rattle.lane_history.specs.Runs.{AreRunsOver, IsAsTold, ShowsRounds}
@@ -47,26 +50,32 @@ module _ (rounds : ℕ) where
   told_rounds None index = tt
   told_rounds (Some list) index = answer_rounds (slice_get list index)
 
-  outcome_rounds : (body : List ℕ) (outcome : Outcome) (index : ℕ) → TellsRounds rounds outcome
-      → ShowsRounds rounds (told_at (told_of body outcome) index)
-  outcome_rounds body (Replied place words) index tells = told_rounds (answers body words) index
-  outcome_rounds body (TimedOut place told) index tells = tells
-  outcome_rounds body Unsent index tells = tt
-  outcome_rounds body (LinkLost place) index tells = tt
+  late_rounds : (body : List ℕ) (told : ℕ) (late : Option (List ℕ)) (index : ℕ) → told ≡ rounds
+      → ShowsRounds rounds (told_at (told_timed_out body told late) index)
+  late_rounds body told None index tells = tells
+  late_rounds body told (Some words) index tells = tells
 
-  end_rounds : (bodies : List (List ℕ)) (outcomes : List Outcome) (k index : ℕ)
+  outcome_rounds : (body : List ℕ) (outcome : Outcome) (late : Option (List ℕ)) (index : ℕ)
+      → TellsRounds rounds outcome → ShowsRounds rounds (told_at (told_of body outcome late) index)
+  outcome_rounds body (Replied place words) late index tells = told_rounds (answers body words) index
+  outcome_rounds body (TimedOut place told) late index tells = late_rounds body told late index tells
+  outcome_rounds body Unsent late index tells = tt
+  outcome_rounds body (LinkLost place) late index tells = tt
+
+  end_rounds : (bodies : List (List ℕ)) (outcomes : List Outcome) (lates : List (Option (List ℕ))) (k index : ℕ)
       → AllByRecursion (TellsRounds rounds) outcomes
-      → ShowsRounds rounds (result_in (slice_get (map end_of (zip bodies outcomes)) k) index)
-  end_rounds [] outcomes k index tells = tt
-  end_rounds (body ∷ bodies) [] k index tells = tt
-  end_rounds (body ∷ bodies) (o ∷ os) zero index tells = outcome_rounds body o index tells.0
-  end_rounds (body ∷ bodies) (o ∷ os) (suc k) index tells = end_rounds bodies os k index tells.1
+      → ShowsRounds rounds (result_in (slice_get (ends_with bodies outcomes lates) k) index)
+  end_rounds [] outcomes lates k index tells = tt
+  end_rounds (body ∷ bodies) [] lates k index tells = tt
+  end_rounds (body ∷ bodies) (o ∷ os) lates zero index tells =
+      outcome_rounds body o (get_or lates 0 None) index tells.0
+  end_rounds (body ∷ bodies) (o ∷ os) lates (suc k) index tells = end_rounds bodies os (drop 1 lates) k index tells.1
 
   pieces_rounds : (part : ClientPart) (pieces : List PieceAt) → AllByRecursion (TellsRounds rounds) part.outcomes
       → AllByRecursion (ShowsRounds rounds) (map (piece_result (ends_of part)) pieces)
   pieces_rounds part [] tells = tt
   pieces_rounds part (p ∷ ps) tells =
-      (end_rounds part.planned.bodies part.outcomes p.body p.index tells, pieces_rounds part ps tells)
+      (end_rounds part.planned.bodies part.outcomes part.lates p.body p.index tells, pieces_rounds part ps tells)
 
   -- ---- one operation
 
@@ -83,7 +92,7 @@ module _ (rounds : ℕ) where
   shown_rounds verb.RmwSum mask words = before_rounds words
 
   fault_rounds : (rs : List OpResult) (r : OpResult) → AllByRecursion (ShowsRounds rounds) rs
-      → first_fault rs ≡ Some r → ShowsRounds rounds r
+      → first_not_done rs ≡ Some r → ShowsRounds rounds r
   fault_rounds [] r all is = absurd cc
   fault_rounds (x ∷ xs) r all is =
       elim (cases_Bool (is_good x)) [
@@ -92,10 +101,15 @@ module _ (rounds : ℕ) where
             (let same : Some x ≡ Some r = rw bad at is in subst (ShowsRounds rounds) (same_Some x r same) all.0)
       ]
 
+  fault_shown : (v : Verb) (mask : ℕ) (r : OpResult) → ShowsRounds rounds r
+      → ShowsRounds rounds (shown_not_done v mask r)
+  fault_shown v mask (result.Late told answer) shows = shows
+  fault_shown v mask other shows = shows
+
   by_fault : (v : Verb) (mask : ℕ) (rs : List OpResult) (found : Option OpResult)
-      → AllByRecursion (ShowsRounds rounds) rs → first_fault rs ≡ found
-      → ShowsRounds rounds (unwrap_or found (shown v mask (flat_map values_in rs)))
-  by_fault v mask rs (Some r) all is = fault_rounds rs r all is
+      → AllByRecursion (ShowsRounds rounds) rs → first_not_done rs ≡ found
+      → ShowsRounds rounds (unwrap_or (option_map (shown_not_done v mask) found) (shown v mask (flat_map values_in rs)))
+  by_fault v mask rs (Some r) all is = fault_shown v mask r (fault_rounds rs r all is)
   by_fault v mask rs None all is = shown_rounds v mask (flat_map values_in rs)
 
   pieces_shown : (part : ClientPart) (op : RegOp) (pieces : Option (List PieceAt))
@@ -103,7 +117,7 @@ module _ (rounds : ℕ) where
   pieces_shown part op None tells = tt
   pieces_shown part op (Some pieces) tells =
       let rs = map (piece_result (ends_of part)) pieces in
-      by_fault op.verb op.mask rs (first_fault rs) (pieces_rounds part pieces tells) refl
+      by_fault op.verb op.mask rs (first_not_done rs) (pieces_rounds part pieces tells) refl
 
   part_shown : (parts : List ClientPart) (client k : ℕ) (op : RegOp)
       → AllByRecursion (AllByRecursion (TellsRounds rounds)) (map (λ (part : ClientPart). part.outcomes) parts)

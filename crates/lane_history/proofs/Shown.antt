@@ -2,8 +2,7 @@
 use Rattle.std.proofs.Common.{◌≡◌, ℕ, ◌+◌, ◌≤◌, List, [], ◌∷◌, map, Option, Some, None, refl}
 use Rattle.std.proofs.Common.{sym, ap, ◌∙◌, subst, arith}
 use Rattle.std.specs.Prelude.{IfSome}
-use Rattle.std.specs.List.{AllByRecursion, zip}
-use Rattle.std.proofs.lemmas.Option.{same_Some}
+use Rattle.std.specs.List.{AllByRecursion}
 use Rattle.ipb_base.specs.Numbers.{payload_of}
 use Rattle.ipb_base.proofs.AllLemmas.{all-map}
 use Rattle.mtu_packer.specs.declared.packing.TheConstants.{MIN_PAYLOAD}
@@ -21,12 +20,12 @@ use Rattle.script_plans.specs.declared.board_run.ClientPart.{ClientPart}
 use Rattle.script_plans.specs.declared.board_run.BoardRun.{BoardRun}
 use Rattle.script_plans.specs.Plan.{ClientBodies, plans_on, planned_on}
 use Rattle.script_plans.specs.Runs.{ArePlanned}
-use Rattle.transcript.specs.Ends.{end_of, ends_of}
+use Rattle.transcript.specs.Ends.{ends_of, ends_with}
 use Rattle.board_history.specs.Order.{Placed, by_place, places_of}
 use Rattle.board_history.specs.Parts.{HasOneOrder, KeepsScripts, AllReplied}
 use Rattle.board_history.specs.InTurn.{AreInTurn, IsUsedByOne}
 use Rattle.board_history.specs.History.{IsOrdered, ShowsHistory, bodies_by_client, outcomes_by_client}
-use Rattle.board_history.specs.History.{dispatches_by_client}
+use Rattle.board_history.specs.History.{dispatches_by_client, lates_by_client}
 use Rattle.lane_record.specs.Dispatches.{joined}
 use Rattle.board_history.specs.GiveUps.{GaveUpOnlyAfter}
 use Rattle.board_history.specs.Merges.{AreSubsequences, IsMergeOfSome, IsMergeOfAll}
@@ -36,13 +35,16 @@ use Rattle.board_history.specs.Runs.{greeting_of, opening_of, IsRun, board_run, 
 use Rattle.board_history.specs.Answering.{AskRequests, OpensWithWords}
 use Rattle.board_history.proofs.Shaped.{Standing}
 use Rattle.board_history.proofs.Answering.{Answering, AnsweringAny, Keeping, KeepingAll, Garbling, Joins}
-use Rattle.lane_history.specs.Links.{LinkReport, IsBoardOf, IsFaithful, IsLostOnlyIfFailed, IsUntouched}
+use Rattle.lane_history.specs.Links.{LinkReport, IsBoardOf, IsFaithful, IsLostOnlyIfFailed, IsUntouched, board_there}
 use Rattle.lane_history.specs.Runs.{ShowsScripts, TellsPayload, IsTrueRun, IsLiveRun, IsSilentRun, IsDownRun, IsAsTold}
-use Rattle.lane_history.specs.Runs.{IsRunOver, AreRunsOver, ExecutedSome, AllExecutedSome, IsWholeRun, AreWholeRuns}
+use Rattle.lane_history.specs.Runs.{IsRunOver, AreRunsOver, IsMergeOfAsked, AllExecutedSome, IsWholeRun, AreWholeRuns}
 use Rattle.lane_history.specs.Runs.{HaveOwnBoards, IsUngarbled, NoneGarbled, ShowAloneRuns}
 use Rattle.lane_history.proofs.Ungarbled.{none_garbled}
 use Rattle.lane_history.proofs.Calm.{all_calm, IsNotLost}
+use Rattle.lane_history.proofs.Lates.{in_time}
 use Rattle.lane_history.proofs.Live.{run_joined}
+use Rattle.lane_history.proofs.Told.{if_told}
+pub use Rattle.lane_history.proofs.Told.{at_some, some_then}
 
 -- ---- a board that was asked nothing
 
@@ -114,25 +116,19 @@ all_ordered settings board (spec ∷ specs) scripts (run ∷ runs) (link ∷ lin
 
 -- ---- over a link that tells
 
-pub some_then : {A : Type 0} (P Q : A → Type 0) (o : Option A) → ((x : A) → P x → Q x) → IfSome o P → IfSome o Q
-some_then P Q None f p = tt
-some_then P Q (Some x) f p = f x p
-
-pub at_some : {A : Type 0} (P : A → Type 0) (o : Option A) (x : A) → o ≡ Some x → IfSome o P → P x
-at_some P None x e p = absurd cc
-at_some P (Some y) x e p = subst P (same_Some y x e) p
-
 pub is_history : (settings : Limits) (spec : BoardSpec) (board : ℕ) (scripts : List (List Step)) (run : BoardRun)
     (link : LinkReport) (there : Board) (payload : ℕ) → IsRunOver settings spec board scripts run link
-    → run.greeting ≡ Live payload → link.board ≡ Some there → ShowsHistory (opening_of spec.link) run
+    → run.greeting ≡ Live payload → board_there link.telling ≡ Some there → ShowsHistory (opening_of spec.link) run
 is_history settings spec board scripts run link there payload is greeted tells =
     let live : IsLiveRun settings spec payload run link = subst (IsAsTold settings spec run link) greeted is.as_told in
-    let true' = at_some (IsTrueRun settings (opening_of spec.link) run link.held) link.board there tells live.told in
+    let true' = at_some (IsTrueRun settings (opening_of spec.link) run link.held) (board_there link.telling)
+    there tells live.told in
     record {
       shape = is.scripts'.shape;
       one_order = live.any_link.one_order;
       script_order = live.any_link.script_order;
       replies = true'.replies;
+      late = true'.late;
     }
 
 -- the bodies that clients ask for are those of their plans
@@ -150,13 +146,13 @@ planned_bodies board payload (steps ∷ scripts) (p ∷ parts) e =
     ∙ ap (λ (bss : List (List (List ℕ))). (planned_on board (Live payload) steps).bodies ∷ bss)
     (planned_bodies board payload scripts parts tail)
 
--- of nothing executed
+-- of nothing
 no_subsequences : (client : ℕ) (bodies : List (List (List ℕ))) → AreSubsequences client bodies []
 no_subsequences client [] = tt
 no_subsequences client (bs ∷ later) = (tt, no_subsequences (client + 1) later)
 
-nothing_executed : (bodies : List (List (List ℕ))) → IsMergeOfSome bodies []
-nothing_executed bodies = record { owned = []; same = refl; each = no_subsequences 1 bodies; nobody_else = tt }
+nothing_merged : (bodies : List (List (List ℕ))) → IsMergeOfSome bodies []
+nothing_merged bodies = record { owned = []; same = refl; each = no_subsequences 1 bodies; nobody_else = tt }
 
 -- some packets that a board of this kind takes
 pub record SomePayload (spec : LinkSpec) : Type 0 where
@@ -167,34 +163,36 @@ some_payload : (spec : LinkSpec) → SomePayload spec
 some_payload (Sim mtu buffers first ranges fates) = record { payload = payload_of mtu; told = refl }
 some_payload (Udp address port wait) = record { payload = MIN_PAYLOAD; told = (omega arith, omega arith) }
 
-pub untouched_some : (spec : BoardSpec) (board : ℕ) (scripts : List (List Step)) (link : LinkReport) → IsUntouched link
-    → IfSome link.board (λ there. ExecutedSome spec board scripts (executed there))
-untouched_some spec board scripts link none =
-    some_then (λ (b : Board). executed b ≡ []) (λ (b : Board). ExecutedSome spec board scripts (executed b)) link.board
-    (λ b e.
+pub nothing_asked : (spec : BoardSpec) (board : ℕ) (scripts : List (List Step)) → IsMergeOfAsked spec board scripts []
+nothing_asked spec board scripts =
     let packets = some_payload spec.link in
     record {
       payload = packets.payload;
       told = packets.told;
-      merge =
-          let bodies = map (λ (p : ClientBodies). p.bodies) (plans_on board (Live packets.payload) scripts) in
-          subst (IsMergeOfSome bodies) (sym e) (nothing_executed bodies);
-    }) none
+      merge = nothing_merged (map (λ (p : ClientBodies). p.bodies) (plans_on board (Live packets.payload) scripts));
+    }
+
+pub untouched_some : (spec : BoardSpec) (board : ℕ) (scripts : List (List Step)) (link : LinkReport) → IsUntouched link
+    → IfSome (board_there link.telling) (λ there. IsMergeOfAsked spec board scripts (executed there))
+untouched_some spec board scripts link none =
+    some_then (λ (b : Board). executed b ≡ []) (λ (b : Board). IsMergeOfAsked spec board scripts (executed b))
+    (board_there link.telling)
+    (λ b e. subst (IsMergeOfAsked spec board scripts) (sym e) (nothing_asked spec board scripts)) none
 
 executed_as : (settings : Limits) (spec : BoardSpec) (board : ℕ) (scripts : List (List Step)) (run : BoardRun)
     (link : LinkReport) (told : Greeting) → run.greeting ≡ told → ShowsScripts spec board scripts run
     → IsAsTold settings spec run link told
-    → IfSome link.board (λ there. ExecutedSome spec board scripts (executed there))
+    → IfSome (board_there link.telling) (λ there. IsMergeOfAsked spec board scripts (executed there))
 executed_as settings spec board scripts run link (Live payload) greeted shows is =
     let bodies = planned_bodies board payload scripts run.parts
     (shows.plans ∙ ap (λ (g : Greeting). plans_on board g scripts) greeted) in
     some_then (IsTrueRun settings (opening_of spec.link) run link.held)
-    (λ (b : Board). ExecutedSome spec board scripts (executed b)) link.board
+    (λ (b : Board). IsMergeOfAsked spec board scripts (executed b)) (board_there link.telling)
     (λ b true'. record {
       payload = payload;
       told = is.any_link.packets;
       merge = subst (λ (bss : List (List (List ℕ))). IsMergeOfSome bss (executed b)) bodies
-          (executed_some (bodies_by_client run) (outcomes_by_client run)
+          (executed_some (bodies_by_client run) (outcomes_by_client run) (lates_by_client run)
           (executed b) shows.shape is.any_link.script_order
           true'.executed_once);
     }) is.told
@@ -239,8 +237,8 @@ module _ (standing : Standing) where
   calm_live settings spec board scripts run link payload greeted some calm is =
       let live : IsLiveRun settings spec payload run link =
       subst (IsAsTold settings spec run link) greeted is.as_told in
-      let true' = at_some (IsTrueRun settings (opening_of spec.link) run link.held) link.board calm.there calm.tells
-      live.told in
+      let true' = at_some (IsTrueRun settings (opening_of spec.link) run link.held) (board_there link.telling)
+      calm.there calm.tells live.told in
       let same = run_joined standing spec board scripts run is.scripts' in
       let patient : GaveUpOnlyAfter settings.window settings.rounds 0 (dispatches_by_client run) =
       subst (λ (n : ℕ). GaveUpOnlyAfter settings.window settings.rounds n (dispatches_by_client run)) calm.held'
@@ -252,14 +250,16 @@ module _ (standing : Standing) where
       subst AllReplied same (all_calm settings.window settings.rounds (dispatches_by_client run) some patient kept) in
       let whole : IsMergeOfAll (bodies_by_client run) (executed calm.there) =
       subst (IsMergeOfAll (bodies_by_client run))
-      (sym (executed_whole (bodies_by_client run) (outcomes_by_client run) (executed calm.there) live.any_link.one_order
-      replied true'.executed_once))
+      (sym (executed_whole (bodies_by_client run) (outcomes_by_client run) (lates_by_client run) (executed calm.there)
+      live.any_link.one_order replied true'.executed_once))
       (order_whole (bodies_by_client run) (outcomes_by_client run) is.scripts'.shape live.any_link.script_order replied)
       in
       record {
         greeting =
-            greeted ∙ told_greeting spec.link link.board calm.there payload calm.tells is.board' live.any_link.packets;
+            greeted ∙ told_greeting spec.link (board_there link.telling) calm.there payload calm.tells is.board'
+            live.any_link.packets;
         replied = replied;
+        in_time = in_time run.parts replied is.lates.timed_out;
         history = is_history settings spec board scripts run link calm.there payload is greeted calm.tells;
         all_executed = subst (λ (o : Option Board). IfSome o (λ b. IsMergeOfAll (bodies_by_client run) (executed b)))
             (sym calm.tells) whole;
@@ -272,7 +272,7 @@ module _ (standing : Standing) where
       calm_live settings spec board scripts run link payload greeted some calm is
   calm_run settings spec board scripts run link Silent greeted some calm is =
       let silent : IsSilentRun settings link = subst (IsAsTold settings spec run link) greeted is.as_told in
-      let held = at_some (λ (b : Board). settings.rounds ≤ link.held) link.board calm.there calm.tells silent.held in
+      let held = if_told (settings.rounds ≤ link.held) link.telling calm.there calm.tells silent.held in
       absurd (omega (arith, some, held, calm.held'))
   calm_run settings spec board scripts run link Down greeted some calm is =
       let down : IsDownRun link = subst (IsAsTold settings spec run link) greeted is.as_told in
@@ -312,6 +312,7 @@ alone_runs in_turn only settings board (spec ∷ specs) scripts (run ∷ runs) (
     plans = is.0.scripts'.plans;
     history = whole.0.history;
     replied = whole.0.replied;
+    in_time = whole.0.in_time;
     in_turn = in_turn (bodies_by_client run) (outcomes_by_client run) one whole.0.history.one_order
         whole.0.history.script_order;
   }),
@@ -354,7 +355,7 @@ no_ends : (parts : List ClientPart)
     → AllByRecursion (λ (part : ClientPart). AllByRecursion IsUngarbled (ends_of part)) parts
 no_ends [] none = tt
 no_ends (p ∷ parts) none = (
-  subst (λ (bodies : List (List ℕ)). AllByRecursion IsUngarbled (map end_of (zip bodies p.outcomes))) (sym none.0) tt,
+  subst (λ (bodies : List (List ℕ)). AllByRecursion IsUngarbled (ends_with bodies p.outcomes p.lates)) (sym none.0) tt,
   no_ends parts none.1,
 )
 
@@ -369,7 +370,7 @@ module _ (answering : Answering) (any : AnsweringAny) (keeping : Keeping) (keepi
     (garbling : Garbling) (joins : Joins) where
   ungarbled_as : (settings : Limits) (spec : BoardSpec) (board : ℕ) (scripts : List (List Step)) (run : BoardRun)
       (link : LinkReport) (there : Board) (told : Greeting) → run.greeting ≡ told
-      → IsRunOver settings spec board scripts run link → link.board ≡ Some there → OpensWithWords spec
+      → IsRunOver settings spec board scripts run link → board_there link.telling ≡ Some there → OpensWithWords spec
       → AskRequests run → NoneGarbled run
   ungarbled_as settings spec board scripts run link there (Live payload) greeted is tells opens asks =
       none_garbled answering any keeping keeping_all garbling joins (opening_of spec.link) run opens asks
@@ -380,7 +381,8 @@ module _ (answering : Answering) (any : AnsweringAny) (keeping : Keeping) (keepi
       nothing_garbled spec board Down scripts run greeted (λ steps. refl) is.scripts'
 
   pub ungarbled : (settings : Limits) (spec : BoardSpec) (board : ℕ) (scripts : List (List Step)) (run : BoardRun)
-      (link : LinkReport) (there : Board) → IsRunOver settings spec board scripts run link → link.board ≡ Some there
+      (link : LinkReport) (there : Board) → IsRunOver settings spec board scripts run link
+      → board_there link.telling ≡ Some there
       → OpensWithWords spec → AskRequests run → NoneGarbled run
   ungarbled settings spec board scripts run link there is tells opens asks =
       ungarbled_as settings spec board scripts run link there run.greeting refl is tells opens asks

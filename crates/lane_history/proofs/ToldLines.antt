@@ -1,5 +1,5 @@
 -- The line of an operation on a board, by the name of the board.
-use Rattle.std.proofs.Common.{◌≡◌, ◌⊎◌, ℕ, zero, suc, ◌+◌, ◌<◌, true, List, [], ◌∷◌, length, Option, Some, None, get_or}
+use Rattle.std.proofs.Common.{◌≡◌, ◌⊎◌, ℕ, zero, suc, ◌+◌, ◌<◌, true, List, [], ◌∷◌, length, Some, get_or}
 use Rattle.std.proofs.Common.{refl, sym, ap, ◌∙◌, subst, inl, inr, arith, is_some}
 use Rattle.std.specs.List.{AllZip, slice_get}
 use Rattle.std.proofs.lemmas.Option.{same_Some}
@@ -9,8 +9,9 @@ use Rattle.world_model.specs.Settings.{Limits}
 use Rattle.script_steps.specs.declared.operation.Step.{Step}
 use Rattle.script_plans.specs.declared.board_run.BoardRun.{BoardRun}
 use Rattle.script_plans.specs.Runs.{HaveOwnNames}
-use Rattle.lane_history.specs.Links.{LinkReport}
+use Rattle.lane_history.specs.Links.{LinkReport, board_there}
 use Rattle.lane_history.specs.Runs.{AreRunsOver}
+use Rattle.lane_history.proofs.Told.{told_there}
 
 -- the item at a place
 get_at : {A : Type 0} (xs : List A) (k : ℕ) (x d : A) → slice_get xs k ≡ Some x → (k < length xs) × (get_or xs k d ≡ x)
@@ -37,10 +38,6 @@ one_place runs own j k one other at also same =
     order : (a b : ℕ) → (a < b) ⊎ ((a ≡ b) ⊎ (b < a))
     order a b = grind arith
 
-tells : (board : Option Board) → is_some board ≡ true → (there : Board) × (board ≡ Some there)
-tells None told = absurd cc
-tells (Some there) told = (there, refl)
-
 -- as many runs as links, and so of each two at one place
 zip_from : {A B : Type 0} (R : A → B → Type 0) (xs : List A) (ys : List B) → length xs ≡ length ys
     → ((k : ℕ) (x : A) (y : B) → slice_get xs k ≡ Some x → slice_get ys k ≡ Some y → R x y) → AllZip R xs ys
@@ -66,14 +63,14 @@ as_many settings board (spec ∷ specs) scripts (r ∷ runs) (l ∷ links) is =
 -- What is so of the board at a place where its link tells is so wherever a board of its name has a link that tells.
 pub where_told : (T : Type 0) (runs : List BoardRun) (links : List LinkReport) → length runs ≡ length links
     → HaveOwnNames runs → (k : ℕ) (run : BoardRun) → slice_get runs k ≡ Some run
-    → ((link : LinkReport) (there : Board) → slice_get links k ≡ Some link → link.board ≡ Some there → T)
-    → AllZip (λ (other : BoardRun) (link : LinkReport). other.name ≡ run.name → is_some link.board ≡ true → T) runs
+    → ((link : LinkReport) (there : Board) → slice_get links k ≡ Some link → board_there link.telling ≡ Some there → T)
+    → AllZip (λ (other : BoardRun) (link : LinkReport). other.name ≡ run.name → is_some link.telling ≡ true → T) runs
     links
 where_told T runs links same own k run at holds =
-    zip_from (λ (other : BoardRun) (link : LinkReport). other.name ≡ run.name → is_some link.board ≡ true → T) runs
+    zip_from (λ (other : BoardRun) (link : LinkReport). other.name ≡ run.name → is_some link.telling ≡ true → T) runs
     links
     same
     (λ j other link there also named told.
     let place = one_place runs own j k other run there at named in
-    let board = tells link.board told in
+    let board = told_there link.telling told in
     holds link board.0 (subst (λ (n : ℕ). slice_get links n ≡ Some link) place also) board.1)

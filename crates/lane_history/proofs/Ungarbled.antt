@@ -1,7 +1,7 @@
 -- No reply of a history is garbled.
-use Rattle.std.proofs.Common.{◌≡◌, ◌≢◌, ℕ, zero, suc, ◌+◌, List, [], ◌∷◌, ◌++◌, length, map, take, Option, Some, None}
-use Rattle.std.proofs.Common.{sym, ap, ◌∙◌, subst, arith, append_assoc, length-append}
-use Rattle.std.specs.List.{AllByRecursion, zip}
+use Rattle.std.proofs.Common.{◌≡◌, ℕ, zero, suc, ◌+◌, List, [], ◌∷◌, ◌++◌, length, map, take, Option, Some, None}
+use Rattle.std.proofs.Common.{drop, get_or, refl, sym, ap, ◌∙◌, subst, arith, append_assoc, length-append}
+use Rattle.std.specs.List.{AllByRecursion}
 use Rattle.std.proofs.lemmas.Option.{same_Some}
 use Rattle.ipb_base.specs.Word.{AreWords}
 use Rattle.ipb_base.proofs.AllLemmas.{AllByRecursion-append, front_of_all, back_of_all}
@@ -15,13 +15,13 @@ use Rattle.lane_record.specs.declared.outcome.Outcome.{Outcome}
 use Rattle.lane_record.specs.declared.outcome.Outcome.TheVariants.{Replied, TimedOut, Unsent, LinkLost}
 use Rattle.lane_record.specs.Outcomes.{place_of}
 use Rattle.lane_record.specs.Lists.{CountsFrom}
-use Rattle.transcript.specs.declared.body_end.Told.TheVariants.{Garbled}
+use Rattle.reply_join.specs.ByWords.{answers}
 use Rattle.script_plans.specs.declared.board_run.ClientPart.{ClientPart}
 use Rattle.script_plans.specs.declared.board_run.BoardRun.{BoardRun}
 use Rattle.script_plans.specs.Plan.{AreSpelled}
-use Rattle.transcript.specs.Ends.{told_of, told_by, end_of, ends_of}
+use Rattle.transcript.specs.Ends.{told_by, end_of, ends_of, ends_with}
 use Rattle.board_history.specs.Order.{Placed, with_place, placed, all_placed, order, places_of, bodies_of}
-use Rattle.board_history.specs.Parts.{IsReplyOf}
+use Rattle.board_history.specs.Parts.{AreBeside, IsLateReplyOf, IsReplyOf}
 use Rattle.board_history.specs.History.{ShowsHistory, bodies_by_client, outcomes_by_client}
 use Rattle.board_history.proofs.Sorting.{all_sorted, sorted_all}
 use Rattle.board_history.specs.Answering.{AsksRequests, AskRequests}
@@ -29,6 +29,7 @@ use Rattle.board_history.proofs.Answering.{Answering, AnsweringAny, Keeping, Kee
 use Rattle.board_history.proofs.Answering.{body_told}
 use Rattle.board_history.proofs.Answering.{spelled_words}
 use Rattle.lane_history.specs.Runs.{IsUngarbled, NoneGarbled}
+use Rattle.lane_history.proofs.Lates.{beside_first, beside_rest}
 
 -- ---- each body stands at its place in the order
 
@@ -82,9 +83,23 @@ words_take (suc n) (b ∷ bs) all = (all.0, words_take n bs all.1)
 
 -- ---- the reply at a place is one to the body there
 
-told_ungarbled : (body : List ℕ) (o : Outcome) → IsTold body o → told_of body o ≢ Garbled
-told_ungarbled body o is = subst (λ (p : Outcome). told_of body p ≢ Garbled) (sym is.is)
-    (λ e. let answered = ap told_by is.found in absurd cc)
+told_ungarbled : (body : List ℕ) (o : Outcome) (late : Option (List ℕ)) → IsTold body o
+    → IsUngarbled (end_of body o late)
+told_ungarbled body o late is = subst (λ (p : Outcome). IsUngarbled (end_of body p late)) (sym is.is) (record {
+  in_time = λ e. let answered = ap told_by is.found in absurd cc;
+  late = λ rounds e. let answered = ap told_by is.found in absurd cc;
+})
+
+-- a body that was timed out shows no reply, or its late answer
+late_ungarbled : (body : List ℕ) (place rounds : ℕ) (late : Option (List ℕ))
+    → ((words : List ℕ) → late ≡ Some words → IsTold body (Replied place words))
+    → IsUngarbled (end_of body (TimedOut place rounds) late)
+late_ungarbled body place rounds None told = record { in_time = λ e. absurd cc; late = λ more e. absurd cc }
+late_ungarbled body place rounds (Some words) told =
+    let is = told words refl in
+    let same : words ≡ is.words = let replied = is.is in cc in
+    let found = ap (answers body) same ∙ is.found in
+    record { in_time = λ e. absurd cc; late = λ more e. absurd (let answered = found in cc) }
 
 module _ (answering : Answering) (any : AnsweringAny) (keeping : Keeping) (keeping_all : KeepingAll)
     (garbling : Garbling) (joins : Joins) where
@@ -100,26 +115,51 @@ module _ (answering : Answering) (any : AnsweringAny) (keeping : Keeping) (keepi
       subst (λ (ws : List ℕ). IsTold body (Replied (suc k) ws)) right
       (body_told answering any keeping keeping_all garbling joins (suc k) cells body kept spelled)
 
+  -- the late answer at the place of a body is one to that body
+  pub late_told : (opening : CellMap) (ps : List Placed) (body : List ℕ) (place rounds : ℕ) (late : Option (List ℕ))
+      → HoldsWords opening → AllByRecursion AreWords (bodies_of ps) → SpellsRequests body
+      → StandsIn ps (record { place = place; body = body })
+      → IsLateReplyOf (replay opening (bodies_of ps)).replies (TimedOut place rounds) late → (words : List ℕ)
+      → late ≡ Some words → IsTold body (Replied place words)
+  late_told opening ps body place rounds late holds all spelled stand right words came =
+      reply_told opening (bodies_of ps) place body words holds all spelled
+      (at_map (λ (p : Placed). p.body) ps place (record { place = place; body = body }) stand)
+      (subst (IsLateReplyOf (replay opening (bodies_of ps)).replies (TimedOut place rounds)) came right)
+
   client_ungarbled : (opening : CellMap) (ps : List Placed) (bodies : List (List ℕ)) (outcomes : List Outcome)
-      → HoldsWords opening → AllByRecursion AreWords (bodies_of ps) → AreSpelled bodies
-      → AllByRecursion (StandsIn ps) (placed bodies outcomes)
+      (lates : List (Option (List ℕ))) → HoldsWords opening → AllByRecursion AreWords (bodies_of ps)
+      → AreSpelled bodies → AllByRecursion (StandsIn ps) (placed bodies outcomes)
       → AllByRecursion (IsReplyOf (replay opening (bodies_of ps)).replies) outcomes
-      → AllByRecursion IsUngarbled (map end_of (zip bodies outcomes))
-  client_ungarbled opening ps [] outcomes holds all spelled stand replies = tt
-  client_ungarbled opening ps (b ∷ bs) [] holds all spelled stand replies = tt
-  client_ungarbled opening ps (b ∷ bs) (Replied place words ∷ os) holds all spelled stand replies = (
-    told_ungarbled b (Replied place words) (reply_told opening (bodies_of ps) place b words holds all spelled.0
-        (at_map (λ (p : Placed). p.body) ps place (record { place = place; body = b }) stand.0) replies.0),
-    client_ungarbled opening ps bs os holds all spelled.1 stand.1 replies.1,
+      → AreBeside (IsLateReplyOf (replay opening (bodies_of ps)).replies) outcomes lates
+      → AllByRecursion IsUngarbled (ends_with bodies outcomes lates)
+  client_ungarbled opening ps [] outcomes lates holds all spelled stand replies right = tt
+  client_ungarbled opening ps (b ∷ bs) [] lates holds all spelled stand replies right = tt
+  client_ungarbled opening ps (b ∷ bs) (Replied place words ∷ os) lates holds all spelled stand replies right =
+      let is = IsLateReplyOf (replay opening (bodies_of ps)).replies in (
+        told_ungarbled b (Replied place words) (get_or lates 0 None)
+            (reply_told opening (bodies_of ps) place b words holds all spelled.0
+            (at_map (λ (p : Placed). p.body) ps place (record { place = place; body = b }) stand.0) replies.0),
+        client_ungarbled opening ps bs os (drop 1 lates) holds all spelled.1 stand.1 replies.1
+            (beside_rest is (Replied place words) os lates right),
+      )
+  client_ungarbled opening ps (b ∷ bs) (TimedOut place rounds ∷ os) lates holds all spelled stand replies right =
+      let is = IsLateReplyOf (replay opening (bodies_of ps)).replies in (
+        late_ungarbled b place rounds (get_or lates 0 None)
+            (late_told opening ps b place rounds (get_or lates 0 None) holds all spelled.0 stand.0
+            (beside_first is (TimedOut place rounds) os lates tt right)),
+        client_ungarbled opening ps bs os (drop 1 lates) holds all spelled.1 stand.1 replies.1
+            (beside_rest is (TimedOut place rounds) os lates right),
+      )
+  client_ungarbled opening ps (b ∷ bs) (Unsent ∷ os) lates holds all spelled stand replies right = (
+    record { in_time = λ e. absurd cc; late = λ rounds e. absurd cc },
+    client_ungarbled opening ps bs os (drop 1 lates) holds all spelled.1 stand replies.1
+        (beside_rest (IsLateReplyOf (replay opening (bodies_of ps)).replies) Unsent os lates right),
   )
-  client_ungarbled opening ps (b ∷ bs) (TimedOut place rounds ∷ os) holds all spelled stand replies =
-      ((λ e. absurd cc), client_ungarbled opening ps bs os holds all spelled.1 stand.1 replies.1)
-  client_ungarbled opening ps (b ∷ bs) (Unsent ∷ os) holds all spelled stand replies =
-      ((λ e. absurd cc), client_ungarbled opening ps bs os holds all spelled.1 stand replies.1)
-  client_ungarbled opening ps (b ∷ bs) (LinkLost place ∷ os) holds all spelled stand replies = (
-    (λ e. absurd cc),
-    client_ungarbled opening ps bs os holds all spelled.1
-        (back_of_all (StandsIn ps) (with_place b place) (placed bs os) stand) replies.1,
+  client_ungarbled opening ps (b ∷ bs) (LinkLost place ∷ os) lates holds all spelled stand replies right = (
+    record { in_time = λ e. absurd cc; late = λ rounds e. absurd cc },
+    client_ungarbled opening ps bs os (drop 1 lates) holds all spelled.1
+        (back_of_all (StandsIn ps) (with_place b place) (placed bs os) stand) replies.1
+        (beside_rest (IsLateReplyOf (replay opening (bodies_of ps)).replies) (LinkLost place) os lates right),
   )
 
   parts_ungarbled : (opening : CellMap) (ps : List Placed) (parts : List ClientPart) → HoldsWords opening
@@ -128,15 +168,18 @@ module _ (answering : Answering) (any : AnsweringAny) (keeping : Keeping) (keepi
       (map (λ (p : ClientPart). p.outcomes) parts))
       → AllByRecursion (AllByRecursion (IsReplyOf (replay opening (bodies_of ps)).replies))
       (map (λ (p : ClientPart). p.outcomes) parts)
+      → AreBeside (AreBeside (IsLateReplyOf (replay opening (bodies_of ps)).replies))
+      (map (λ (p : ClientPart). p.outcomes) parts) (map (λ (p : ClientPart). p.lates) parts)
       → AllByRecursion (λ (part : ClientPart). AllByRecursion IsUngarbled (ends_of part)) parts
-  parts_ungarbled opening ps [] holds all asks stand replies = tt
-  parts_ungarbled opening ps (p ∷ parts) holds all asks stand replies =
+  parts_ungarbled opening ps [] holds all asks stand replies right = tt
+  parts_ungarbled opening ps (p ∷ parts) holds all asks stand replies right =
       let mine = placed p.planned.bodies p.outcomes in
       let rest = all_placed (map (λ (q : ClientPart). q.planned.bodies) parts)
       (map (λ (q : ClientPart). q.outcomes) parts) in (
-        client_ungarbled opening ps p.planned.bodies p.outcomes holds all asks.0
-            (front_of_all (StandsIn ps) mine rest stand) replies.0,
-        parts_ungarbled opening ps parts holds all asks.1 (back_of_all (StandsIn ps) mine rest stand) replies.1,
+        client_ungarbled opening ps p.planned.bodies p.outcomes p.lates holds all asks.0
+            (front_of_all (StandsIn ps) mine rest stand) replies.0 right.0,
+        parts_ungarbled opening ps parts holds all asks.1 (back_of_all (StandsIn ps) mine rest stand) replies.1
+            right.1,
       )
 
   pub none_garbled : (opening : CellMap) (run : BoardRun) → HoldsWords opening → AskRequests run
@@ -146,4 +189,4 @@ module _ (answering : Answering) (any : AnsweringAny) (keeping : Keeping) (keepi
       let all = order (bodies_by_client run) (outcomes_by_client run) in
       parts_ungarbled opening all run.parts holds
       (words_of all (all_sorted HasWords placed_all (all_words run.parts asks))) asks
-      (sorted_all (StandsIn all) placed_all (all_stand all is.one_order)) is.replies
+      (sorted_all (StandsIn all) placed_all (all_stand all is.one_order)) is.replies is.late

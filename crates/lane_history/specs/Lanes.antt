@@ -4,17 +4,22 @@ use Rattle.std.specs.Prelude.{◌≡◌, ℕ, ◌+◌, ◌*◌, List, map, slice
 use Rattle.ipb_base.specs.Lists.{IsPrefix}
 use Rattle.board_bus.specs.Cells.{CellMap}
 use Rattle.board_bus.specs.Bodies.{replay}
+use Rattle.world_core.specs.Telling.{Telling}
 use Rattle.world_model.specs.declared.offered.Offered.{Offered}
 use Rattle.world_model.specs.Board.{Board, executed}
+use Rattle.world_model.specs.Places.{at_place}
 use Rattle.world_model.specs.Settings.{Limits}
 use Rattle.lane_record.specs.declared.outcome.Outcome.{Outcome}
+use Rattle.lane_record.specs.declared.outcome.Outcome.TheVariants.{TimedOut}
 use Rattle.lane_record.specs.declared.item.Item.{Item}
 use Rattle.lane_record.specs.Claims.{Claim, claims}
+use Rattle.lane_record.specs.Lates.{WasTimedOut, late_in}
 use Rattle.lane_record.specs.Offers.{offers_from}
 use Rattle.lane_record.specs.Bounds.{IsKept, AreLostOnlyIf, HasReached, TellRounds}
-use Rattle.lane_record.specs.Outcomes.{is_replied}
+use Rattle.lane_record.specs.Outcomes.{AreSettled, is_replied}
 use Rattle.board_history.specs.Parts.{IsReplyOf}
-use Rattle.lane_history.specs.Links.{LinkReport, HasFailed}
+use Rattle.lane_history.specs.Lates.{IsLateExactly}
+use Rattle.lane_history.specs.Links.{LinkReport, HasFailed, board_there}
 use Rattle.lane_history.specs.Records.{has_become}
 
 -- the bodies of the Asks that were sent or may still be, in the order of the Asks
@@ -22,16 +27,23 @@ abbrev pub bodies_offered : List Claim → List (Option Outcome) → List (List 
 bodies_offered claims outcomes = map (λ (o : Offered). o.body) (offers_from 0 claims outcomes)
 
 -- What the board executed is a front of the bodies offered, and each reply is the one that a bus with a single thread
--- gives at its place when it executes this front.
+-- gives at its place when it executes this front. So is what came late at a place.
 pub record IsTrueOf (opening : CellMap) (claims : List Claim) (outcomes : List (Option Outcome))
-    (done : List (List ℕ)) : Type 0 where
+    (lates : List (Option (List ℕ))) (done : List (List ℕ)) : Type 0 where
   pub front : IsPrefix done (bodies_offered claims outcomes)
   pub replies : (k : ℕ) (outcome : Outcome) → slice_get outcomes k ≡ Some (Some outcome)
       → IsReplyOf (replay opening done).replies outcome
+  pub late : (place : ℕ) (words : List ℕ) → late_in lates place ≡ Some words
+      → at_place (replay opening done).replies place ≡ Some words
+
+-- over a link that tells, what came late for each body that was timed out is what the link handed out for it
+abbrev pub IsLateAsHanded : List (Option Outcome) → List (Option (List ℕ)) → Telling → Type 0
+IsLateAsHanded outcomes lates t = (k place rounds : ℕ) → slice_get outcomes k ≡ Some (Some (TimedOut place rounds))
+    → IsLateExactly t place (late_in lates place)
 
 -- A lane that gave up so many times, whose board opened with this bus.
 pub record IsSoundLane (settings : Limits) (opening : CellMap) (link : LinkReport) (items : List Item)
-    (outcomes : List (Option Outcome)) (given_up : ℕ) : Type 0 where
+    (outcomes : List (Option Outcome)) (lates : List (Option (List ℕ))) (given_up : ℕ) : Type 0 where
   -- its record is legal, its numbers of give-ups are at most these, and each ended at most `window` bodies
   pub kept : IsKept items outcomes settings.window given_up
   -- each give-up cost `rounds + 1` quiet receives
@@ -42,6 +54,11 @@ pub record IsSoundLane (settings : Limits) (opening : CellMap) (link : LinkRepor
   pub lost : AreLostOnlyIf (HasFailed link) outcomes
   -- a body that was timed out tells the rounds of the settings
   pub tells : TellRounds settings.rounds outcomes
+  -- what came late at a place is of a body that was timed out
+  pub late : (place : ℕ) (words : List ℕ) → late_in lates place ≡ Some words → WasTimedOut outcomes place
   -- over a link that tells
-  pub told : IfSome link.board (λ (board : Board). IsTrueOf opening (claims items) outcomes (executed board))
-  pub held : IfSome link.board (λ (board : Board). HasReached (settings.rounds * given_up) link.held)
+  pub told : IfSome (board_there link.telling)
+      (λ (board : Board). IsTrueOf opening (claims items) outcomes lates (executed board))
+  -- and once something became of each Ask
+  pub exactly : AreSettled outcomes → IfSome link.telling (IsLateAsHanded outcomes lates)
+  pub held : IfSome link.telling (λ _. HasReached (settings.rounds * given_up) link.held)

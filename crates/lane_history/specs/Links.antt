@@ -2,6 +2,7 @@
 use Rattle.std.specs.Prelude.{◌≡◌, ℕ, ◌≤◌, true, [], Option, Some, None, IfSome}
 use Rattle.board_bus.specs.Ranges.{opening_bus}
 use Rattle.world_model.specs.Board.{Board, executed}
+use Rattle.world_core.specs.Telling.{Telling}
 use Rattle.board_node.specs.declared.spec.LinkSpec.{LinkSpec}
 use Rattle.board_node.specs.declared.spec.LinkSpec.TheVariants.{Sim, Udp}
 use Rattle.board_history.specs.Runs.{RunsHere}
@@ -9,13 +10,19 @@ use Rattle.lane_record.specs.declared.outcome.Outcome.{Outcome}
 use Rattle.lane_record.specs.Outcomes.{is_lost}
 
 -- Counts since the link was made, each of 64 bits: how often the network failed, how many receives were quiet and how
--- many got a datagram, and how many datagrams were lost, delayed or dropped. `board` is there where the link tells.
+-- many got a datagram, and how many datagrams were lost, delayed or dropped; and what the link tells of its board and
+-- of the datagrams that it carried, where it tells.
 pub record LinkReport : Type 0 where
   pub faults : ℕ
   pub quiets : ℕ
   pub gots : ℕ
   pub held : ℕ
-  pub board : Option Board
+  pub telling : Option Telling
+
+-- the board of a link that tells
+abbrev pub board_there : Option Telling → Option Board
+board_there None = None
+board_there (Some telling) = Some telling.told.board
 
 abbrev pub HasFailed : LinkReport → Type 0
 HasFailed link = 1 ≤ link.faults
@@ -47,10 +54,10 @@ IsLostOnlyIfFailed link outcome = is_lost outcome ≡ true → HasFailed link
 -- A link that tells, lost, delayed and dropped no datagram, and never failed.
 pub record IsFaithful (link : LinkReport) : Type 0 where
   pub there : Board
-  pub tells : link.board ≡ Some there
+  pub tells : board_there link.telling ≡ Some there
   pub held' : link.held ≡ 0
   pub faults' : link.faults ≡ 0
 
 -- where the link tells, its board executed nothing
 abbrev pub IsUntouched : LinkReport → Type 0
-IsUntouched link = IfSome link.board (λ board. executed board ≡ [])
+IsUntouched link = IfSome (board_there link.telling) (λ board. executed board ≡ [])

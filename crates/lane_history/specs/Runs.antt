@@ -1,5 +1,6 @@
 -- What a run shows of boards whose links may lose, repeat, delay and reorder datagrams, and fail. Profile.
-use Rattle.std.specs.Prelude.{◌≡◌, ◌≢◌, ℕ, ◌+◌, ◌*◌, ◌≤◌, true, List, [], ◌∷◌, length, map, count_by, IfSome, is_some}
+use Rattle.std.specs.Prelude.{◌≡◌, ◌≢◌, ℕ, ◌+◌, ◌*◌, ◌≤◌, true, List, [], ◌∷◌, length, map, count_by, None, IfSome}
+use Rattle.std.specs.Prelude.{is_some}
 use Rattle.std.specs.List.{AllByRecursion, AllZip}
 use Rattle.ipb_base.specs.Numbers.{payload_of}
 use Rattle.mtu_packer.specs.declared.packing.TheConstants.{MIN_PAYLOAD, MAX_PAYLOAD}
@@ -13,8 +14,9 @@ use Rattle.lane_record.specs.Outcomes.{TellsRounds, is_replied}
 use Rattle.script_steps.specs.declared.operation.Step.{Step}
 use Rattle.script_plans.specs.declared.greeting.Greeting.{Greeting}
 use Rattle.script_plans.specs.declared.greeting.Greeting.TheVariants.{Live, Silent, Down}
-use Rattle.transcript.specs.declared.body_end.Told.TheVariants.{Garbled}
+use Rattle.transcript.specs.declared.body_end.Told.TheVariants.{Garbled, Late}
 use Rattle.transcript.specs.declared.body_end.BodyEnd.{BodyEnd}
+use Rattle.transcript.specs.declared.line.LateAnswer.TheVariants as late_answer
 use Rattle.transcript.specs.declared.line.OpResult.{OpResult}
 use Rattle.transcript.specs.declared.line.OpResult.TheVariants as result
 use Rattle.transcript.specs.declared.line.OpLine.{OpLine}
@@ -26,14 +28,17 @@ use Rattle.transcript.specs.Ends.{ends_of}
 use Rattle.script_plans.specs.Runs.{outcomes_on, IsPlanned}
 use Rattle.script_plans.specs.Plan.{ClientBodies, plans_on}
 use Rattle.board_history.specs.Order.{order}
-use Rattle.board_history.specs.Parts.{HasOneOrder, KeepsScripts, AreRepliesOf, IsExecutedOnce, AllReplied}
+use Rattle.board_history.specs.Parts.{HasOneOrder, KeepsScripts, AreRepliesOf, AreLateRepliesOf, IsExecutedOnce}
+use Rattle.board_history.specs.Parts.{AllReplied}
 use Rattle.board_history.specs.History.{ShowsHistory, bodies_by_client, outcomes_by_client, dispatches_by_client}
+use Rattle.board_history.specs.History.{lates_by_client}
 use Rattle.board_history.specs.GiveUps.{GaveUpOnlyAfter, IsExact}
 use Rattle.board_history.specs.Merges.{IsMergeOfSome, IsMergeOfAll}
 use Rattle.board_history.specs.InTurn.{IsUsedByOne}
 use Rattle.board_history.specs.Runs.{board_run, greeting_of, opening_of}
+use Rattle.lane_history.specs.Lates.{AreLateExactly, AreLateOnlyIfTimedOut}
 use Rattle.lane_history.specs.Links.{LinkReport, HasFailed, IsBoardOf, IsLostOnlyIfFailed}
-use Rattle.lane_history.specs.Links.{IsUntouched}
+use Rattle.lane_history.specs.Links.{IsUntouched, board_there}
 
 -- ---- what the scripts ask
 
@@ -52,11 +57,14 @@ TellsPayload (Udp address port wait) payload = (MIN_PAYLOAD ≤ payload) × (pay
 
 -- Over a link that tells, so many datagrams having been held:
 pub record IsTrueRun (settings : Limits) (opening : CellMap) (run : BoardRun) (held : ℕ) (board : Board) : Type 0 where
-  -- the board executed a front of the order, each body once, and each body that was replied to
+  -- the board executed a front of the order, each body once, and each body that was replied to, in time or late
   pub executed_once : IsExecutedOnce (order (bodies_by_client run) (outcomes_by_client run)) (outcomes_by_client run)
-      (executed board)
+      (lates_by_client run) (executed board)
   -- each reply is the one that a bus with a single thread gives at its place
   pub replies : AreRepliesOf opening (order (bodies_by_client run) (outcomes_by_client run)) (outcomes_by_client run)
+  -- and so is each late answer
+  pub late : AreLateRepliesOf opening (order (bodies_by_client run) (outcomes_by_client run)) (outcomes_by_client run)
+      (lates_by_client run)
   -- the hub gave up only where datagrams were held in each round
   pub held' : GaveUpOnlyAfter settings.window settings.rounds held (dispatches_by_client run)
 
@@ -81,7 +89,18 @@ pub record HoldsOverAnyLink (settings : Limits) (spec : BoardSpec) (payload : �
 pub record IsLiveRun (settings : Limits) (spec : BoardSpec) (payload : ℕ) (run : BoardRun) (link : LinkReport)
     : Type 0 where
   pub any_link : HoldsOverAnyLink settings spec payload run link
-  pub told : IfSome link.board (IsTrueRun settings (opening_of spec.link) run link.held)
+  pub told : IfSome (board_there link.telling) (IsTrueRun settings (opening_of spec.link) run link.held)
+
+-- ---- what came late
+
+-- What a run shows of late answers, over this link.
+pub record ShowsLates (run : BoardRun) (link : LinkReport) : Type 0 where
+  -- over any link only a body that was timed out has a late answer
+  pub timed_out : AllByRecursion (λ (part : ClientPart). AreLateOnlyIfTimedOut part.outcomes part.lates) run.parts
+  -- over a link that tells a body that was timed out has a late answer exactly where the link handed out a reply of its
+  -- place, and its words are those of that reply
+  pub exactly : IfSome link.telling
+      (λ t. AllByRecursion (λ (part : ClientPart). AreLateExactly t part.outcomes part.lates) run.parts)
 
 -- ---- the others
 
@@ -89,8 +108,8 @@ pub record IsLiveRun (settings : Limits) (spec : BoardSpec) (payload : ℕ) (run
 -- link that tells each ended with a quiet receive, datagrams were held in each, and the board executed nothing.
 pub record IsSilentRun (settings : Limits) (link : LinkReport) : Type 0 where
   pub waited : 64 * settings.rounds ≤ 64 * link.quiets + link.gots
-  pub quiet : IfSome link.board (λ board. settings.rounds ≤ link.quiets)
-  pub held : IfSome link.board (λ board. settings.rounds ≤ link.held)
+  pub quiet : IfSome link.telling (λ _. settings.rounds ≤ link.quiets)
+  pub held : IfSome link.telling (λ _. settings.rounds ≤ link.held)
   pub untouched : IsUntouched link
 
 -- A board is down only where its link failed at the greeting, and it executed nothing then.
@@ -109,8 +128,9 @@ IsAsTold settings spec run link Down = IsDownRun link
 pub record IsRunOver (settings : Limits) (spec : BoardSpec) (board : ℕ) (scripts : List (List Step)) (run : BoardRun)
     (link : LinkReport) : Type 0 where
   pub scripts' : ShowsScripts spec board scripts run
-  pub board' : IsBoardOf spec.link link.board
+  pub board' : IsBoardOf spec.link (board_there link.telling)
   pub as_told : IsAsTold settings spec run link run.greeting
+  pub lates : ShowsLates run link
 
 -- The same of all boards, the first of which has this position: there is one run and one link for each.
 abbrev pub AreRunsOver : Limits → ℕ → List BoardSpec → List (List Step) → List BoardRun → List LinkReport → Type 0
@@ -121,27 +141,33 @@ AreRunsOver settings board specs scripts runs links = ⊥
 
 -- ---- replies
 
--- the words of its reply, where it has one, are a reply to the body
-abbrev pub IsUngarbled : BodyEnd → Type 0
-IsUngarbled end = end.told ≢ Garbled
+-- the words of its reply, where it has one, are a reply to the body, and so are those of its late answer
+pub record IsUngarbled (end : BodyEnd) : Type 0 where
+  pub in_time : end.told ≢ Garbled
+  pub late : (rounds : ℕ) → end.told ≢ Late rounds None
 
 -- so of no body of the board: each reply answers all transactions of its body
 abbrev pub NoneGarbled : BoardRun → Type 0
 NoneGarbled run = AllByRecursion (λ (part : ClientPart). AllByRecursion IsUngarbled (ends_of part)) run.parts
 
--- no line of an operation shows so
+-- the result of an operation does not show so, nor does the late answer in it
+pub record IsUngarbledResult (shown : OpResult) : Type 0 where
+  pub in_time : shown ≢ result.Garbled
+  pub late : (rounds : ℕ) → shown ≢ result.Late rounds late_answer.Garbled
+
 abbrev pub IsUngarbledLine : OpLine → Type 0
-IsUngarbledLine line = line.result ≢ result.Garbled
+IsUngarbledLine line = IsUngarbledResult line.result
 
 -- so of the line of an operation on a board whose link tells
 abbrev pub IsUngarbledWhereTold : List BoardRun → List LinkReport → OpLine → Type 0
 IsUngarbledWhereTold runs links line =
-    AllZip (λ (run : BoardRun) (link : LinkReport). run.name ≡ line.board → is_some link.board ≡ true
+    AllZip (λ (run : BoardRun) (link : LinkReport). run.name ≡ line.board → is_some link.telling ≡ true
     → IsUngarbledLine line) runs links
 
--- a result that was timed out shows so many rounds
+-- a result that was timed out, answered late or not, shows so many rounds
 abbrev pub ShowsRounds : ℕ → OpResult → Type 0
 ShowsRounds rounds (result.TimedOut shown) = shown ≡ rounds
+ShowsRounds rounds (result.Late shown answer) = shown ≡ rounds
 ShowsRounds rounds other = Unit {0}
 
 -- the same of the line of an operation
@@ -155,7 +181,7 @@ IsLineOfRounds rounds line = ShowsRounds rounds line.result
 abbrev pub TimeOutsWaited : Limits → BoardLine → LinkReport → Type 0
 TimeOutsWaited settings (board_lines.Live name sent replied timed_out lost) link =
     (IsExact link.quiets → (settings.rounds + 1) * timed_out ≤ settings.window * link.quiets)
-    × IfSome link.board (λ _. IsExact link.held → settings.rounds * timed_out ≤ settings.window * link.held)
+    × IfSome link.telling (λ _. IsExact link.held → settings.rounds * timed_out ≤ settings.window * link.held)
 TimeOutsWaited settings (board_lines.Silent name) link = Unit {0}
 TimeOutsWaited settings (board_lines.Down name) link = Unit {0}
 
@@ -168,22 +194,24 @@ RepliesCame (board_lines.Down name) link = Unit {0}
 
 -- ---- at any moment
 
--- What the board at this position executed is a merge of bodies that the clients' scripts ask of it, each client's in
--- its order.
-pub record ExecutedSome (spec : BoardSpec) (board : ℕ) (scripts : List (List Step)) (done : List (List ℕ))
+-- These bodies are a merge of some that the clients' scripts ask of the board at this position, each client's in the
+-- order of its script.
+pub record IsMergeOfAsked (spec : BoardSpec) (board : ℕ) (scripts : List (List Step)) (bodies : List (List ℕ))
     : Type 0 where
   pub payload : ℕ
   pub told : TellsPayload spec.link payload
-  pub merge : IsMergeOfSome (map (λ (p : ClientBodies). p.bodies) (plans_on board (Live payload) scripts)) done
+  pub merge : IsMergeOfSome (map (λ (p : ClientBodies). p.bodies) (plans_on board (Live payload) scripts)) bodies
 
 -- ---- where nothing was held and nothing failed
 
--- Each body was replied to, and the board executed all bodies of all clients, each client's in its order.
+-- Each body was replied to, nothing came late, and the board executed all bodies of all clients, each client's in its
+-- order.
 pub record IsWholeRun (spec : BoardSpec) (run : BoardRun) (link : LinkReport) : Type 0 where
   pub greeting : run.greeting ≡ greeting_of spec.link
   pub replied : AllReplied (outcomes_by_client run)
+  pub in_time : AllByRecursion (λ (part : ClientPart). part.lates ≡ []) run.parts
   pub history : ShowsHistory (opening_of spec.link) run
-  pub all_executed : IfSome link.board (λ board. IsMergeOfAll (bodies_by_client run) (executed board))
+  pub all_executed : IfSome (board_there link.telling) (λ board. IsMergeOfAll (bodies_by_client run) (executed board))
 
 -- the same of all boards
 abbrev pub AreWholeRuns : List BoardSpec → List BoardRun → List LinkReport → Type 0
@@ -206,7 +234,7 @@ abbrev pub ShowAloneRunsWhereTold :
     ℕ → List BoardSpec → List (List Step) → List BoardRun → List LinkReport → Type 0
 ShowAloneRunsWhereTold board [] scripts [] [] = Unit {0}
 ShowAloneRunsWhereTold board (spec ∷ specs) scripts (run ∷ runs) (link ∷ links) =
-    ((payload : ℕ) → run.greeting ≡ Live payload → is_some link.board ≡ true → IsUsedByOne (bodies_by_client run)
+    ((payload : ℕ) → run.greeting ≡ Live payload → is_some link.telling ≡ true → IsUsedByOne (bodies_by_client run)
     → run ≡ board_run spec board scripts)
     × ShowAloneRunsWhereTold (board + 1) specs scripts runs links
 ShowAloneRunsWhereTold board specs scripts runs links = ⊥
@@ -222,6 +250,6 @@ HaveOwnBoards board (spec ∷ specs) scripts =
 abbrev pub AllExecutedSome : ℕ → List BoardSpec → List (List Step) → List LinkReport → Type 0
 AllExecutedSome board [] scripts [] = Unit {0}
 AllExecutedSome board (spec ∷ specs) scripts (link ∷ links) =
-    IfSome link.board (λ there. ExecutedSome spec board scripts (executed there))
+    IfSome (board_there link.telling) (λ there. IsMergeOfAsked spec board scripts (executed there))
     × AllExecutedSome (board + 1) specs scripts links
 AllExecutedSome board specs scripts links = ⊥

@@ -22,7 +22,7 @@ ghost use Rattle.board_history.specs.GiveUps.{time_outs};
 ghost use Rattle.board_history.specs.Runs.{board_run, opening_of, runs_from};
 ghost use Rattle.board_history.specs.Lines.{IsBusLine};
 ghost use Rattle.board_history.specs.Answering.{AskRequests, OpensWithWords};
-ghost use Rattle.lane_history.specs.Links.{CanBeMade, IsFaithful, LinkReport};
+ghost use Rattle.lane_history.specs.Links.{CanBeMade, IsFaithful, LinkReport, board_there};
 ghost use Rattle.lane_history.specs.Runs.{AllExecutedSome, AreRunsOver, AreWholeRuns, IsRunOver, IsUngarbledWhereTold};
 ghost use Rattle.lane_history.specs.Runs.{HaveOwnBoards, IsLineOfRounds, NoneGarbled, ShowAloneRuns};
 ghost use Rattle.lane_history.specs.Runs.{ShowAloneRunsWhereTold, ShowsScripts};
@@ -44,15 +44,15 @@ use transcript::laws::the_status_tells_whether_all_was_done;
 pub fn a_live_board_shows_a_history()
     ensures { (settings : Limits) (spec : BoardSpec) (board : ℕ) (scripts : List (List Step)) (run : BoardRun)
         (link : LinkReport) (there : Board) (payload : ℕ) → IsRunOver settings spec board scripts run link →
-        run.greeting ≡ Live payload → link.board ≡ Some there → ShowsHistory (opening_of spec.link) run }
+        run.greeting ≡ Live payload → board_there link.telling ≡ Some there → ShowsHistory (opening_of spec.link) run }
 {}
 
-/// Over a link that tells no reply is garbled: each answers all transactions of its body. The board opens with words of
-/// 32 bits, and the bodies are those of requests.
+/// Over a link that tells no reply is garbled, in time or late: each answers all transactions of its body. The board
+/// opens with words of 32 bits, and the bodies are those of requests.
 pub fn no_reply_is_garbled()
     ensures { (settings : Limits) (spec : BoardSpec) (board : ℕ) (scripts : List (List Step)) (run : BoardRun)
         (link : LinkReport) (there : Board) → IsRunOver settings spec board scripts run link →
-        link.board ≡ Some there → OpensWithWords spec → AskRequests run → NoneGarbled run }
+        board_there link.telling ≡ Some there → OpensWithWords spec → AskRequests run → NoneGarbled run }
 {
     a_reply_answers_its_body();
     words_stay_words();
@@ -136,20 +136,20 @@ pub fn clients_with_boards_of_their_own_have_one_run()
     a_client_alone_has_one_run();
 }
 
-/// What is shown of a live board that one client uses alone is determined also where its link lost, repeated, delayed or
-/// reordered datagrams, if it tells and each body of that client was replied to.
+/// What is shown of a live board that one client uses alone is determined also where its link lost, repeated, delayed
+/// or reordered datagrams, if it tells and each body of that client was replied to.
 pub fn a_client_alone_whose_bodies_were_replied_to_has_one_run()
     ensures { (settings : Limits) (spec : BoardSpec) (board : ℕ) (scripts : List (List Step)) (run : BoardRun)
         (link : LinkReport) (there : Board) (payload : ℕ) → IsRunOver settings spec board scripts run link →
-        run.greeting ≡ Live payload → link.board ≡ Some there → IsUsedByOne (bodies_by_client run) →
+        run.greeting ≡ Live payload → board_there link.telling ≡ Some there → IsUsedByOne (bodies_by_client run) →
         AllReplied (outcomes_by_client run) → run ≡ board_run spec board scripts }
 {
     a_client_alone_is_in_turn();
     a_session_has_one_run();
 }
 
-/// Where every line of a session is a value, `done` or `was`, each body of each client was replied to, whatever the links
-/// lost, repeated, delayed or reordered.
+/// Where every line of a session is a value, `done` or `was`, each body of each client was replied to, whatever the
+/// links lost, repeated, delayed or reordered.
 pub fn where_all_was_done_each_body_was_replied_to()
     ensures { (settings : Limits) (specs : List BoardSpec) (scripts : List (List Step)) (runs : List BoardRun)
         (links : List LinkReport) → AreRunsOver settings 0 specs scripts runs links →
@@ -170,9 +170,9 @@ pub fn where_all_was_done_a_client_alone_has_one_run()
     a_client_alone_whose_bodies_were_replied_to_has_one_run();
 }
 
-/// No line of an operation on a board whose link tells is garbled, whatever the links lose, repeat, delay or reorder,
-/// and where they fail. The simulated boards run here and open with words of 32 bits, the boards have names of their
-/// own, and the scripts can be executed, as it is of every session that can be run.
+/// No line of an operation on a board whose link tells is garbled, nor is the late answer that it shows, whatever the
+/// links lose, repeat, delay or reorder, and where they fail. The simulated boards run here and open with words of 32
+/// bits, the boards have names of their own, and the scripts can be executed, as it is of every session that can be run.
 pub fn no_line_is_garbled()
     ensures { (settings : Limits) (specs : List BoardSpec) (scripts : List (List Step)) (runs : List BoardRun)
         (links : List LinkReport) → AreRunsOver settings 0 specs scripts runs links → HaveOwnNames runs →
@@ -191,7 +191,8 @@ pub fn no_line_is_garbled()
     operations_of_words_are_packed();
 }
 
-/// A line of an operation that was timed out shows the rounds of the session, whether the link tells or not.
+/// A line of an operation that was timed out shows the rounds of the session, whether it was answered late or not, and
+/// whether the link tells or not.
 pub fn lines_show_the_rounds_of_the_session()
     ensures { (settings : Limits) (specs : List BoardSpec) (scripts : List (List Step)) (runs : List BoardRun)
         (links : List LinkReport) → AreRunsOver settings 0 specs scripts runs links →

@@ -1,15 +1,14 @@
 -- The words that the lines of a generated session show, by what became of its bodies.
-use Rattle.std.proofs.Common.{◌≡◌, ℕ, zero, suc, ◌+◌, ◌<◌, ◌==◌, cond, List, [], ◌∷◌, ◌++◌, length, map, option_map}
-use Rattle.std.proofs.Common.{Some, Option, refl, ap, sym, ◌∙◌, arith, append_assoc, length-append}
-use Rattle.std.specs.List.{slice_get, flat_map, zip}
+use Rattle.std.proofs.Common.{◌≡◌, ℕ, zero, suc, ◌+◌, ◌<◌, ◌==◌, cond, List, [], ◌∷◌, ◌++◌, length, get_or}
+use Rattle.std.proofs.Common.{map, Some, None, Option, refl, ap, sym, ◌∙◌, arith, append_assoc, length-append}
+use Rattle.std.specs.List.{slice_get, flat_map}
 use Rattle.std.proofs.lemmas.List.Concat.{flat_map-append}
-use Rattle.std.proofs.lemmas.Option.{slice_get-map}
 use Rattle.reply_join.specs.declared.answer.Answer.TheVariants.{Values}
 use Rattle.reply_join.specs.ByWords.{answers}
 use Rattle.transaction_codec.specs.Request.{request_at}
 use Rattle.transaction_codec.specs.Reply.{reply_at}
 use Rattle.lane_record.specs.declared.outcome.Outcome.{Outcome}
-use Rattle.lane_record.specs.declared.outcome.Outcome.TheVariants.{Replied}
+use Rattle.lane_record.specs.declared.outcome.Outcome.TheVariants.{Replied, TimedOut, Unsent, LinkLost}
 use Rattle.script_steps.specs.Rulings.{Asked, allowed}
 use Rattle.script_steps.specs.declared.operation.RegOp.{RegOp}
 use Rattle.script_steps.specs.declared.operation.Verb.TheVariants.{RmwSum}
@@ -27,6 +26,7 @@ use Rattle.transcript.specs.Lines.{client_lines}
 use Rattle.script_plans.specs.Runs.{outcomes_in}
 use Rattle.std.proofs.lemmas.List.Sums.{sum_by-append}
 use Rattle.transcript.proofs.Allowed.{allowed-append}
+use Rattle.transcript.proofs.EndsInOrder.{ends_at}
 use Rattle.load_run.specs.Generated.{operation, steps_behind}
 use Rattle.load_run.specs.Summary.{word_before, words_of_client, words_before}
 use Rattle.load_run.proofs.Plans.{body, payload, whole, bodies_of, pieces_from, ask, asks_behind, asks-are}
@@ -34,12 +34,20 @@ use Rattle.load_run.proofs.Replies.{reply}
 
 -- ---- one body
 
--- what is told of an operation whose body has this outcome
-abbrev pub result_of : Outcome → OpResult
-result_of o = combined RmwSum 0xffffffff (told_at (told_of body o) 0 ∷ [])
+-- what is told of an operation whose body has this outcome and this late answer
+abbrev pub result_of : Outcome → Option (List ℕ) → OpResult
+result_of o late = combined RmwSum 0xffffffff (told_at (told_of body o late) 0 ∷ [])
 
 abbrev pub words_of : Outcome → List ℕ
-words_of o = word_before (result_of o)
+words_of o = word_before (result_of o None)
+
+-- a late answer adds no word
+late-adds-none : (o : Outcome) (late : Option (List ℕ)) → word_before (result_of o late) ≡ words_of o
+late-adds-none (TimedOut place rounds) (Some words) = refl
+late-adds-none (TimedOut place rounds) None = refl
+late-adds-none (Replied place words) late = refl
+late-adds-none Unsent late = refl
+late-adds-none (LinkLost place) late = refl
 
 answered : (word : ℕ) → answers body (reply word) ≡ Some (Values (word ∷ []) ∷ [])
 unfolding request_at reply_at
@@ -58,19 +66,10 @@ pub record IsPart (part : ClientPart) (n : ℕ) : Type 0 where
   pub pieces' : part.planned.pieces ≡ pieces_from 0 n
   pub outcomes' : length part.outcomes ≡ n
 
-abbrev ends : List Outcome → List BodyEnd
-ends outcomes = map (λ o. end_of (body, o)) outcomes
-
-ends-are : (n : ℕ) (outcomes : List Outcome) → length outcomes ≡ n
-    → map end_of (zip (bodies_of n) outcomes) ≡ ends outcomes
-ends-are zero [] same = refl
-ends-are zero (o ∷ os) same = let bad : ⊥ = omega arith in absurd bad
-ends-are (suc n) [] same = let bad : ⊥ = omega arith in absurd bad
-ends-are (suc n) (o ∷ os) same = ap (λ (es : List BodyEnd). end_of (body, o) ∷ es) (ends-are n os (omega arith))
-
-part-ends : (part : ClientPart) (n : ℕ) → IsPart part n → ends_of part ≡ ends part.outcomes
-part-ends part n is =
-    ap (λ (bs : List (List ℕ)). map end_of (zip bs part.outcomes)) is.bodies' ∙ ends-are n part.outcomes is.outcomes'
+body-at : (n k : ℕ) → k < n → slice_get (bodies_of n) k ≡ Some body
+body-at zero k within = let bad : ⊥ = omega arith in absurd bad
+body-at (suc n) zero within = refl
+body-at (suc n) (suc k) within = body-at n k (omega arith)
 
 piece-at : (first n k : ℕ) → k < n → slice_get (pieces_from first n) k ≡ Some (whole (first + k))
 piece-at first zero k within = let bad : ⊥ = omega arith in absurd bad
@@ -86,15 +85,15 @@ in-middle (x ∷ front) o rest = in-middle front o rest
 
 -- what operation `k` of a client came to
 shows : (part : ClientPart) (n before k : ℕ) (o : Outcome) → IsPart part n → k < n → slice_get part.outcomes k ≡ Some o
-    → (in_part (Some part) k (operation before)).0 ≡ result_of o
+    → (in_part (Some part) k (operation before)).0 ≡ result_of o (get_or part.lates k None)
 shows part n before k o is within at =
     let pieces : slice_get part.planned.pieces k ≡ Some (whole (0 + k)) =
     ap (λ (ps : List (List PieceAt)). slice_get ps k) is.pieces' ∙ piece-at 0 n k within in
     let same : 0 + k ≡ k = omega arith in
-    let «end» : slice_get (ends_of part) k ≡ Some (end_of (body, o)) =
-    ap (λ (es : List BodyEnd). slice_get es k) (part-ends part n is)
-    ∙ (slice_get-map (λ o. end_of (body, o)) part.outcomes k
-    ∙ ap (λ (x : Option Outcome). option_map (λ o. end_of (body, o)) x) at) in
+    let asked : slice_get part.planned.bodies k ≡ Some body =
+    ap (λ (bs : List (List ℕ)). slice_get bs k) is.bodies' ∙ body-at n k within in
+    let «end» : slice_get (ends_of part) k ≡ Some (end_of body o (get_or part.lates k None)) =
+    ends_at part.planned.bodies part.outcomes part.lates k body o asked at in
     ap (λ (ps : Option (List PieceAt)). (by_pieces part (operation before) ps).0) pieces
     ∙ (ap (λ (b : ℕ). combined RmwSum 0xffffffff (result_in (slice_get (ends_of part) b) 0 ∷ [])) same
     ∙ ap (λ (e : Option BodyEnd). combined RmwSum 0xffffffff (result_in e 0 ∷ [])) «end»)
@@ -124,7 +123,8 @@ module _ (run : BoardRun) (client : ℕ) (part : ClientPart) (n : ℕ) (live : r
       ap (λ s. word_before s.0) (live-shows run client (count_on 0 (allowed before)) (operation b) live)
       ∙ (ap (λ (p : Option ClientPart). word_before (in_part p (count_on 0 (allowed before)) (operation b)).0) there
       ∙ (ap (λ (k : ℕ). word_before (in_part (Some part) k (operation b)).0) count
-      ∙ ap word_before (shows part n b (length front) o is within at)))
+      ∙ (ap word_before (shows part n b (length front) o is within at)
+      ∙ late-adds-none o (get_or part.lates (length front) None))))
 
   lines-words : (before : List Asked) (b : ℕ) (front rest : List Outcome) → part.outcomes ≡ front ++ rest
       → count_on 0 (allowed before) ≡ length front

@@ -26,7 +26,7 @@ use Rattle.board_history.specs.Parts.{IsReplyOf}
 use Rattle.board_history.specs.History.{bodies_by_client, outcomes_by_client}
 use Rattle.board_bus.specs.Bodies.{replay}
 use Rattle.board_history.specs.Runs.{opening_of}
-use Rattle.lane_history.specs.Links.{LinkReport, IsBoardOf}
+use Rattle.lane_history.specs.Links.{LinkReport, IsBoardOf, board_there}
 use Rattle.lane_history.specs.Runs.{AreRunsOver, IsAsTold, IsRunOver, IsTrueRun}
 use Rattle.load_run.specs.Claims.{HasEachBelow, is_done, order_on, sum_below, TellsRuns, word_at_place}
 use Rattle.load_run.specs.Generated.{board, boards, link, most_operations, settings, shares, steps, steps_behind}
@@ -201,7 +201,7 @@ module _ (sends : SendsLaw) where
       subst (λ (n : ℕ). HasWords count run (line-words count run) n) (sym places)
       (subst (λ (ws : List ℕ). HasWords count run ws sent) (sym same) has)
 
-  by-board : (count : ℕ) (run : BoardRun) (report : LinkReport) (o : Option Board) → report.board ≡ o
+  by-board : (count : ℕ) (run : BoardRun) (report : LinkReport) (o : Option Board) → board_there report.telling ≡ o
       → count ≤ most_operations
       → run.greeting ≡ Live payload → AreParts run.parts (shares count) → AreSized run.parts
       → CountsFrom 1 (places_of (order_on run)) → IsBoardOf (link count) o
@@ -215,13 +215,15 @@ module _ (sends : SendsLaw) where
 
   by-greeting : (count : ℕ) (run : BoardRun) (report : LinkReport) (g : Greeting) → run.greeting ≡ g
       → count ≤ most_operations → AreAsked g (steps count) run.parts → AreSized run.parts
-      → IsBoardOf (link count) report.board → IsAsTold settings (board count) run report g → IsSummed count run
+      → IsBoardOf (link count) (board_there report.telling)
+      → IsAsTold settings (board count) run report g → IsSummed count run
   by-greeting count run report (Live words) at small planned sized of is =
       let same : words ≡ payload = is.any_link.packets in
       let live : run.greeting ≡ Live payload = at ∙ ap Live same in
       let parts = all-parts run.parts (shares count)
       (subst (λ (p : ℕ). AreAsked (Live p) (steps count) run.parts) same planned) sized in
-      by-board count run report report.board refl small live parts sized is.any_link.one_order of is.told
+      by-board count run report (board_there report.telling) refl small live parts sized is.any_link.one_order of
+      is.told
   by-greeting count run report Silent at small planned sized of is =
       as-summed count run [] 0 (no-words run (silent-words run at) 0 (shares count))
       (ap (λ g. places_told (board_line (record run { greeting = g }))) at)

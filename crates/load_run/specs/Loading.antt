@@ -103,8 +103,8 @@ pub record IsGenerated (count : ℕ) (limits : Limits) (specs : List BoardSpec)
   pub short : AllByRecursion (λ steps. length steps ≤ MAX_LINES) scripts
 
 -- What a load left: `made` and `makes` are how many links the rack made before and after, and `Tells` is what holds of
--- the text. The links are those of the first boards, each given back once; what a board executed is a merge of bodies
--- that the scripts ask of it.
+-- the text. The links are those of the first boards, each given back once; what was sent to a board, and so what it
+-- executed, is a merge of bodies that the scripts ask of it.
 pub record LoadLeaves (Tells : ℕ → List LinkReport → Bool → List ℕ → Type 0) (count made makes : ℕ)
     (result : Result Load RunFault) (links : List LinkReport) : Type 0 where
   pub left : AreLeft 0 (boards count) (steps count) links

@@ -4,14 +4,14 @@ use Rattle.std.specs.List.{flat_map}
 use Rattle.std.specs.Fmt.{decimal}
 use Rattle.ipb_base.specs.Numbers.{in_64_bits}
 use Rattle.transcript.specs.declared.line.OpResult.{OpResult}
-use Rattle.transcript.specs.declared.line.OpResult.TheVariants.{Value, Done, Was, Error, Skipped, TimedOut, Unsent}
-use Rattle.transcript.specs.declared.line.OpResult.TheVariants.{LinkLost, Garbled, Denied}
+use Rattle.transcript.specs.declared.line.OpResult.TheVariants.{Value, Done, Was, Error, Skipped, TimedOut, Late}
+use Rattle.transcript.specs.declared.line.OpResult.TheVariants.{Unsent, LinkLost, Garbled, Denied}
 use Rattle.transcript.specs.declared.line.OpLine.{OpLine}
 use Rattle.transcript.specs.Lines.{Transcript}
 use Rattle.transcript.specs.Shown.{places_told}
 use Rattle.load_run.specs.declared.summary.Summary.{Summary}
 
--- the word before, of an operation that was answered so
+-- the word before, of an operation that was answered so in time
 abbrev pub word_before : OpResult → List ℕ
 word_before (Value words) = []
 word_before Done = []
@@ -19,6 +19,7 @@ word_before (Was word) = word ∷ []
 word_before (Error code after) = []
 word_before Skipped = []
 word_before (TimedOut rounds) = []
+word_before (Late rounds answer) = []
 word_before Unsent = []
 word_before LinkLost = []
 word_before Garbled = []

@@ -16,8 +16,9 @@ pub record IsSummaryOf (count : ℕ) (links : List LinkReport) (status : ℕ) (t
   -- the status is 0 exactly where it was
   pub told : status ≡ told_status done
 
--- At every status: the links are those of the first boards of the generated session, each given back once; what the
--- board executed is a merge of bodies that the scripts ask of it, some of each client's, in its order.
+-- At every status: the links are those of the first boards of the generated session, each given back once; what was
+-- sent to the board, and so what it executed, is a merge of bodies that the scripts ask of it, some of each client's, in
+-- its order.
 abbrev pub AreLoaded : ℕ → List LinkReport → Type 0
 AreLoaded count links = AreLeft 0 (boards count) (steps count) links
 

@@ -1,6 +1,6 @@
 -- What a recording leaves, put together from what its steps say.
 use Rattle.std.proofs.Common.{◌≡◌, inl, inr, ℕ, ◌+◌, ◌==◌, ◌&&◌, List, length}
-use Rattle.std.proofs.Common.{Result, Ok, Err, IfOk, Some}
+use Rattle.std.proofs.Common.{Result, Ok, Err, IfOk}
 use Rattle.std.proofs.Common.{sym, ap, ◌∙◌}
 use Rattle.std.specs.List.{AllByRecursion}
 use Rattle.std.specs.Result.{IsErr, IsErrAnd}
@@ -23,9 +23,8 @@ use Rattle.command_terms.proofs.Leaving.{none_served}
 use Rattle.command_terms.proofs.Statuses.{done_is_no_refusal, told_is_done}
 use Rattle.run_laws.specs.Runs.{IsSessionRun}
 use Rattle.run_laws.specs.Steps.{CanRunSteps}
-use Rattle.capture_reader.specs.declared.capture.Capture.{Capture}
-use Rattle.record_command.specs.Headline.{RecordedSomeOf, body_count, first_in}
-use Rattle.record_command.specs.Steps.{RecordLeaves, Records, Writes}
+use Rattle.record_command.specs.Headline.{RecordedSomeOf, body_count}
+use Rattle.record_command.specs.Steps.{RecordLeaves, Records}
 use Rattle.record_command.specs.Terms.{record_terms}
 
 failure : Result Answer RunFault → RunFault
@@ -67,6 +66,8 @@ owed_by law bytes session steps links (Ok answer) is can records =
       session = session;
       steps = steps;
       recordable = is;
+      board = records.board;
+      one_board = records.one_board;
       runs = records.runs;
       run = law session steps records.runs links can records.boards;
       capture = records.capture;
@@ -76,6 +77,11 @@ owed_by law bytes session steps links (Ok answer) is can records =
       proved = records.writes.proved;
       is_proved = records.writes.is_proved;
       told = records.writes.told;
+      link = records.link;
+      one_link = records.one_link;
+      telling = records.telling;
+      tells = records.tells;
+      shows = records.shows;
     })
 owed_by law bytes session steps links (Err why) is can records = tt
 

@@ -1,32 +1,42 @@
 -- A board that was greeted over a tap, and what is given back behind it.
-use Rattle.std.proofs.Common.{◌≡◌, ◌∙◌, ℕ, ◌++◌, ◌&&◌, Bool, true, false, List, [], ◌∷◌, length, map}
-use Rattle.std.proofs.Common.{Result, Ok, Err, IfOk, Option, Some, None, IfSome}
+use Rattle.std.proofs.Common.{◌≡◌, ◌≤◌, ◌∙◌, ℕ, ◌++◌, ◌&&◌, Bool, true, false, List, [], ◌∷◌, length}
+use Rattle.std.proofs.Common.{Result, Ok, Err, IfOk, Option, Some, None}
 use Rattle.std.proofs.Common.{ap, refl, slice_index_or, subst, sym, arith}
 use Rattle.std.specs.Global.{Vec}
+use Rattle.ipb_base.specs.Lists.{IsPrefix}
 use Rattle.std.specs.List.{AllByRecursion}
 use Rattle.world_core.specs.Telling.{Telling}
+use Rattle.world_model.specs.Board.{executed}
+use Rattle.world_model.specs.Facts.{bodies_of}
+use Rattle.world_model.specs.Hub.{Hub}
 use Rattle.world_model.specs.Settings.{Limits}
 use Rattle.board_node.specs.declared.spec.BoardSpec.{BoardSpec}
 use Rattle.board_node.specs.declared.spec.LinkSpec.{LinkSpec}
 use Rattle.board_node.specs.declared.spec.LinkSpec.TheVariants.{Sim, Udp}
 use Rattle.hub_lane.specs.declared.greeting.Greeted.{Greeted}
 use Rattle.hub_lane.specs.Greeting.{link_of}
-use Rattle.lane_history.specs.Links.{IsBoardOf, IsUntouched, LinkReport}
-use Rattle.lane_history.specs.Runs.{AreRunsOver}
-use Rattle.board_greeting.specs.Boards.{AreReached, IsReached}
-use Rattle.board_greeting.specs.Reports.{board_there}
+use Rattle.hub_lane.specs.Standing.{IsStanding}
+use Rattle.lane_record.specs.declared.outcome.Outcome.{Outcome}
+use Rattle.lane_history.specs.Links.{IsBoardOf, LinkReport, board_there}
+use Rattle.lane_history.specs.Runs.{AreRunsOver, IsMergeOfAsked}
+use Rattle.lane_history.proofs.Shown.{at_some}
+use Rattle.board_greeting.specs.Boards.{AreReached, IsFreshLink, IsReached}
 use Rattle.script_steps.specs.declared.operation.Step.{Step}
 use Rattle.script_lang.specs.declared.session.Session.{Session}
 use Rattle.script_plans.specs.declared.board_run.BoardRun.{BoardRun}
 use Rattle.session_input.specs.Recording.{IsOneSimulated}
-use Rattle.session_run.specs.Links.{AreLeft}
-use Rattle.session_run.proofs.BoardRuns.{UntouchedLaw, untouched_left}
+use Rattle.session_run.specs.Links.{AreLeft, HasStood}
+use Rattle.session_run.proofs.Left.{FirstLaw}
+use Rattle.session_run.proofs.Sessions.{FreshLaw}
 use Rattle.command_terms.specs.declared.answer.Answer.{Answer}
 use Rattle.command_terms.proofs.Leaving.{Told, at_links}
 use Rattle.capture_reader.specs.declared.capture.Capture.{Capture}
-use Rattle.capture_reader.specs.CaptureText.{IsCapture, capture_text}
-use Rattle.link_tap.specs.Traffic.{HasCaught}
-use Rattle.record_command.specs.Headline.{ShowsTraffic, first_in, first_of}
+use Rattle.capture_reader.specs.declared.capture.Caught.{Caught}
+use Rattle.capture_reader.specs.CaptureText.{AreItems}
+use Rattle.capture_reader.specs.Proved.{IsProved}
+use Rattle.link_tap.specs.Traffic.{HasCaught, IsTrafficOf}
+use Rattle.capture_laws.specs.Captures.{bodies_in}
+use Rattle.record_command.specs.Headline.{ShowsTraffic, first_of}
 use Rattle.record_command.specs.Steps.{Records, WritesOf}
 
 -- ---- one board
@@ -42,29 +52,28 @@ at_first P [] board one all is = absurd one
 at_first P (first ∷ []) board one all is = subst P (sym is) all.0
 at_first P (first ∷ other ∷ boards) board one all is = absurd one
 
-pub first_is_told : (boards : List BoardSpec) (board : BoardSpec) (first : ℕ) → IsOneSimulated boards
-    → board ≡ slice_index_or boards 0 board → first_of board.link ≡ Some first → first_in boards ≡ Some first
-first_is_told [] board first one is same = absurd one
-first_is_told (b ∷ []) board first one is same = ap (λ (spec : BoardSpec). first_of spec.link) (sym is) ∙ same
-first_is_told (b ∷ other ∷ boards) board first one is same = absurd one
+pub one_board : (boards : List BoardSpec) (board : BoardSpec) → IsOneSimulated boards
+    → board ≡ slice_index_or boards 0 board → boards ≡ board ∷ []
+one_board [] board one is = absurd one
+one_board (b ∷ []) board one is = ap (λ (spec : BoardSpec). spec ∷ []) (sym is)
+one_board (b ∷ other ∷ boards) board one is = absurd one
 
-pub left_alone : UntouchedLaw → (specs : List BoardSpec) (scripts : List (List Step)) (shown : LinkReport)
-    → length specs ≡ 1
-    → ((spec : BoardSpec) → specs ≡ spec ∷ [] → IsBoardOf spec.link shown.board × IsUntouched shown)
+pub left_alone : FreshLaw → (settings : Limits) (specs : List BoardSpec) (scripts : List (List Step))
+    (shown : LinkReport) → length specs ≡ 1
+    → ((spec : BoardSpec) → specs ≡ spec ∷ [] → IsFreshLink settings spec shown)
     → AreLeft 0 specs scripts (shown ∷ [])
-left_alone law [] scripts shown one reached = absurd (omega (arith, one))
-left_alone law (spec ∷ []) scripts shown one reached =
-    (untouched_left law spec 0 scripts shown (reached spec refl).0 (reached spec refl).1, tt)
-left_alone law (spec ∷ other ∷ specs) scripts shown one reached = absurd (omega (arith, one))
+left_alone law settings [] scripts shown one reached = absurd (omega (arith, one))
+left_alone law settings (spec ∷ []) scripts shown one reached =
+    (law settings spec 0 scripts shown (reached spec refl), tt)
+left_alone law settings (spec ∷ other ∷ specs) scripts shown one reached = absurd (omega (arith, one))
 
-pub reached_alone : {L : Type 0} (tells : L → Option Telling) (shows : L → LinkReport) (settings : Limits)
-    (specs : List BoardSpec) (board : Greeted L) → length specs ≡ 1
-    → ((spec : BoardSpec) → specs ≡ spec ∷ []
-    → IsReached settings spec board (tells (link_of board)) (shows (link_of board)))
-    → AreReached tells shows settings specs (board ∷ [])
-reached_alone tells shows settings [] board one reached = absurd (omega (arith, one))
-reached_alone tells shows settings (spec ∷ []) board one reached = (reached spec refl, tt)
-reached_alone tells shows settings (spec ∷ other ∷ specs) board one reached = absurd (omega (arith, one))
+pub reached_alone : {L : Type 0} (shows : L → LinkReport) (settings : Limits) (specs : List BoardSpec)
+    (board : Greeted L) → length specs ≡ 1
+    → ((spec : BoardSpec) → specs ≡ spec ∷ [] → IsReached settings spec board (shows (link_of board)))
+    → AreReached shows settings specs (board ∷ [])
+reached_alone shows settings [] board one reached = absurd (omega (arith, one))
+reached_alone shows settings (spec ∷ []) board one reached = (reached spec refl, tt)
+reached_alone shows settings (spec ∷ other ∷ specs) board one reached = absurd (omega (arith, one))
 
 pub ran_alone : {L E : Type 0} (shows : L → LinkReport) (old new : List L) (tap : L) → old ≡ [] → new ≡ tap ∷ []
     → (holds : List BoardRun → List LinkReport → Type 0) (result : Result (Vec BoardRun) E)
@@ -91,45 +100,78 @@ both_true a b all true_is is = is ∙ ap (λ (x : Bool). x && b) (sym true_is)
 pub one_false : (a b all : Bool) → a ≡ false → all ≡ a → all ≡ (a && b)
 one_false a b all false_is is = is ∙ (false_is ∙ ap (λ (x : Bool). x && b) (sym false_is))
 
-pub records_of : {E : Type 0} (session : Session) (steps : List (List Step)) (result : Result (Vec BoardRun) E)
-    (capture : Capture) (answer : Answer) (links : List LinkReport)
-    → IfOk result (λ runs. AreRunsOver session.settings 0 session.boards steps runs.items links)
-    → first_in session.boards ≡ Some capture.first → WritesOf steps result capture answer
-    → Records session steps links answer.status answer.text.items
-records_of session steps (Ok runs) capture answer links ran first writes =
-    record { runs = runs.items; boards = ran; capture = capture; first = first; writes = writes }
-records_of session steps (Err why) capture answer links ran first writes = absurd writes
+-- ---- what the capture shows
 
-is_capture : {E : Type 0} (steps : List (List Step)) (result : Result (Vec BoardRun) E) (capture : Capture)
-    (answer : Answer) → WritesOf steps result capture answer
-    → IsCapture capture × (answer.text.items ≡ capture_text capture)
-is_capture steps (Ok runs) capture answer writes = (writes.has_text, writes.spelled)
-is_capture steps (Err why) capture answer writes = absurd writes
+-- over the link of a simulated board, which tells
+told_first : (spec : LinkSpec) (telling : Option Telling) (first : ℕ) → IsBoardOf spec (board_there telling)
+    → first_of spec ≡ Some first → (t : Telling) × (telling ≡ Some t) × (first ≡ t.told.board.first)
+told_first (Sim mtu buffers own ranges fates) None first is same = absurd is
+told_first (Sim mtu buffers own ranges fates) (Some t) first is same = (t, refl, cc)
+told_first (Udp address port wait) telling first is same = absurd cc
 
-told_first : (spec : LinkSpec) (t : Telling) (first : ℕ) → IsBoardOf spec (Some t.told.board) → first_of spec ≡ Some first
-    → first ≡ t.told.board.first
-told_first (Sim mtu buffers own ranges fates) t first is same = cc
-told_first (Udp address port wait) t first is same = absurd is
+abbrev pub SentLaw : Type 0
+SentLaw = (stopped : Bool) (limits : Limits) (hub : Hub) (outcomes : List (Option Outcome))
+    (lates : List (Option (List ℕ))) (t : Telling) (items : List Caught)
+    → IsStanding stopped limits hub outcomes lates t → IsTrafficOf t items
+    → IsPrefix (bodies_in (record { first = t.told.board.first; items = items })) (bodies_of hub.sent)
 
-shows_at : (spec : LinkSpec) (telling : Option Telling) (capture : Capture) (text : List ℕ)
-    → IsBoardOf spec (board_there telling) → first_of spec ≡ Some capture.first → IsCapture capture
-    → text ≡ capture_text capture → HasCaught telling capture.items → IfSome telling (ShowsTraffic text)
-shows_at spec None capture text is first has spelled caught = tt
-shows_at spec (Some t) capture text is first has spelled caught = record {
-  capture = capture;
-  first = told_first spec t capture.first is first;
-  has_text = has;
-  spelled = spelled;
-  traffic = caught.traffic;
-}
+abbrev pub ExecutedLaw : Type 0
+ExecutedLaw = (stopped : Bool) (limits : Limits) (hub : Hub) (outcomes : List (Option Outcome))
+    (lates : List (Option (List ℕ))) (t : Telling) (items : List Caught)
+    → IsStanding stopped limits hub outcomes lates t → IsTrafficOf t items
+    → IsPrefix (executed t.told.board) (bodies_in (record { first = t.told.board.first; items = items }))
 
-pub shows_traffic : {E : Type 0} (boards : List BoardSpec) (steps : List (List Step)) (telling : Option Telling)
-    (shown : LinkReport) (result : Result (Vec BoardRun) E) (capture : Capture) (answer : Answer)
-    → shown.board ≡ board_there telling → AreLeft 0 boards steps (shown ∷ [])
-    → first_in boards ≡ Some capture.first → WritesOf steps result capture answer
-    → HasCaught telling capture.items → IfSome telling (ShowsTraffic answer.text.items)
-shows_traffic [] steps telling shown result capture answer same left first writes caught = absurd left
-shows_traffic (spec ∷ specs) steps telling shown result capture answer same left first writes caught =
-    let has = is_capture steps result capture answer writes in
-    shows_at spec.link telling capture answer.text.items
-    (subst (IsBoardOf spec.link) same left.0.board') first has.0 has.1 caught
+abbrev pub ProvedLaw : Type 0
+ProvedLaw = (stopped : Bool) (limits : Limits) (hub : Hub) (outcomes : List (Option Outcome))
+    (lates : List (Option (List ℕ))) (t : Telling) (items : List Caught) (proved : ℕ)
+    → IsStanding stopped limits hub outcomes lates t → IsTrafficOf t items
+    → AreItems items → IsProved (record { first = t.told.board.first; items = items }) proved
+    → proved ≤ length (executed t.told.board)
+
+module _ (sent : SentLaw) (executes : ExecutedLaw) (proves : ProvedLaw) (front : FirstLaw) where
+  shows_traffic : (spec : BoardSpec) (steps : List (List Step)) (t : Telling) (first : ℕ) (items : List Caught)
+      (proved : ℕ) → first ≡ t.told.board.first → HasStood spec 0 steps t → IsTrafficOf t items → AreItems items
+      → IsProved (record { first = first; items = items }) proved
+      → ShowsTraffic spec steps (record { first = first; items = items }) proved t
+  shows_traffic spec steps t first items proved same stood traffic short is_proved =
+      let from = sym same in record {
+        traffic = traffic;
+        sent = subst (λ (n : ℕ). IsMergeOfAsked spec 0 steps (bodies_in (record { first = n; items = items }))) from
+            (front spec 0 steps (bodies_in (record { first = t.told.board.first; items = items }))
+            (bodies_of stood.hub.sent)
+            (sent stood.stopped stood.limits stood.hub stood.outcomes stood.lates t items stood.standing traffic) stood.sent);
+        executed_first = subst (λ (n : ℕ). IsPrefix (executed t.told.board)
+            (bodies_in (record { first = n; items = items }))) from
+            (executes stood.stopped stood.limits stood.hub stood.outcomes stood.lates t items stood.standing traffic);
+        executed_proved = proves stood.stopped stood.limits stood.hub stood.outcomes stood.lates t items proved stood.standing
+            traffic short (subst (λ (n : ℕ). IsProved (record { first = n; items = items }) proved) same is_proved);
+      }
+
+  pub records_of : {E : Type 0} (session : Session) (steps : List (List Step)) (board : BoardSpec)
+      (result : Result (Vec BoardRun) E) (capture : Capture) (answer : Answer) (shown : LinkReport)
+      → session.boards ≡ board ∷ []
+      → IfOk result (λ runs. AreRunsOver session.settings 0 session.boards steps runs.items (shown ∷ []))
+      → AreLeft 0 session.boards steps (shown ∷ []) → first_of board.link ≡ Some capture.first
+      → HasCaught shown.telling capture.items → WritesOf steps result capture answer
+      → Records session steps (shown ∷ []) answer.status answer.text.items
+  records_of session steps board (Ok runs) capture answer shown one ran left first caught writes =
+      let is = (subst (λ (bs : List BoardSpec). AreLeft 0 bs steps (shown ∷ [])) one left).0 in
+      let told = told_first board.link shown.telling capture.first is.board' first in
+      let stood = at_some (HasStood board 0 steps) shown.telling told.0 told.1 is.stood in
+      let traffic = at_some (λ (t : Telling). IsTrafficOf t capture.items) shown.telling told.0 told.1 caught.traffic in
+      record {
+        board = board;
+        one_board = one;
+        runs = runs.items;
+        boards = ran;
+        capture = capture;
+        first = first;
+        writes = writes;
+        link = shown;
+        one_link = refl;
+        telling = told.0;
+        tells = told.1;
+        shows = shows_traffic board steps told.0 capture.first capture.items writes.proved told.2 stood traffic
+            caught.short writes.is_proved;
+      }
+  records_of session steps board (Err why) capture answer shown one ran left first caught writes = absurd writes

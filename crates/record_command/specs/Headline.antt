@@ -1,20 +1,23 @@
 -- What `record` promises of the text that it writes with status 0 or 1. Profile.
 --
--- It is one record, `IsRecordOf`, of what the link that was given back shows, and another, `ShowsTraffic`, of what the
--- link itself tells of its datagrams. A text is that of one capture, so both speak of the same.
+-- It is one record, `IsRecordOf`, of the bytes of the input and of the link that was given back.
 --
 --   the session, its policy      IsRecordable                            session_input/specs/Recording
 --   a run of it                  IsSessionRun                            run_laws/specs/Runs
 --   the text                     capture_text                            capture_reader/specs/CaptureText
 --   what the capture proves      IsProved                                capture_reader/specs/Proved
 --   the datagrams of the link    IsTrafficOf                             link_tap/specs/Traffic
-use Rattle.std.specs.Prelude.{◌≡◌, ℕ, ◌==◌, ◌&&◌, Bool, List, [], ◌∷◌, ◌++◌, length, sum_by, Option, Some, None, IfSome}
-use Rattle.packet_ids.specs.Identifier.{IsIdentifier}
+--   what the capture shows sent  bodies_in                               capture_laws/specs/Captures
+--   what the scripts ask         IsMergeOfAsked                          lane_history/specs/Runs
+use Rattle.std.specs.Prelude.{◌≡◌, ℕ, ◌≤◌, ◌==◌, ◌&&◌, List, [], ◌∷◌, length, sum_by, Option, Some, None}
+use Rattle.ipb_base.specs.Lists.{IsPrefix}
+use Rattle.world_model.specs.Board.{executed}
 use Rattle.board_node.specs.declared.spec.BoardSpec.{BoardSpec}
 use Rattle.board_node.specs.declared.spec.LinkSpec.{LinkSpec}
 use Rattle.board_node.specs.declared.spec.LinkSpec.TheVariants.{Sim, Udp}
 use Rattle.world_core.specs.Telling.{Telling}
 use Rattle.lane_history.specs.Links.{LinkReport}
+use Rattle.lane_history.specs.Runs.{IsMergeOfAsked}
 use Rattle.script_steps.specs.declared.operation.Step.{Step}
 use Rattle.script_lang.specs.declared.session.Session.{Session}
 use Rattle.script_plans.specs.declared.board_run.BoardRun.{BoardRun}
@@ -28,15 +31,12 @@ use Rattle.capture_reader.specs.declared.capture.Capture.{Capture}
 use Rattle.capture_reader.specs.CaptureText.{IsCapture, capture_text}
 use Rattle.capture_reader.specs.Proved.{IsProved}
 use Rattle.link_tap.specs.Traffic.{IsTrafficOf}
+use Rattle.capture_laws.specs.Captures.{bodies_in}
 
 -- the identifier that the one board of a session expects first
 abbrev pub first_of : LinkSpec → Option ℕ
 first_of (Sim mtu buffers first ranges fates) = Some first
 first_of (Udp address port wait) = None
-
-abbrev pub first_in : List BoardSpec → Option ℕ
-first_in [] = None
-first_in (board ∷ boards) = first_of board.link
 
 -- how many bodies the clients ask of boards
 abbrev pub bodies_of_part : ClientPart → ℕ
@@ -48,6 +48,19 @@ bodies_of_run run = sum_by bodies_of_part run.parts
 abbrev pub body_count : List BoardRun → ℕ
 body_count runs = sum_by bodies_of_run runs
 
+-- What a capture that proves so many packets shows of the board of this document, over a link that tells this.
+pub record ShowsTraffic (board : BoardSpec) (steps : List (List Step)) (capture : Capture) (proved : ℕ)
+    (telling : Telling) : Type 0 where
+  -- what was sent are the datagrams for the board in the air of the link, all of them in order, and what was received
+  -- are those that it handed out, in order
+  pub traffic : IsTrafficOf telling capture.items
+  -- the bodies of the packets that were sent for the first time are a merge of bodies that the scripts ask of the
+  -- board, each client's in the order of its script
+  pub sent : IsMergeOfAsked board 0 steps (bodies_in capture)
+  -- the board executed the first of them, at least as many as are proved
+  pub executed_first : IsPrefix (executed telling.told.board) (bodies_in capture)
+  pub executed_proved : proved ≤ length (executed telling.told.board)
+
 -- Of the bytes of the input, what the link that was given back shows, the status and the text:
 pub record IsRecordOf (bytes : List ℕ) (links : List LinkReport) (status : ℕ) (text : List ℕ) : Type 0 where
   -- the bytes stand for a session of one simulated board that can be run, and under its policy these are the steps of
@@ -55,37 +68,28 @@ pub record IsRecordOf (bytes : List ℕ) (links : List LinkReport) (status : ℕ
   pub session : Session
   pub steps : List (List Step)
   pub recordable : IsRecordable bytes session steps
+  pub board : BoardSpec
+  pub one_board : session.boards ≡ board ∷ []
   -- there is an outcome for each body that the scripts ask of the board, such that it is a run of these steps over this
   -- link, with one order of bodies, and all that the lines of such a run show; these lines are not written
   pub runs : List BoardRun
   pub run : IsSessionRun session steps runs links
   -- the text is that of a capture from the board's first identifier on, and nothing else
   pub capture : Capture
-  pub first : first_in session.boards ≡ Some capture.first
+  pub first : first_of board.link ≡ Some capture.first
   pub has_text : IsCapture capture
   pub spelled : text ≡ capture_text capture
-  -- the status is 0 exactly where every line of an operation is a value, `done` or `was`, and the capture proves that the
-  -- board executed all bodies that the scripts ask of it
+  -- the status is 0 exactly where every line of an operation is a value, `done` or `was`, and the capture proves that
+  -- the board executed all bodies that the scripts ask of it
   pub proved : ℕ
   pub is_proved : IsProved capture proved
   pub told : status ≡ told_status (all_good (transcript_of steps runs).clients && (proved == body_count runs))
-
--- Of the link of the one board, where it tells:
-pub record ShowsTraffic (text : List ℕ) (telling : Telling) : Type 0 where
-  -- the text is that of a capture from the board's first identifier on
-  pub capture : Capture
-  pub first : capture.first ≡ telling.told.board.first
-  pub has_text : IsCapture capture
-  pub spelled : text ≡ capture_text capture
-  -- what was sent are the datagrams for the board in the air of the link, all of them in order, and what was received
-  -- are those that it handed out, in order
-  pub traffic : IsTrafficOf telling capture.items
-
--- One link was given back, behind those that were kept before, and the text shows its traffic.
-pub record GivesBackTapped {L : Type 0} (tells : L → Option Telling) (old new : List L) (text : List ℕ) : Type 0 where
-  pub link : L
-  pub kept : new ≡ old ++ link ∷ []
-  pub shows : IfSome (tells link) (ShowsTraffic text)
+  -- the link of the board was given back, it tells, and the capture shows its traffic
+  pub link : LinkReport
+  pub one_link : links ≡ link ∷ []
+  pub telling : Telling
+  pub tells : link.telling ≡ Some telling
+  pub shows : ShowsTraffic board steps capture proved telling
 
 -- At every status: the bytes stand for such a session, and the links are that of its board, or none.
 pub record RecordedSomeOf (bytes : List ℕ) (links : List LinkReport) : Type 0 where

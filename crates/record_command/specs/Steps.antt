@@ -3,6 +3,8 @@
 use Rattle.std.specs.Prelude.{◌≡◌, ℕ, ◌+◌, ◌==◌, ◌&&◌, List, [], ◌∷◌, length, Result, Ok, Err, IfOk, Some}
 use Rattle.std.specs.Global.{Vec}
 use Rattle.std.specs.List.{AllByRecursion}
+use Rattle.world_core.specs.Telling.{Telling}
+use Rattle.board_node.specs.declared.spec.BoardSpec.{BoardSpec}
 use Rattle.lane_history.specs.Links.{LinkReport, IsUntouched}
 use Rattle.lane_history.specs.Runs.{AreRunsOver}
 use Rattle.script_steps.specs.declared.operation.Step.{Step}
@@ -17,7 +19,7 @@ use Rattle.command_terms.specs.declared.answer.Answer.{Answer}
 use Rattle.capture_reader.specs.declared.capture.Capture.{Capture}
 use Rattle.capture_reader.specs.CaptureText.{IsCapture, capture_text}
 use Rattle.capture_reader.specs.Proved.{IsProved}
-use Rattle.record_command.specs.Headline.{body_count, first_in}
+use Rattle.record_command.specs.Headline.{ShowsTraffic, body_count, first_of}
 
 -- the text of a capture, and the status that goes with it after these outcomes
 pub record Writes (steps : List (List Step)) (runs : List BoardRun) (capture : Capture) (status : ℕ) (text : List ℕ)
@@ -33,14 +35,21 @@ abbrev pub WritesOf : {E : Type 0} → List (List Step) → Result (Vec BoardRun
 WritesOf steps (Ok runs) capture answer = Writes steps runs.items capture answer.status answer.text.items
 WritesOf steps (Err fault) capture answer = ⊥
 
--- the record of a session's steps, for some outcomes over these links
+-- The record of a session's steps, for some outcomes over the link of its one board, which shows this.
 pub record Records (session : Session) (steps : List (List Step)) (links : List LinkReport) (status : ℕ)
     (text : List ℕ) : Type 0 where
+  pub board : BoardSpec
+  pub one_board : session.boards ≡ board ∷ []
   pub runs : List BoardRun
   pub boards : AreRunsOver session.settings 0 session.boards steps runs links
   pub capture : Capture
-  pub first : first_in session.boards ≡ Some capture.first
+  pub first : first_of board.link ≡ Some capture.first
   pub writes : Writes steps runs capture status text
+  pub link : LinkReport
+  pub one_link : links ≡ link ∷ []
+  pub telling : Telling
+  pub tells : link.telling ≡ Some telling
+  pub shows : ShowsTraffic board steps capture writes.proved telling
 
 -- What a recording left: `made` and `makes` are how many links the rack made before and after.
 pub record RecordLeaves (session : Session) (steps : List (List Step)) (made makes : ℕ)

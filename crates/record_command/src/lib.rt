@@ -1,8 +1,8 @@
 //! The command `record`: the scripts of a session document on its one simulated board, and the capture of the datagrams
 //! that its hub sent and received.
 //!
-//! What it promises is `IsRecordOf` of `specs/Headline`, and of the link itself `ShowsTraffic` there; `record_terms` of
-//! `specs/Terms` says all that it owes to its input.
+//! What it promises is `IsRecordOf` of `specs/Headline`; `record_terms` of `specs/Terms` says all that it owes to its
+//! input.
 #![tactic(auto)]
 
 pub mod laws;

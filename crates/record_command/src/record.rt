@@ -20,7 +20,6 @@ ghost use Rattle.command_terms.specs.Numbers.{refused_status};
 ghost use Rattle.command_terms.specs.Outside.{no_pairs};
 ghost use Rattle.capture_reader.specs.CaptureText.{AreItems};
 ghost use Rattle.record_command.specs.Headline as spec;
-ghost use Rattle.record_command.specs.Headline.{GivesBackTapped};
 ghost use Rattle.record_command.specs.Steps.{RecordLeaves, WritesOf};
 ghost use Rattle.record_command.specs.Taps.{tapped};
 ghost use Rattle.record_command.specs.Terms.{record_terms};
@@ -29,12 +28,13 @@ use crate::taps::Taps;
 use board_bus::laws::words_stay_words;
 use board_greeting::into_link;
 use board_node::{BoardSpec, LinkSpec};
+use capture_laws::laws::a_capture_of_a_lane_proves_what_was_executed;
 use capture_reader::{Capture, Id, proved, write_capture};
 use client_threads::Gate;
 use command_terms::{Answer, done_status, refused};
 use hub_lane::{Greeted, Lane};
 use ipb_base::NoMemory;
-use lane_history::records::a_lane_left_at_any_moment_executed_a_merge;
+use lane_history::records::a_lane_sends_a_merge_at_any_moment;
 use link_tap::TapLink;
 use lossy_network::{Rack, RackFault};
 use reliable_engine::Settings;
@@ -46,6 +46,7 @@ use script_lang::Session;
 use script_plans::{BoardRun, ClientPart};
 use script_steps::Steps;
 use session_input::{Unread, read_for_record};
+use session_run::laws::a_fresh_link_is_left;
 use session_run::{RunFault, run_greeted};
 use std::alloc::Global;
 use std::marker::{Send, Sync};
@@ -70,8 +71,6 @@ pub fn record_document<R: Rack, T: Threads + Wait + Sync, G: Gate>(
     ensures leaves { Keeps R.L.faults R.L.quiets R.L.gots R.L.held R.L.telling (R.kept rack.old) (R.kept rack.new)
         (λ links. Leaves IsRunFailure RunFault.Rack record_terms bytes.now (R.made rack.old) (R.made rack.new) result
         (no_pairs links)) }
-    ensures traffic { IfOk result (λ answer. answer.status ≢ refused_status
-        → GivesBackTapped R.L.telling (R.kept rack.old) (R.kept rack.new) answer.text.items) }
     ensures refused { IfOk result (λ answer. answer.status ≡ refused_status → rack.new ≡ rack.old) }
     ensures rack_faults { RisesOnlyAt (Err RunFault.Rack) result (R.faults rack.old) (R.faults rack.new) }
 {
@@ -99,10 +98,10 @@ fn recorded<R: Rack, T: Threads + Wait + Sync, G: Gate>(
     requires one { IsOneSimulated session.now.boards }
     ensures leaves { Keeps R.L.faults R.L.quiets R.L.gots R.L.held R.L.telling (R.kept rack.old) (R.kept rack.new)
         (RecordLeaves session.now steps.now (R.made rack.old) (R.made rack.new) result) }
-    ensures traffic { IfOk result (λ answer.
-        GivesBackTapped R.L.telling (R.kept rack.old) (R.kept rack.new) answer.text.items) }
     ensures rack_faults { RisesOnlyAt (Err RunFault.Rack) result (R.faults rack.old) (R.faults rack.new) }
 {
+    a_capture_of_a_lane_proves_what_was_executed();
+    a_lane_sends_a_merge_at_any_moment();
     let boards = session.boards.as_slice();
     let board = &boards[0];
     let first = first_of(&board.link);
@@ -152,7 +151,7 @@ fn greet_tapped<R: Rack>(
     rack: &mut R,
 ) -> Result<Greeted<TapLink<R::L>>, RackFault>
     requires reached { CanBeReached spec.now }
-    ensures reached { IfOk result (λ board. IsReached settings spec.now board (tapped R.L.telling (link_of board))
+    ensures reached { IfOk result (λ board. IsReached settings spec.now board
         (shown_by (tapped R.L.faults) (tapped R.L.quiets) (tapped R.L.gots) (tapped R.L.held) (tapped R.L.telling)
         (link_of board))) }
     ensures failed { result ≡ Err RackFault.Failed → Rose (R.faults rack.old) (R.faults rack.new) }
@@ -195,7 +194,7 @@ fn run_tapped<L: Link + Send + Drop, T: Threads + Wait + Sync, G: Gate>(
     requires executable { AllByRecursion AreExecutable steps.now }
     requires limits { AreWithinLimits steps.now }
     requires reached { (spec : BoardSpec) → specs.now ≡ spec ∷ []
-        → IsReached settings spec greeted (tapped L.telling (link_of greeted))
+        → IsReached settings spec greeted
         (shown_by (tapped L.faults) (tapped L.quiets) (tapped L.gots) (tapped L.held) (tapped L.telling)
         (link_of greeted)) }
     requires empty { room.items ≡ [] }
@@ -206,7 +205,7 @@ fn run_tapped<L: Link + Send + Drop, T: Threads + Wait + Sync, G: Gate>(
     ensures left { AreLeft 0 specs.now steps.now
         (shown_by L.faults L.quiets L.gots L.held L.telling result.0.link ∷ []) }
 {
-    a_lane_left_at_any_moment_executed_a_merge();
+    a_fresh_link_is_left();
     if is_out_of_memory(&greeted) {
         return (into_link(greeted), Err(NoMemory));
     }

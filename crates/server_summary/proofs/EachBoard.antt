@@ -21,7 +21,7 @@ use Rattle.ipb_base.specs.Numbers.{payload_of}
 use Rattle.board_node.specs.declared.spec.LinkSpec.{LinkSpec}
 use Rattle.board_node.specs.declared.spec.LinkSpec.TheVariants.{Sim, Udp}
 use Rattle.board_history.specs.Runs.{greeting_of}
-use Rattle.lane_history.specs.Links.{HasFailed, IsBoardOf, IsFaithful, LinkReport}
+use Rattle.lane_history.specs.Links.{HasFailed, IsBoardOf, IsFaithful, LinkReport, board_there}
 use Rattle.lane_history.specs.Runs.{IsAsTold}
 use Rattle.lane_history.proofs.Shown.{some_then}
 use Rattle.client_history.specs.Boards.{AreServedOver, IsServedOver, ServedBoard, run_of}
@@ -225,11 +225,11 @@ module _ (boards : List ServedBoard) (position : ℕ) where
       → FramesGivenUpOnlyAfterRounds settings link position states cs
   all_waited settings link lane cs here asked gave_up = record {
     quiets' = λ exact. all_paid (settings.rounds + 1) link.quiets lane here cs asked (gave_up.quiets' exact);
-    held' = some_then (λ (board : Board). IsExact link.held → AllByRecursion
+    held' = some_then (λ _. IsExact link.held → AllByRecursion
         (λ (s : List Submission). settings.rounds * given_up s ≤ link.held)
-        (map (submissions_to states (stands.Lane lane)) cs)) (λ (board : Board). IsExact link.held → AllByRecursion
-        (λ (c : Conversation). settings.rounds * frames_given_up position states c ≤ link.held) cs) link.board
-        (λ board pays exact. all_paid settings.rounds link.held lane here cs asked (pays exact)) gave_up.held';
+        (map (submissions_to states (stands.Lane lane)) cs)) (λ _. IsExact link.held → AllByRecursion
+        (λ (c : Conversation). settings.rounds * frames_given_up position states c ≤ link.held) cs) link.telling
+        (λ t pays exact. all_paid settings.rounds link.held lane here cs asked (pays exact)) gave_up.held';
   }
 
   -- ---- code 3
@@ -295,7 +295,7 @@ module _ (boards : List ServedBoard) (position : ℕ) where
       → slice_get boards position ≡ Some b → IsFaithful link → IsServedOver settings spec b link
       → b.told ≡ greeting_of spec.link → (lane : ℕ) × (slice_get states position ≡ Some (stands.Lane lane))
   faithful_lane settings spec link b at calm over greeted =
-      greeted_lane spec.link link.board calm.there b calm.tells over.board' at greeted
+      greeted_lane spec.link (board_there link.telling) calm.there b calm.tells over.board' at greeted
 
   pub none_by : (code lane : ℕ) → code ≤ 3 → code ≢ replied_code
       → slice_get states position ≡ Some (stands.Lane lane) → (cs : List Conversation)

@@ -61,4 +61,4 @@ two_rounds = record { rounds = 2; window = 16 }
 
 -- a link that does not tell, with so many quiet receives and no fault
 abbrev pub quiet_link : ℕ → LinkReport
-quiet_link quiets = record { faults = 0; quiets = quiets; gots = 0; held = 0; board = None }
+quiet_link quiets = record { faults = 0; quiets = quiets; gots = 0; held = 0; telling = None }

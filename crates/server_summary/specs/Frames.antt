@@ -117,7 +117,7 @@ pub record FramesGivenUpOnlyAfterRounds (settings : Limits) (link : LinkReport) 
     (boards : List BoardState) (conversations : List Conversation) : Type 0 where
   pub quiets' : IsExact link.quiets → AllByRecursion
       (λ (c : Conversation). (settings.rounds + 1) * frames_given_up position boards c ≤ link.quiets) conversations
-  pub held' : IfSome link.board (λ board. IsExact link.held → AllByRecursion
+  pub held' : IfSome link.telling (λ _. IsExact link.held → AllByRecursion
       (λ (c : Conversation). settings.rounds * frames_given_up position boards c ≤ link.held) conversations)
 
 -- ---- code 3

@@ -6,7 +6,7 @@ ghost use Rattle.board_node.specs.declared.spec.BoardSpec.{BoardSpec};
 ghost use Rattle.world_model.specs.Board.{executed};
 ghost use Rattle.world_model.specs.Settings.{Limits};
 ghost use Rattle.board_history.specs.Runs.{opening_of};
-ghost use Rattle.lane_history.specs.Links.{IsFaithful, LinkReport};
+ghost use Rattle.lane_history.specs.Links.{IsFaithful, LinkReport, board_there};
 ghost use Rattle.transcript.specs.declared.line.BoardLine.{BoardLine};
 ghost use Rattle.hub_session.specs.declared.served.Served.{Served};
 ghost use Rattle.hub_session.specs.Codes.{replied_code, timed_out_code, unsent_code};
@@ -76,9 +76,10 @@ pub fn code_0_answers_what_was_executed()
     ensures { (settings : Limits) (specs : List BoardSpec) (links : List LinkReport) (came back : List PairReport)
         (connections : List Served) (lines : List BoardLine)
         (is : AreServed settings specs links came back connections lines)
-        → OfEachBoard (λ position spec link. IfSome link.board (λ board. OfEachWithCode replied_code position
-        (states_of is.boards) (IsAnsweredRightly (opening_of spec.link) (executed board) (states_of is.boards) position)
-        is.conversations)) specs links }
+        → OfEachBoard (λ position spec link. IfSome (board_there link.telling)
+        (λ board. OfEachWithCode replied_code position (states_of is.boards)
+        (IsAnsweredRightly (opening_of spec.link) (executed board) (states_of is.boards) position) is.conversations))
+        specs links }
 {
     a_board_that_tells_executed_what_was_replied();
 }

@@ -57,7 +57,7 @@ pub record AreParts (planned : List ClientBodies) (dispatches : List (List (List
 
 pub parts_of_dispatches : (planned : List ClientBodies) (dispatches : List (List (List Outcome)))
     → AllByRecursion HasItsCounts planned → cuts_of dispatches ≡ counts_by_client planned
-    → AreParts planned dispatches (parts_with planned (map joined dispatches))
+    → AreParts planned dispatches (parts_with planned (map joined dispatches) [])
 parts_of_dispatches [] [] counts cut = record { plans = refl; whole = tt; cut = refl; bodies = refl }
 parts_of_dispatches [] (d ∷ ds) counts cut = absurd cc
 parts_of_dispatches (p ∷ planned) [] counts cut = absurd cc
@@ -66,7 +66,7 @@ parts_of_dispatches (p ∷ planned) (d ∷ ds) counts cut =
     let tail : cuts_of ds ≡ counts_by_client planned = cc in
     let later = parts_of_dispatches planned ds counts.1 tail in
     let dealt = deal_joined p.counts d head in
-    let parts = parts_with planned (map joined ds) in
+    let parts = parts_with planned (map joined ds) [] in
     record {
       plans = ap (λ (ps : List ClientBodies). p ∷ ps) later.plans;
       whole = (

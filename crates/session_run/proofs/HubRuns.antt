@@ -228,7 +228,7 @@ ran_on_lane : {L : Type 0} → BackLaw → RunLaw → (tells : L → Option Tell
     → IsPlannedOn scripts position old mid planned → map (counts_on lane) plans ≡ counts_by_client planned
     → head_shown tells new ≡ head_shown tells old
     → HaveRunOn plans results lane (first_knowledge (shown tells mid)) after → Ends after (shown tells new)
-    → IsRunOn scripts position new (parts_with planned (outcomes_on_lane lane results))
+    → IsRunOn scripts position new (parts_with planned (outcomes_on_lane lane results) [])
 ran_on_lane {L} back run tells scripts plans results lane position old mid new planned after of' none is counts heads
     ran
     ended =

@@ -4,7 +4,9 @@ pub mod Sides
 pub mod DispatchParts
 pub mod FewBodies
 pub mod LaneRuns
+pub mod Left
 pub mod BoardRuns
+pub mod LateAnswers
 pub mod Idle
 pub mod PlanningLanes
 pub mod HubRuns

@@ -1,5 +1,5 @@
 -- The parts of the clients, board by board.
-use Rattle.std.proofs.Common.{◌≡◌, ℕ, zero, suc, ◌+◌, ◌<◌, ◌∙◌, List, [], ◌∷◌, ◌++◌, length, drop, get_or, map}
+use Rattle.std.proofs.Common.{◌≡◌, ℕ, zero, suc, ◌+◌, ◌<◌, ◌∙◌, List, [], ◌∷◌, ◌++◌, length, drop, get_or, map, Option}
 use Rattle.std.proofs.Common.{refl, sym, ap, subst, arith, append_assoc, append-nil, set, take}
 use Rattle.std.specs.List.{AllByRecursion}
 use Rattle.std.proofs.lemmas.List.{drop_all, drop_more, length-map, length-take-le, map-append, nil_from_length}
@@ -15,7 +15,7 @@ use Rattle.session_run.specs.Parts.{HasClients, HasLanes, HasNext, next_of, othe
 abbrev pub parts_by : List (List ClientBodies) → List (List (List Outcome)) → List (List ClientPart)
 parts_by [] clients = []
 parts_by (planned ∷ boards) clients =
-    parts_with planned (map next_of clients) ∷ parts_by boards (map others_of clients)
+    parts_with planned (map next_of clients) [] ∷ parts_by boards (map others_of clients)
 
 abbrev pub left_from : ℕ → List ClientResult → List (List (List Outcome))
 left_from lane results = map (λ (r : ClientResult). drop lane r.lanes) results
@@ -55,9 +55,9 @@ pub parts_by_lane : (lane : ℕ) (boards : List (List ClientBodies)) (results : 
     → parts_by boards (left_from lane results) ≡ parts_from lane boards results
 parts_by_lane lane [] results = refl
 parts_by_lane lane (planned ∷ boards) results =
-    ap (λ (l : List (List Outcome)). parts_with planned l ∷ parts_by boards (map others_of (left_from lane results)))
+    ap (λ (l : List (List Outcome)). parts_with planned l [] ∷ parts_by boards (map others_of (left_from lane results)))
     (next_from_all lane results)
-    ∙ ap (λ (ps : List (List ClientPart)). parts_with planned (outcomes_on_lane lane results) ∷ ps)
+    ∙ ap (λ (ps : List (List ClientPart)). parts_with planned (outcomes_on_lane lane results) [] ∷ ps)
     (ap (parts_by boards) (others_from_all lane results) ∙ parts_by_lane (lane + 1) boards results)
 
 -- all lanes are those from the first on
@@ -70,7 +70,7 @@ all_left (r ∷ results) = ap (λ (l : List (List (List Outcome))). r.lanes ∷ 
 -- the clients so far, and those that are left
 pub record PartsSoFar (k : ℕ) (planned rest : List ClientBodies) (before now : List (List (List Outcome)))
     (parts : List ClientPart) : Type 0 where
-  pub whole : parts ++ parts_with rest (map next_of (drop k before)) ≡ parts_with planned (map next_of before)
+  pub whole : parts ++ parts_with rest (map next_of (drop k before)) [] ≡ parts_with planned (map next_of before) []
   pub others : now ≡ map others_of (take k before) ++ drop k before
   pub many : length rest + k ≡ length before
 
@@ -83,14 +83,17 @@ get_behind (f ∷ front) rest (suc k) d is = get_behind front rest k d (omega (a
 -- one client more
 pub client_done : (k : ℕ) (planned rest later : List ClientBodies) (p : ClientBodies)
     (before now after : List (List (List Outcome))) (client left : List (List Outcome)) (outcomes : List Outcome)
-    (parts more : List ClientPart) → PartsSoFar k planned rest before now parts → rest ≡ p ∷ later → k < length before
-    → client ≡ get_or now k client → client ≡ outcomes ∷ left
-    → more ≡ parts ++ record { planned = p; outcomes = outcomes } ∷ [] → after ≡ set now k left
+    (lates : List (Option (List ℕ))) (parts more : List ClientPart) → PartsSoFar k planned rest before now parts
+    → rest ≡ p ∷ later → k < length before → client ≡ get_or now k client → client ≡ outcomes ∷ left → lates ≡ []
+    → more ≡ parts ++ record { planned = p; outcomes = outcomes; lates = lates } ∷ [] → after ≡ set now k left
     → PartsSoFar (k + 1) planned later before after more
-client_done k planned rest later p before now after client left outcomes parts more so_far is within at taken push put =
+client_done k planned rest later p before now after client left outcomes lates parts more so_far is within at taken none
+    pushed put =
     let front = map others_of (take k before) in
     let behind = drop (k + 1) before in
-    let part : ClientPart = record { planned = p; outcomes = outcomes } in
+    let part : ClientPart = record { planned = p; outcomes = outcomes; lates = [] } in
+    let push : more ≡ parts ++ part ∷ [] = pushed
+    ∙ ap (λ (l : List (Option (List ℕ))). parts ++ record { planned = p; outcomes = outcomes; lates = l } ∷ []) none in
     let long : length front ≡ k = (let e = length-map (take k before) others_of in
     let g = length-take-le k before (omega (arith, within)) in omega (arith, e, g)) in
     let here : client ≡ get_or before k client = at
@@ -104,12 +107,12 @@ client_done k planned rest later p before now after client left outcomes parts m
     let many = so_far.many in
     let one = ap (λ (l : List ClientBodies). length l) is in
     record {
-      whole = ap (λ (l : List ClientPart). l ++ parts_with later (map next_of behind)) push
-          ∙ (append_assoc parts (part ∷ []) (parts_with later (map next_of behind))
-          ∙ (ap (λ (l : List (List Outcome)). parts ++ parts_with (p ∷ later) (next_of l ∷ map next_of behind)) (sym
+      whole = ap (λ (l : List ClientPart). l ++ parts_with later (map next_of behind) []) push
+          ∙ (append_assoc parts (part ∷ []) (parts_with later (map next_of behind) [])
+          ∙ (ap (λ (l : List (List Outcome)). parts ++ parts_with (p ∷ later) (next_of l ∷ map next_of behind) []) (sym
           taken)
-          ∙ (ap (λ (l : List (List (List Outcome))). parts ++ parts_with (p ∷ later) (map next_of l)) (sym begins)
-          ∙ (ap (λ (l : List ClientBodies). parts ++ parts_with l (map next_of (drop k before))) (sym is)
+          ∙ (ap (λ (l : List (List (List Outcome))). parts ++ parts_with (p ∷ later) (map next_of l) []) (sym begins)
+          ∙ (ap (λ (l : List ClientBodies). parts ++ parts_with l (map next_of (drop k before)) []) (sym is)
           ∙ so_far.whole))));
       others = put
           ∙ (ap (λ (l : List (List (List Outcome))). set l k left)
@@ -180,7 +183,7 @@ has_clients boards rest later planned lanes now parts so_far is =
 -- one board more
 pub board_done : (boards rest later : List (List ClientBodies)) (planned : List ClientBodies)
     (lanes now after : List (List (List Outcome))) (parts more : List (List ClientPart)) (made : List ClientPart)
-    → BoardsSoFar boards rest lanes now parts → rest ≡ planned ∷ later → made ≡ parts_with planned (map next_of now)
+    → BoardsSoFar boards rest lanes now parts → rest ≡ planned ∷ later → made ≡ parts_with planned (map next_of now) []
     → more ≡ parts ++ made ∷ [] → after ≡ map others_of now → BoardsSoFar boards later lanes after more
 board_done boards rest later planned lanes now after parts more made so_far is makes push others =
     let here = subst (λ (l : List (List ClientBodies)). BoardsSoFar boards l lanes now parts) is so_far in

@@ -14,8 +14,7 @@ use Rattle.hub_lane.specs.declared.greeting.Greeted.TheVariants.{Ready, Silent, 
 use Rattle.script_plans.specs.declared.greeting.Greeting.TheVariants as greeting
 use Rattle.script_plans.specs.declared.board_run.ClientPart.{ClientPart}
 use Rattle.script_plans.specs.Plan.{plans_on}
-use Rattle.lane_history.specs.Links.{IsBoardOf, LinkReport}
-use Rattle.board_greeting.specs.Reports.{board_there}
+use Rattle.lane_history.specs.Links.{LinkReport}
 use Rattle.lane_history.specs.Records.{IsPartlyPlanned}
 use Rattle.board_greeting.specs.Boards.{AreReached, HasMemory, IsReached, shown_by}
 use Rattle.session_run.specs.Clients.{bodies_of}
@@ -49,14 +48,14 @@ few_positions position (NoMemory link ∷ boards) = let few = few_positions (pos
 
 stopped : {L : Type 0} (tells : L → Option Telling) (shows : L → LinkReport) (settings : Limits)
     (scripts : List (List Step)) (position : ℕ) (spec : BoardSpec) (old new : LaneState L)
-    → IsReached settings spec (Ready old) (tells old.link) (shows old.link)
-    → (board : IsBoardOf spec.link (board_there (tells old.link))) → HasGoneOn tells scripts position old new
+    → IsReached settings spec (Ready old) (shows old.link) → (shows old.link).telling ≡ tells old.link
+    → HasGoneOn tells scripts position old new
     → IsStoppedLane settings scripts position spec (tells new.link) new
-stopped {L} tells shows settings scripts position spec old new reached board gone =
+stopped {L} tells shows settings scripts position spec old new reached same_link gone =
     let status : new.status ≡ old.status =
     ap (λ (h : Head). let s : BoardStatus = record { mtu = h.mtu; buffers = h.buffers; next = h.first } in s)
     gone.head in
-    let to = lane_back tells (shows old.link) settings spec old new reached board gone.head in
+    let to = lane_back tells (shows old.link) settings spec old new reached same_link gone.head in
     record {
       settings' = to.settings';
       board' = to.board';
@@ -88,9 +87,9 @@ HaveParts scripts positions news parts = (parts ≡ []) ⊎ AllThree (IsRunOn sc
 none_came : {L : Type 0} (faults quiets gots held : L → ℕ) (tells : L → Option Telling) (settings : Limits)
     (scripts : List (List Step)) (position : ℕ) (specs : List BoardSpec) (boards : List (Greeted L))
     (news : List (LaneState L)) → length boards ≡ length specs → AllByRecursion HasMemory boards
-    → AreReached tells (shown_by faults quiets gots held tells) settings specs boards
+    → AreReached (shown_by faults quiets gots held tells) settings specs boards
     → AllThree (HasGoneOn tells scripts) (positions_from position boards) (lanes_in boards) news
-    → AreCameOf tells (shown_by faults quiets gots held tells) settings scripts position specs
+    → AreCameOf (shown_by faults quiets gots held tells) settings scripts position specs
     (rejoined (map place_of boards) news [])
 none_came faults quiets gots held tells settings scripts position [] [] news long memory are gone = tt
 none_came faults quiets gots held tells settings scripts position [] (b ∷ boards) news long memory are gone = absurd cc
@@ -102,7 +101,7 @@ none_came faults quiets gots held tells settings scripts position (s ∷ specs) 
     memory are
     gone = (
       (
-        stopped tells (shown_by faults quiets gots held tells) settings scripts position s lane n are.0 are.0.board'
+        stopped tells (shown_by faults quiets gots held tells) settings scripts position s lane n are.0 refl
             gone.0,
         tt,
       ),
@@ -113,14 +112,14 @@ none_came faults quiets gots held tells settings scripts position (s ∷ specs) 
 none_came faults quiets gots held tells settings scripts position (s ∷ specs) (Silent link rounds ∷ boards) news long
     memory
     are gone = (
-      record { board' = are.0.board'; untouched = are.0.untouched; as_told = are.0.as_told },
+      record { fresh = are.0.fresh; as_told = are.0.as_told },
       none_came faults quiets gots held tells settings scripts (position + 1) specs boards news (omega (arith, long))
           memory.1
           are.1 gone,
     )
 none_came faults quiets gots held tells settings scripts position (s ∷ specs) (Down link ∷ boards) news long memory are
     gone = (
-      record { board' = are.0.board'; untouched = are.0.untouched; as_told = are.0.as_told },
+      record { fresh = are.0.fresh; as_told = are.0.as_told },
       none_came faults quiets gots held tells settings scripts (position + 1) specs boards news (omega (arith, long))
           memory.1
           are.1 gone,
@@ -132,10 +131,10 @@ none_came faults quiets gots held tells settings scripts position (s ∷ specs) 
 all_came : {L : Type 0} (faults quiets gots held : L → ℕ) (tells : L → Option Telling) (settings : Limits)
     (scripts : List (List Step)) (position : ℕ) (specs : List BoardSpec) (boards : List (Greeted L))
     (news : List (LaneState L)) (parts : List (List ClientPart)) → length boards ≡ length specs
-    → AllByRecursion HasMemory boards → AreReached tells (shown_by faults quiets gots held tells) settings specs boards
+    → AllByRecursion HasMemory boards → AreReached (shown_by faults quiets gots held tells) settings specs boards
     → AllThree (HasGoneOn tells scripts) (positions_from position boards) (lanes_in boards) news
     → AllThree (IsRunOn scripts) (positions_from position boards) news parts
-    → AreCameOf tells (shown_by faults quiets gots held tells) settings scripts position specs
+    → AreCameOf (shown_by faults quiets gots held tells) settings scripts position specs
     (rejoined (map place_of boards) news parts)
 all_came faults quiets gots held tells settings scripts position [] [] news parts long memory are gone ran = tt
 all_came faults quiets gots held tells settings scripts position [] (b ∷ boards) news parts long memory are gone ran =
@@ -152,7 +151,7 @@ all_came faults quiets gots held tells settings scripts position (s ∷ specs) (
     parts) long
     memory are gone ran = (
       (
-        stopped tells (shown_by faults quiets gots held tells) settings scripts position s lane n are.0 are.0.board'
+        stopped tells (shown_by faults quiets gots held tells) settings scripts position s lane n are.0 refl
             gone.0,
         ran.0,
       ),
@@ -165,7 +164,7 @@ all_came faults quiets gots held tells settings scripts position (s ∷ specs) (
 all_came faults quiets gots held tells settings scripts position (s ∷ specs) (Silent link rounds ∷ boards) news parts
     long
     memory are gone ran = (
-      record { board' = are.0.board'; untouched = are.0.untouched; as_told = are.0.as_told },
+      record { fresh = are.0.fresh; as_told = are.0.as_told },
       all_came faults quiets gots held tells settings scripts (position + 1) specs boards news parts (omega (
         arith,
         long,
@@ -175,7 +174,7 @@ all_came faults quiets gots held tells settings scripts position (s ∷ specs) (
 all_came faults quiets gots held tells settings scripts position (s ∷ specs) (Down link ∷ boards) news parts long
     memory are
     gone ran = (
-      record { board' = are.0.board'; untouched = are.0.untouched; as_told = are.0.as_told },
+      record { fresh = are.0.fresh; as_told = are.0.as_told },
       all_came faults quiets gots held tells settings scripts (position + 1) specs boards news parts (omega (
         arith,
         long,
@@ -189,10 +188,10 @@ all_came faults quiets gots held tells settings scripts position (s ∷ specs) (
 pub boards_came : {L : Type 0} (faults quiets gots held : L → ℕ) (tells : L → Option Telling) (settings : Limits)
     (scripts : List (List Step)) (specs : List BoardSpec) (boards : List (Greeted L)) (news : List (LaneState L))
     (parts : List (List ClientPart)) → length boards ≡ length specs → AllByRecursion HasMemory boards
-    → AreReached tells (shown_by faults quiets gots held tells) settings specs boards
+    → AreReached (shown_by faults quiets gots held tells) settings specs boards
     → AllThree (HasGoneOn tells scripts) (positions_from 0 boards) (lanes_in boards) news
     → HaveParts scripts (positions_from 0 boards) news parts
-    → AreCameOf tells (shown_by faults quiets gots held tells) settings scripts 0 specs
+    → AreCameOf (shown_by faults quiets gots held tells) settings scripts 0 specs
     (rejoined (map place_of boards) news parts)
 boards_came faults quiets gots held tells settings scripts specs boards news parts long memory are gone (inl none) =
     rw none (none_came faults quiets gots held tells settings scripts 0 specs boards news long memory are gone)

@@ -1,20 +1,18 @@
 -- Boards one after another: the links given back so far, and the runs.
 use Rattle.std.proofs.Common.{◌≡◌, ℕ, ◌+◌, ◌<◌, ◌∙◌, inl, inr, Bool, true, List, [], ◌∷◌, ◌++◌, length, map}
-use Rattle.std.proofs.Common.{Option, refl, sym, ap, subst, arith, append_assoc, append-nil, length-append, take}
+use Rattle.std.proofs.Common.{refl, sym, ap, subst, arith, append_assoc, append-nil, length-append, take}
 use Rattle.std.proofs.Common.{drop, get_or}
-use Rattle.std.specs.Prelude.{IfOk, IfSome, Result, Ok, Err}
+use Rattle.std.specs.Prelude.{IfOk, Result, Ok, Err}
 use Rattle.std.specs.List.{AllByRecursion}
 use Rattle.std.proofs.lemmas.List.{length-drop, length-map, length-take-le, map_push, take_more}
-use Rattle.world_model.specs.Board.{executed}
-use Rattle.world_core.specs.Telling.{Telling}
 use Rattle.world_model.specs.Settings.{Limits}
 use Rattle.board_node.specs.declared.spec.BoardSpec.{BoardSpec}
 use Rattle.script_steps.specs.declared.operation.Step.{Step}
 use Rattle.script_plans.specs.declared.board_run.BoardRun.{BoardRun}
 use Rattle.script_plans.specs.declared.board_run.ClientPart.{ClientPart}
 use Rattle.lane_history.specs.Links.{IsUntouched, LinkReport}
-use Rattle.lane_history.specs.Runs.{AreRunsOver, ExecutedSome, IsRunOver}
-use Rattle.board_greeting.specs.Boards.{AreUntouched, HasRoom}
+use Rattle.lane_history.specs.Runs.{AreRunsOver, IsRunOver}
+use Rattle.board_greeting.specs.Boards.{AreFreshLinks, HasRoom, IsFreshLink}
 use Rattle.session_run.specs.Boards.{OnRun}
 use Rattle.session_run.specs.Places.{AreCameOf, IsCameOf}
 use Rattle.board_greeting.specs.declared.rejoined.Board.{Board}
@@ -74,41 +72,41 @@ none_ran shows settings specs scripts kept = record {
   ran = λ e. tt;
 }
 
-none_of : {L : Type 0} (tells : L → Option Telling) (shows : L → LinkReport) (settings : Limits)
+none_of : {L : Type 0} (shows : L → LinkReport) (settings : Limits)
     (scripts : List (List Step)) (k : ℕ) (specs : List BoardSpec)
-    → AreCameOf tells shows settings scripts k specs [] → 0 < length specs → ⊥
-none_of tells shows settings scripts k [] came some = omega (arith, some)
-none_of tells shows settings scripts k (s ∷ specs) came some = came
+    → AreCameOf shows settings scripts k specs [] → 0 < length specs → ⊥
+none_of shows settings scripts k [] came some = omega (arith, some)
+none_of shows settings scripts k (s ∷ specs) came some = came
 
 -- what came of the next board, and of those behind it
-pub record NextBoard {L : Type 0} (tells : L → Option Telling) (shows : L → LinkReport) (settings : Limits)
+pub record NextBoard {L : Type 0} (shows : L → LinkReport) (settings : Limits)
     (scripts : List (List Step)) (k : ℕ) (specs : List BoardSpec) (spec : BoardSpec) (board : Board L (List ClientPart))
     (others : List (Board L (List ClientPart))) : Type 0 where
-  pub came : IsCameOf tells shows settings scripts k spec board
-  pub later : AreCameOf tells shows settings scripts (k + 1) (drop (k + 1) specs) others
+  pub came : IsCameOf shows settings scripts k spec board
+  pub later : AreCameOf shows settings scripts (k + 1) (drop (k + 1) specs) others
 
-pub next_board : {L : Type 0} (tells : L → Option Telling) (shows : L → LinkReport) (settings : Limits)
+pub next_board : {L : Type 0} (shows : L → LinkReport) (settings : Limits)
     (scripts : List (List Step)) (k : ℕ) (specs : List BoardSpec) (spec : BoardSpec) (boards others : List (Board L
     (List ClientPart)))
-    (board : Board L (List ClientPart)) → AreCameOf tells shows settings scripts k (drop k specs) boards → k < length
+    (board : Board L (List ClientPart)) → AreCameOf shows settings scripts k (drop k specs) boards → k < length
     specs
     → spec ≡ get_or specs k spec → boards ≡ board ∷ others
-    → NextBoard tells shows settings scripts k specs spec board others
-next_board {L} tells shows settings scripts k specs spec boards others board came within is here =
-    let both = subst (λ (ss : List BoardSpec). AreCameOf tells shows settings scripts k ss (board ∷ others))
+    → NextBoard shows settings scripts k specs spec board others
+next_board {L} shows settings scripts k specs spec boards others board came within is here =
+    let both = subst (λ (ss : List BoardSpec). AreCameOf shows settings scripts k ss (board ∷ others))
     (begins_at specs k spec within is)
-    (subst (λ (bs : List (Board L (List ClientPart))). AreCameOf tells shows settings scripts k (drop k specs) bs)
+    (subst (λ (bs : List (Board L (List ClientPart))). AreCameOf shows settings scripts k (drop k specs) bs)
     here came) in
     record { came = both.0; later = both.1 }
 
 -- some board is left
-pub some_left : {L : Type 0} (tells : L → Option Telling) (shows : L → LinkReport) (settings : Limits)
+pub some_left : {L : Type 0} (shows : L → LinkReport) (settings : Limits)
     (scripts : List (List Step)) (k : ℕ) (specs : List BoardSpec) (boards : List (Board L (List ClientPart)))
-    → AreCameOf tells shows settings scripts k (drop k specs) boards → k < length specs → 0 < length boards
-some_left tells shows settings scripts k specs [] came within =
+    → AreCameOf shows settings scripts k (drop k specs) boards → k < length specs → 0 < length boards
+some_left shows settings scripts k specs [] came within =
     let long = length-drop k specs in
-    absurd (none_of tells shows settings scripts k (drop k specs) came (omega (arith, long, within)))
-some_left tells shows settings scripts k specs (b ∷ boards) came within = omega arith
+    absurd (none_of shows settings scripts k (drop k specs) came (omega (arith, long, within)))
+some_left shows settings scripts k specs (b ∷ boards) came within = omega arith
 
 pub room_for_one : {L : Type 0} (shows : L → LinkReport) (settings : Limits) (k : ℕ) (specs : List BoardSpec)
     (scripts : List (List Step)) (runs : List BoardRun) (is_whole : Bool) (kept now : List L) (made : ℕ)
@@ -169,21 +167,21 @@ board_more {L} {E} shows settings k specs scripts runs later is_whole added kept
           (so_far.ran (was e)) within is over is_later);
     }
 
-abbrev pub UntouchedLaw : Type 0
-UntouchedLaw = (spec : BoardSpec) (board : ℕ) (scripts : List (List Step)) (link : LinkReport)
-    → IsUntouched link → IfSome link.board (λ there. ExecutedSome spec board scripts (executed there))
+abbrev pub FreshLaw : Type 0
+FreshLaw = (settings : Limits) (spec : BoardSpec) (board : ℕ) (scripts : List (List Step)) (link : LinkReport)
+    → IsFreshLink settings spec link → IsLeft spec board scripts link
 
-pub untouched_are_left : UntouchedLaw → (board : ℕ) (specs : List BoardSpec) (scripts : List (List Step))
-    (links : List LinkReport) → AreUntouched specs links → AreLeft board specs scripts links
-untouched_are_left law board specs scripts [] are = tt
-untouched_are_left law board [] scripts (l ∷ links) are = absurd are
-untouched_are_left law board (s ∷ specs) scripts (l ∷ links) are = (
-  record { board' = are.0; executed_some = law s board scripts l are.1 },
-  untouched_are_left law (board + 1) specs scripts links are.2,
+pub fresh_are_left : FreshLaw → (settings : Limits) (board : ℕ) (specs : List BoardSpec) (scripts : List (List Step))
+    (links : List LinkReport) → AreFreshLinks settings specs links → AreLeft board specs scripts links
+fresh_are_left law settings board specs scripts [] are = tt
+fresh_are_left law settings board [] scripts (l ∷ links) are = absurd are
+fresh_are_left law settings board (s ∷ specs) scripts (l ∷ links) are = (
+  law settings s board scripts l are.0,
+  fresh_are_left law settings (board + 1) specs scripts links are.1,
 )
 
-pub untouched_all : (specs : List BoardSpec) (links : List LinkReport) → AreUntouched specs links
-    → AllByRecursion IsUntouched links
-untouched_all specs [] are = tt
-untouched_all [] (l ∷ links) are = absurd are
-untouched_all (s ∷ specs) (l ∷ links) are = (are.1, untouched_all specs links are.2)
+pub untouched_all : (settings : Limits) (specs : List BoardSpec) (links : List LinkReport)
+    → AreFreshLinks settings specs links → AllByRecursion IsUntouched links
+untouched_all settings specs [] are = tt
+untouched_all settings [] (l ∷ links) are = absurd are
+untouched_all settings (s ∷ specs) (l ∷ links) are = (are.0.untouched, untouched_all settings specs links are.1)

@@ -1,16 +1,33 @@
 -- What the links of a session show once it ended. Profile.
-use Rattle.std.specs.Prelude.{ℕ, ◌+◌, List, [], ◌∷◌, IfSome}
-use Rattle.world_model.specs.Board.{executed}
+use Rattle.std.specs.Prelude.{ℕ, ◌+◌, Bool, List, [], ◌∷◌, Option, IfSome}
+use Rattle.world_model.specs.Facts.{bodies_of}
+use Rattle.world_model.specs.Hub.{Hub}
+use Rattle.world_model.specs.Settings.{Limits}
+use Rattle.world_core.specs.Telling.{Telling}
 use Rattle.board_node.specs.declared.spec.BoardSpec.{BoardSpec}
+use Rattle.lane_record.specs.declared.outcome.Outcome.{Outcome}
 use Rattle.script_steps.specs.declared.operation.Step.{Step}
-use Rattle.lane_history.specs.Links.{LinkReport, IsBoardOf}
-use Rattle.lane_history.specs.Runs.{ExecutedSome}
+use Rattle.hub_lane.specs.Standing.{IsStanding}
+use Rattle.lane_history.specs.Links.{IsBoardOf, LinkReport, board_there}
+use Rattle.lane_history.specs.Runs.{IsMergeOfAsked}
 pub use Rattle.board_greeting.specs.Links.{Keeps, CanBeReached}
 
--- what the board at this position executed is a merge of bodies that the scripts ask of it, each client's in its order
+-- How a hub stood to a link that tells this when the session let go of it: both are a state of a run of the world, also
+-- where the hub had stopped, and what the hub sent is a merge of bodies that the scripts ask of the board at this
+-- position, each client's in its order. So what the board executed is one too (`a_board_left_executed_a_merge`).
+pub record HasStood (spec : BoardSpec) (board : ℕ) (scripts : List (List Step)) (telling : Telling) : Type 0 where
+  pub stopped : Bool
+  pub limits : Limits
+  pub hub : Hub
+  pub outcomes : List (Option Outcome)
+  pub lates : List (Option (List ℕ))
+  pub standing : IsStanding stopped limits hub outcomes lates telling
+  pub sent : IsMergeOfAsked spec board scripts (bodies_of hub.sent)
+
+-- the link of the board at this position
 pub record IsLeft (spec : BoardSpec) (board : ℕ) (scripts : List (List Step)) (link : LinkReport) : Type 0 where
-  pub board' : IsBoardOf spec.link link.board
-  pub executed_some : IfSome link.board (λ there. ExecutedSome spec board scripts (executed there))
+  pub board' : IsBoardOf spec.link (board_there link.telling)
+  pub stood : IfSome link.telling (HasStood spec board scripts)
 
 -- The links are those of the first boards, in order, and each is so; there may be fewer links than boards.
 abbrev pub AreLeft : ℕ → List BoardSpec → List (List Step) → List LinkReport → Type 0

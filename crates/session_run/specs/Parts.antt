@@ -1,9 +1,10 @@
 -- What became of the clients' bodies, put beside what each planned on each board. Profile.
-use Rattle.std.specs.Prelude.{◌≡◌, ℕ, ◌+◌, ◌<◌, List, [], ◌∷◌, length, map}
+use Rattle.std.specs.Prelude.{◌≡◌, ℕ, ◌+◌, ◌<◌, List, [], ◌∷◌, length, map, Option}
 use Rattle.std.specs.List.{slice_index_or}
 use Rattle.lane_record.specs.declared.outcome.Outcome.{Outcome}
 use Rattle.client_threads.specs.declared.result.ClientResult.{ClientResult}
 use Rattle.board_history.specs.Runs.{parts_with}
+use Rattle.lane_history.specs.Lates.{lates_of}
 use Rattle.script_plans.specs.declared.board_run.ClientPart.{ClientPart}
 use Rattle.script_plans.specs.Plan.{ClientBodies}
 
@@ -23,7 +24,12 @@ outcomes_on_lane lane results = map (λ (r : ClientResult). slice_index_or r.lan
 abbrev pub parts_from : ℕ → List (List ClientBodies) → List ClientResult → List (List ClientPart)
 parts_from lane [] results = []
 parts_from lane (planned ∷ boards) results =
-    parts_with planned (outcomes_on_lane lane results) ∷ parts_from (lane + 1) boards results
+    parts_with planned (outcomes_on_lane lane results) [] ∷ parts_from (lane + 1) boards results
+
+-- the part of a client with what came late for its bodies, by what came late at each place of its lane
+abbrev pub with_lates : List (Option (List ℕ)) → ClientPart → ClientPart
+with_lates lates part =
+    record { planned = part.planned; outcomes = part.outcomes; lates = lates_of lates part.outcomes }
 
 -- ---- how they come about
 

@@ -3,24 +3,25 @@
 ghost use Rattle.std.specs.Prelude.{◌≡◌, ◌<◌, ◌^◌, ◌++◌, ◌∷◌, [], true, length, IfOk, IfSome};
 ghost use Rattle.std.specs.List.{AllByRecursion};
 ghost use Rattle.script_steps.specs.Packing.{CanBePacked, HaveFewPieces};
-ghost use Rattle.lane_history.specs.Runs.{AreRunsOver, IsRunOver, ShowsScripts};
+ghost use Rattle.lane_history.specs.Links.{LinkReport};
+ghost use Rattle.lane_history.specs.Runs.{AreRunsOver, IsRunOver, ShowsLates, ShowsScripts};
 ghost use Rattle.board_greeting.specs.Boards.{HasRoom, IsIdle, shown_by};
 ghost use Rattle.session_run.specs.Boards.{IsNamed, OnRun};
 ghost use Rattle.session_run.specs.Lanes.{IsRunOn, IsStoppedLane};
 ghost use Rattle.session_run.specs.Links.{AreLeft, IsLeft, Keeps};
 ghost use Rattle.session_run.specs.Places.{AreCameOf, IsCameOf};
 
+use crate::late_answers::with_late_answers;
+use crate::laws::a_fresh_link_is_left;
 use board_greeting::{Board, Rejoined, close_lane};
 use board_node::BoardSpec;
 use hub_lane::Lane;
 use ipb_base::{NoMemory, Text};
-use lane_history::records::{
-    a_finished_lane_is_a_live_run, a_lane_left_at_any_moment_executed_a_merge,
-};
+use lane_history::records::{a_finished_lane_is_a_live_run, a_lane_sends_a_merge_at_any_moment};
 use lane_record::Outcomes;
 use lossy_network::Rack;
 use reliable_engine::Settings;
-use script_plans::{BoardRun, ClientPart, ClientParts, Greeting, plan_on};
+use script_plans::{BoardRun, ClientPart, ClientParts, Greeting, Lates, plan_on};
 use script_steps::Steps;
 use std::alloc::Global;
 use world_core::Link;
@@ -45,7 +46,7 @@ fn named(
     })
 }
 
-/// The run of a live board, where its clients ran to the end, and its link.
+/// The run of a live board, where its clients ran to the end, with what came late on its lane; and its link.
 fn finish_live<L: Link>(
     alloc: Global,
     settings: Settings,
@@ -62,9 +63,11 @@ fn finish_live<L: Link>(
     ensures left { IsLeft spec.now position scripts.now (shown_by L.faults L.quiets L.gots L.held L.telling result.0) }
 {
     a_finished_lane_is_a_live_run();
-    a_lane_left_at_any_moment_executed_a_merge();
+    a_lane_sends_a_merge_at_any_moment();
+    lane.is_sound();
     let payload = lane.payload();
-    let run = named(alloc, spec, Greeting::Live { payload }, parts);
+    let whole = with_late_answers(alloc, &lane, parts);
+    let run = named(alloc, spec, Greeting::Live { payload }, whole);
     (close_lane(lane), run)
 }
 
@@ -81,12 +84,18 @@ fn run_idle(
     requires few { AllByRecursion HaveFewPieces scripts.now }
     ensures scripts { IfOk result (ShowsScripts spec.now position scripts.now) }
     ensures greeting { IfOk result (λ run. run.greeting ≡ greeting) }
+    ensures lates { IfOk result (λ run. (link : LinkReport) → ShowsLates run link) }
 {
     let mut parts = Vec::with_capacity(alloc, scripts.len())?;
     for steps in scripts {
         let planned = plan_on(alloc, steps.as_slice(), position, greeting)?;
         let outcomes = Outcomes::from_vec(Vec::new(alloc));
-        parts.push(ClientPart { planned, outcomes })?;
+        let lates = Lates::from_vec(Vec::new(alloc));
+        parts.push(ClientPart {
+            planned,
+            outcomes,
+            lates,
+        })?;
     }
     named(alloc, spec, greeting, Some(ClientParts::from_vec(parts)))
 }
@@ -102,13 +111,13 @@ fn finish_board<L: Link>(
 ) -> (L, Result<BoardRun, NoMemory>)
     requires can { AllByRecursion (AllByRecursion CanBePacked) scripts.now }
     requires few { AllByRecursion HaveFewPieces scripts.now }
-    requires came { IsCameOf L.telling (shown_by L.faults L.quiets L.gots L.held L.telling) settings scripts.now
+    requires came { IsCameOf (shown_by L.faults L.quiets L.gots L.held L.telling) settings scripts.now
         position spec.now board }
     ensures ran { IfOk result.1 (λ run. IsRunOver settings spec.now position scripts.now run
         (shown_by L.faults L.quiets L.gots L.held L.telling result.0)) }
     ensures left { IsLeft spec.now position scripts.now (shown_by L.faults L.quiets L.gots L.held L.telling result.0) }
 {
-    a_lane_left_at_any_moment_executed_a_merge();
+    a_fresh_link_is_left();
     match board {
         Board::Live { lane, came } => finish_live(
             alloc, settings, lane, came, spec, position, scripts,
@@ -143,7 +152,7 @@ pub(crate) fn finish_boards<R: Rack>(
     requires few_boards { length specs.now < 2 ^ 32 }
     requires can { AllByRecursion (AllByRecursion CanBePacked) scripts.now }
     requires few { AllByRecursion HaveFewPieces scripts.now }
-    requires came { AreCameOf R.L.telling (shown_by R.L.faults R.L.quiets R.L.gots R.L.held R.L.telling) settings
+    requires came { AreCameOf (shown_by R.L.faults R.L.quiets R.L.gots R.L.held R.L.telling) settings
         scripts.now 0 specs.now boards }
     requires room { HasRoom (length (R.kept rack.old)) (R.made rack.old) (length specs.now) }
     ensures ran { IfOk result (λ runs. Keeps R.L.faults R.L.quiets R.L.gots R.L.held R.L.telling (R.kept rack.old)

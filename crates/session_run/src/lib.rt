@@ -11,6 +11,8 @@ mod board_plans;
 mod finish;
 mod hub;
 mod lanes;
+mod late_answers;
+pub mod laws;
 mod parts;
 mod planning;
 mod rest;

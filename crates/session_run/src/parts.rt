@@ -1,6 +1,6 @@
 //! The part of each client on each board.
 
-ghost use Rattle.std.specs.Prelude.{◌≡◌, length, map, IfOk, OnOk};
+ghost use Rattle.std.specs.Prelude.{◌≡◌, [], length, map, IfOk, OnOk};
 ghost use Rattle.std.specs.List.{AllByRecursion};
 ghost use Rattle.client_threads.specs.declared.result.ClientResult.{ClientResult};
 ghost use Rattle.board_history.specs.Runs.{parts_with};
@@ -10,10 +10,11 @@ use crate::board_plans::BoardPlans;
 use crate::rest::RestOutcomes;
 use client_threads::ClientResult;
 use ipb_base::NoMemory;
-use script_plans::{ClientPart, ClientParts};
+use script_plans::{ClientPart, ClientParts, Lates};
 use std::alloc::Global;
 
-/// The parts of the clients on a board, by what became of their bodies on the next lane.
+/// The parts of the clients on a board, by what became of their bodies on the next lane. What came late is put into
+/// them when the lane is back.
 fn parts_on_next(
     alloc: Global,
     planned: BoardPlans,
@@ -21,7 +22,7 @@ fn parts_on_next(
 ) -> Result<ClientParts, NoMemory>
     requires all { HasClients (length clients.old) planned }
     requires next { AllByRecursion HasNext clients.old }
-    ensures parts { IfOk result (λ parts. parts ≡ parts_with planned (map next_of clients.old)) }
+    ensures parts { IfOk result (λ parts. parts ≡ parts_with planned (map next_of clients.old) []) }
     ensures others { OnOk result (clients.new ≡ map others_of clients.old) }
 {
     let mut parts = Vec::with_capacity(alloc, clients.len())?;
@@ -31,7 +32,12 @@ fn parts_on_next(
             unreachable!()
         };
         let outcomes = client.next();
-        parts.push(ClientPart { planned, outcomes })?;
+        let lates = Lates::from_vec(Vec::new(alloc));
+        parts.push(ClientPart {
+            planned,
+            outcomes,
+            lates,
+        })?;
     }
     Ok(ClientParts::from_vec(parts))
 }

@@ -13,12 +13,12 @@ ghost use Rattle.session_run.specs.Links.{AreLeft, CanBeReached, Keeps};
 
 use crate::finish::finish_boards;
 use crate::lanes::run_lanes;
+use crate::laws::a_fresh_link_is_left;
 use board_greeting::{Rejoined, Split, greet_boards, keep_all, split_boards};
 use board_node::BoardSpec;
 use client_threads::Gate;
 use hub_lane::Greeted;
 use ipb_base::NoMemory;
-use lane_history::records::a_lane_left_at_any_moment_executed_a_merge;
 use lossy_network::{Rack, RackFault};
 use reliable_engine::Settings;
 use script_plans::{BoardRun, ClientParts};
@@ -90,7 +90,7 @@ fn run_split<R: Rack, T: Threads + Wait + Sync, G: Gate>(
     requires few { AllByRecursion HaveFewPieces scripts.now }
     requires executable { AllByRecursion AreExecutable scripts.now }
     requires limits { AreWithinLimits scripts.now }
-    requires reached { IsSplitOf R.L.telling (shown_by R.L.faults R.L.quiets R.L.gots R.L.held R.L.telling) settings
+    requires reached { IsSplitOf (shown_by R.L.faults R.L.quiets R.L.gots R.L.held R.L.telling) settings
         specs.now split }
     requires room { HasRoom (length (R.kept rack.old)) (R.made rack.old) (length specs.now) }
     ensures ran { IfOk result (λ runs. Keeps R.L.faults R.L.quiets R.L.gots R.L.held R.L.telling (R.kept rack.old)
@@ -129,7 +129,7 @@ pub fn run_greeted<R: Rack, T: Threads + Wait + Sync, G: Gate>(
     requires limits { AreWithinLimits scripts.now }
     requires all { length boards.items ≡ length specs.now }
     requires memory { AllByRecursion HasMemory boards.items }
-    requires reached { AreReached R.L.telling (shown_by R.L.faults R.L.quiets R.L.gots R.L.held R.L.telling) settings
+    requires reached { AreReached (shown_by R.L.faults R.L.quiets R.L.gots R.L.held R.L.telling) settings
         specs.now boards.items }
     requires room { HasRoom (length (R.kept rack.old)) (R.made rack.old) (length specs.now) }
     ensures ran { IfOk result (λ runs. Keeps R.L.faults R.L.quiets R.L.gots R.L.held R.L.telling (R.kept rack.old)
@@ -139,7 +139,7 @@ pub fn run_greeted<R: Rack, T: Threads + Wait + Sync, G: Gate>(
     ensures made { R.made rack.new ≡ R.made rack.old }
     ensures faults { R.faults rack.new ≡ R.faults rack.old }
 {
-    a_lane_left_at_any_moment_executed_a_merge();
+    a_fresh_link_is_left();
     match split_boards(alloc, boards) {
         Ok(split) => run_split(rt, alloc, settings, split, specs, scripts, rack, gate),
         Err(boards) => {
@@ -170,7 +170,8 @@ pub fn run_session<R: Rack, T: Threads + Wait + Sync, G: Gate>(
     // What the runs show of each board is what its link bears out.
     ensures ran { IfOk result (λ runs. Keeps R.L.faults R.L.quiets R.L.gots R.L.held R.L.telling (R.kept rack.old)
         (R.kept rack.new) (AreRunsOver settings 0 specs.now scripts.now runs.items)) }
-    // Whatever came of it, the links are given back board by board, and each board executed what the scripts ask.
+    // Whatever came of it, the links are given back board by board, and what was sent to each board is what the scripts
+    // ask of it.
     ensures left { Keeps R.L.faults R.L.quiets R.L.gots R.L.held R.L.telling (R.kept rack.old) (R.kept rack.new)
         (AreLeft 0 specs.now scripts.now) }
     ensures made { Keeps R.L.faults R.L.quiets R.L.gots R.L.held R.L.telling (R.kept rack.old) (R.kept rack.new)
@@ -181,7 +182,7 @@ pub fn run_session<R: Rack, T: Threads + Wait + Sync, G: Gate>(
     ensures later { R.faults rack.old ≤ R.faults rack.new }
     ensures unfaulted { result ≢ Err RunFault.Rack → R.faults rack.new ≡ R.faults rack.old }
 {
-    a_lane_left_at_any_moment_executed_a_merge();
+    a_fresh_link_is_left();
     let _rounds = settings.rounds();
     let boards = greet_boards(alloc, settings, specs, rack)?;
     Ok(run_greeted(rt, alloc, settings, boards, specs, scripts, rack, gate)?)

@@ -2,7 +2,7 @@ use Rattle.std.proofs.Common.{◌∙◌, ◌++◌, ◌+◌, ℕ, ap, map, sym}
 use Rattle.std.proofs.lemmas.List.{length-map}
 use Rattle.hub_lane.specs.Greeting.{link_of}
 use Rattle.board_greeting.specs.Boards.{shown_by}
-use Rattle.board_greeting.proofs.Boards.{untouched_all}
+use Rattle.board_greeting.proofs.Boards.{fresh_links}
 use Rattle.board_greeting.proofs.greeting.greet_boards.Goals as goal
 
 pub returns-in-Err-clause-left : goal.returns-in-Err-clause-left
@@ -13,7 +13,7 @@ returns-in-Err-clause-left g c =
       links,
       c.keep_all.ensures.kept ∙ ap (λ kept. kept ++ links) c.greet_into.ensures.kept,
       (
-        untouched_all g.R.L.Link.telling shows c.args.settings c.args.specs.now boards c.greet_into.ensures.reached,
+        fresh_links shows c.args.settings c.args.specs.now boards c.greet_into.ensures.reached,
         c.keep_all.ensures.made ∙ (c.greet_into.ensures.made ∙ ap (λ (n : ℕ). g.R.Rack.made c.args.rack.now + n)
             (sym (length-map links shows ∙ length-map boards (λ board. link_of board)))),
       ),

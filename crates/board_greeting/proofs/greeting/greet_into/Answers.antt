@@ -15,8 +15,8 @@ returns-then-is_last-clause-reached g c =
     ∙ (slice_get-get_or c.args.specs.now c.loop-spec.spec-index c.spec-item.result (let test = c.loop-spec-test.true in
     let end = c.loop-spec.auto.spec-index-end in omega (arith, test, end))
     ∙ ap (λ (x : BoardSpec). Some x) (sym c.spec-item.is)) in
-    subst (AreReached g.R.L.Link.telling shows c.args.settings c.args.specs.now) (sym c.push_reserved.ensures.items)
-    (reached_more g.R.L.Link.telling shows c.args.settings c.args.specs.now c.loop-spec.boards.items c.spec-item.result
+    subst (AreReached shows c.args.settings c.args.specs.now) (sym c.push_reserved.ensures.items)
+    (reached_more shows c.args.settings c.args.specs.now c.loop-spec.boards.items c.spec-item.result
     c.in_ok-board.board there c.loop-spec.invariant.reached c.in_ok-board.ensures.reached)
 
 pub loop-spec-preserved : goal.loop-spec-preserved
@@ -36,8 +36,8 @@ loop-spec-preserved g c =
     let made = c.in_ok-board.ensures.made in
     record {
       many = longer ∙ ap (λ (n : ℕ). n + 1) many;
-      reached = subst (AreReached g.R.L.Link.telling shows c.args.settings c.args.specs.now) (sym pushed)
-          (reached_more g.R.L.Link.telling shows c.args.settings c.args.specs.now boards c.spec-item.result
+      reached = subst (AreReached shows c.args.settings c.args.specs.now) (sym pushed)
+          (reached_more shows c.args.settings c.args.specs.now boards c.spec-item.result
           board there c.loop-spec.invariant.reached c.in_ok-board.ensures.reached);
       memory = subst (AllByRecursion HasMemory) (sym pushed)
           (AllByRecursion-append HasMemory boards (board ∷ []) c.loop-spec.invariant.memory

@@ -8,7 +8,7 @@ use Rattle.board_greeting.proofs.greeting.greet_into.Given as goal
 abbrev pub invariant-loop-spec : goal.invariant-loop-spec
 invariant-loop-spec g l = record {
   many : length l.boards.items ≡ l.spec-index;
-  reached : AreReached g.R.L.Link.telling (shown_by g.R.L.Link.faults g.R.L.Link.quiets g.R.L.Link.gots
+  reached : AreReached (shown_by g.R.L.Link.faults g.R.L.Link.quiets g.R.L.Link.gots
       g.R.L.Link.held g.R.L.Link.telling) l.settings l.specs l.boards.items;
   memory : AllByRecursion HasMemory l.boards.items;
   faults : g.R.Rack.faults l.rack ≡ g.R.Rack.faults l.initial.rack;

@@ -21,15 +21,15 @@ use Rattle.client_history.proofs.connections.a_finished_lane_tells_the_numbers_o
 
 pub returns : goal.returns
 returns c =
-    λ settings status hub items outcomes give_ups down spent telling faults quiets spec payload connections is of.
+    λ settings status hub items outcomes lates give_ups down spent telling faults quiets spec payload connections is of.
     let run = run_of spec (record { told = Live payload; connections = connections }) in
     let legal = is.kept.legal in
     let bodies = map bodies_of connections in
     let dispatches = map dispatches_of connections in
     let shown = record_shown connections items of in
     let finished = c.a_clients_record_is_finished.ensures bodies dispatches items outcomes of legal in
-    let whole = c.a_finished_lane_is_whole.ensures settings status hub items outcomes give_ups down spent telling faults
-    quiets finished is in
+    let whole = c.a_finished_lane_is_whole.ensures settings status hub items outcomes lates give_ups down spent telling
+    faults quiets finished is in
     let flat = flat_again connections in
     let replied = ap (count_by is_replied) (sym flat)
     ∙ c.a_record_counts_what_became_of_bodies.ensures is_replied bodies dispatches items outcomes of legal

@@ -1,5 +1,6 @@
-use Rattle.std.proofs.Common.{◌≡◌, ℕ, ◌++◌, List, map, Some, sym, ap, ◌∙◌, subst}
-use Rattle.std.specs.List.{slice_get}
+use Rattle.std.proofs.Common.{◌≡◌, ℕ, ◌++◌, List, length, map, Some, refl, sym, ap, ◌∙◌, subst}
+use Rattle.std.specs.List.{Contains, slice_get}
+use Rattle.std.proofs.lemmas.Option.{slice_get_read}
 use Rattle.std.proofs.lemmas.List.{map-append}
 use Rattle.ipb_base.specs.Lists.{IsPrefix}
 use Rattle.board_bus.specs.Bodies.{replay}
@@ -35,16 +36,31 @@ right_reply w fates more board k (TimedOut place rounds) all same true' told = t
 right_reply w fates more board k Unsent all same true' told = tt
 right_reply w fates more board k (LinkLost place) all same true' told = tt
 
+-- and so is a late answer
+right_late : (w : World) (lates more : List (ℕ × List ℕ)) (board : Board) (place : ℕ) (words : List ℕ)
+    → w.lates ≡ lates ++ more → w.board ≡ board → IsTrueHistory w → Contains lates (place, words)
+    → at_place (replay board.opening (executed board)).replies place ≡ Some words
+right_late w lates more board place words all same true' told =
+    let found : slice_get lates told.0 ≡ Some (place, words) =
+    slice_get_read lates (length lates) told.0 (place, words) refl told.1 (sym told.2) in
+    let there : slice_get w.lates told.0 ≡ Some (place, words) =
+    ap (λ (ls : List (ℕ × List ℕ)). slice_get ls told.0) all ∙ get_front lates more told.0 (place, words) found in
+    subst (λ (b : Board). at_place (replay b.opening (executed b)).replies place ≡ Some words) same
+    (true'.late place words (record { number = told.0; there = there }))
+
 pub returns : goal.returns
-returns c = λ window rounds board air fates hub told claims outcomes begins reached offered told_by.
+returns c = λ window rounds board air out hub told claims outcomes lates begins reached offered told_by late_by.
     let truth = c.a_state_of_a_run_tells_the_truth.ensures in
+    let history = truth.history window rounds board air out hub told begins reached in
+    let whole = caught_up (world_of_both hub told out) in
     let bodies : bodies_offered claims outcomes ≡ bodies_of hub.sent ++ bodies_of hub.queue =
     ap (map (λ (o : Offered). o.body)) (sym offered) ∙ map-append (λ (o : Offered). o.body) hub.sent hub.queue in
     record {
       front = subst (IsPrefix (executed told.board)) (sym bodies)
           (front_more (executed told.board) (bodies_of hub.sent) (bodies_of hub.queue)
-          (truth.executed _ fates hub told reached));
-      replies = λ k o there. right_reply (caught_up (world_of_both hub told fates)) fates hub.fates told.board k o
-          (truth.all_fates hub told fates) (truth.same_board hub told fates)
-          (truth.history window rounds board air fates hub told begins reached) (told_by k o there);
+          (truth.executed _ out hub told reached));
+      replies = λ k o there. right_reply whole out.fates hub.fates told.board k o (truth.all_fates hub told out)
+          (truth.same_board hub told out) history (told_by k o there);
+      late = λ place words there. right_late whole out.lates hub.lates told.board place words
+          (truth.all_lates hub told out) (truth.same_board hub told out) history (late_by place words there);
     }

@@ -1,25 +1,25 @@
-use Rattle.std.proofs.Common.{map}
+use Rattle.std.proofs.Common.{[], append-nil}
 use Rattle.world_model.specs.Board.{Board, executed}
 use Rattle.lane_record.specs.Claims.{claims}
-use Rattle.script_plans.specs.Plan.{ClientBodies, plans_on}
-use Rattle.script_plans.specs.declared.greeting.Greeting.TheVariants.{Live}
+use Rattle.lane_record.specs.Offers.{offers_from}
 use Rattle.board_history.specs.Runs.{opening_of}
-use Rattle.lane_history.specs.Lanes.{IsTrueOf}
-use Rattle.lane_history.specs.Runs.{ExecutedSome}
-use Rattle.lane_history.proofs.Merges.{merge_at}
+use Rattle.lane_history.specs.Lanes.{IsTrueOf, bodies_offered}
+use Rattle.lane_history.specs.Links.{board_there}
+use Rattle.lane_history.specs.Runs.{IsMergeOfAsked}
 use Rattle.lane_history.proofs.Shown.{some_then, untouched_some}
 use Rattle.lane_history.proofs.records.a_lane_left_at_any_moment_executed_a_merge.Goals as goal
 
 pub returns-clause-lane : goal.returns-clause-lane
-returns-clause-lane c = λ settings spec board scripts link payload items became given_up packets planned lane.
-    some_then (λ (b : Board). IsTrueOf (opening_of spec.link) (claims items) became (executed b))
-    (λ (b : Board). ExecutedSome spec board scripts (executed b)) link.board
-    (λ b truth. record {
-      payload = payload;
-      told = packets;
-      merge = merge_at (map (λ (p : ClientBodies). p.bodies) (plans_on board (Live payload) scripts)) items became
-          (executed b) lane.kept.legal planned truth.front;
-    }) lane.told
+returns-clause-lane c = λ settings spec board scripts link payload items became lates given_up packets planned
+    lane.
+    let law = c.a_lane_sends_a_merge_at_any_moment.ensures in
+    let all : IsMergeOfAsked spec board scripts (bodies_offered (claims items) became) =
+    law.sent spec board scripts payload items became (offers_from 0 (claims items) became) [] packets planned
+    lane.kept.legal (append-nil (offers_from 0 (claims items) became)) in
+    some_then (λ (b : Board). IsTrueOf (opening_of spec.link) (claims items) became lates (executed b))
+    (λ (b : Board). IsMergeOfAsked spec board scripts (executed b)) (board_there link.telling)
+    (λ b truth. law.first spec board scripts (executed b) (bodies_offered (claims items) became) truth.front all)
+    lane.told
 
 pub returns-clause-untouched : goal.returns-clause-untouched
 returns-clause-untouched c = untouched_some

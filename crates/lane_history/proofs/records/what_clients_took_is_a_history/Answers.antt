@@ -5,4 +5,5 @@ pub returns-clause-history : goal.returns-clause-history
 returns-clause-history c = is_history
 
 pub returns-clause-executed : goal.returns-clause-executed
-returns-clause-executed c = done_once
+returns-clause-executed c = λ bodies outcomes items became lates shown opening done is legal of_lane true'.
+    done_once bodies outcomes items became lates opening done is legal true' shown of_lane

@@ -3,8 +3,8 @@ use Rattle.board_history.proofs.BusResults.{pieces_fit}
 use Rattle.board_history.proofs.BusLines.{CanShow, ask_allowed, session_holds}
 use Rattle.board_history.proofs.Readiness.{all_verbs_kept}
 use Rattle.transcript.specs.Lines.{line_of}
-use Rattle.lane_history.specs.Runs.{IsUngarbledLine, IsUngarbledWhereTold}
-use Rattle.lane_history.proofs.Lines.{IsNotGarbled, bus_is_ungarbled, told_shows_at, ungarbled_allowed}
+use Rattle.lane_history.specs.Runs.{IsUngarbledLine, IsUngarbledResult, IsUngarbledWhereTold}
+use Rattle.lane_history.proofs.Lines.{bus_is_ungarbled, told_shows_at, ungarbled_allowed}
 use Rattle.lane_history.proofs.ToldLines.{as_many, where_told}
 use Rattle.lane_history.proofs.runs.no_line_is_garbled.Goals as goal
 
@@ -16,12 +16,12 @@ returns c = λ settings specs scripts runs links is own made words can.
     (as_many settings 0 specs scripts runs links is) own ask.op.board run there
     (λ link board also tells.
     let zeroth : 0 + ask.op.board ≡ ask.op.board = omega arith in
-    ask_allowed IsNotGarbled bus_is_ungarbled
-    (λ part one pieces told asked. pieces_fit IsNotGarbled bus_is_ungarbled c.each_request_has_one_answer.ensures
+    ask_allowed IsUngarbledResult bus_is_ungarbled
+    (λ part one pieces told asked. pieces_fit IsUngarbledResult bus_is_ungarbled c.each_request_has_one_answer.ensures
     c.each_answer_is_that_of_its_request.ensures c.one_list_for_words.ensures.requests part one pieces told asked.each)
     scripts run client steps before later ask.op ask.denied
-    (subst (λ (b : ℕ). CanShow IsNotGarbled b scripts run) zeroth
-    (told_shows_at IsNotGarbled c.a_reply_answers_its_body.ensures.requests c.a_reply_answers_its_body.ensures.any
+    (subst (λ (b : ℕ). CanShow IsUngarbledResult b scripts run) zeroth
+    (told_shows_at IsUngarbledResult c.a_reply_answers_its_body.ensures.requests c.a_reply_answers_its_body.ensures.any
     c.words_stay_words.ensures.after c.words_stay_words.ensures.after_all c.joining_is_a_function.ensures.none
     c.joining_is_a_function.ensures.joined c.bodies_stand_dispatch_by_dispatch.ensures.bodies
     c.packed_bodies_spell_requests.ensures c.operations_of_words_are_packed.ensures settings 0 specs scripts runs links

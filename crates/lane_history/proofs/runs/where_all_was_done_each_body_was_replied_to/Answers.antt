@@ -1,4 +1,4 @@
-use Rattle.std.proofs.Common.{◌≡◌, ℕ, ◌+◌, Some, subst, arith}
+use Rattle.std.proofs.Common.{◌≡◌, ◌+◌, Some, subst, arith}
 use Rattle.std.specs.List.{slice_get}
 use Rattle.transcript.specs.Lines.{lines_from}
 use Rattle.lane_history.proofs.GoodLines.{all_are_good, all_runs}

@@ -2,13 +2,11 @@ use Rattle.std.proofs.Common.{◌≡◌, ◌∙◌, ◌++◌, ◌+◌, [], ◌�
 use Rattle.std.proofs.Common.{Some, slice_index_or}
 use Rattle.board_node.specs.declared.spec.BoardSpec.{BoardSpec}
 use Rattle.board_greeting.specs.Boards.{shown_by}
-use Rattle.lane_history.specs.Links.{LinkReport}
-use Rattle.lane_history.specs.Runs.{AreRunsOver}
 use Rattle.session_run.specs.declared.session.RunFault.TheVariants.{NoMemory}
 use Rattle.session_run.specs.Links.{AreLeft, CanBeReached}
 use Rattle.command_terms.proofs.Leaving.{no_memory_is_no_rack}
 use Rattle.record_command.proofs.Leaving.{record_failed, record_written}
-use Rattle.record_command.proofs.Tapped.{at_first, first_is_told, one_is_one, records_of, ran_for, shows_traffic}
+use Rattle.record_command.proofs.Tapped.{at_first, one_board, one_is_one, ran_for, records_of}
 use Rattle.record_command.proofs.record.recorded.Goals as goal
 
 pub returns-in_err-room-clause-leaves : goal.returns-in_err-room-clause-leaves
@@ -64,45 +62,22 @@ returns-clause-leaves g c =
     let steps = c.args.steps.now in
     let board = c.index-boards-0.result in
     let there = subst (λ (boards : List BoardSpec). board ≡ slice_index_or boards 0 board) boards c.index-boards-0.is in
-    let first = first_is_told session.boards board c.first_of-first.result c.requires.one there c.first_of-first.ensures in
+    let laws = c.a_capture_of_a_lane_proves_what_was_executed.ensures in
+    let left = subst (λ (specs : List BoardSpec). AreLeft 0 specs steps (shows link ∷ [])) boards
+    (subst (λ link. AreLeft 0 c.as_slice-boards.result.now steps (shows link ∷ [])) (sym c.into_parts-link.ensures.link)
+    c.run_tapped-tap.ensures.left) in
     let made = g.R.Rack.made c.args.rack.now in
     let makes = g.R.Rack.made c.keep.new.self in
     let kept = c.keep.ensures.made in
     let one = c.in_ok-greeted.ensures.made in (
       link ∷ [],
       c.keep.ensures.kept ∙ ap (λ (l : List _). l ++ link ∷ []) c.greet_tapped.ensures.kept,
-      record_written session steps made makes c.in_ok-written.field-0 (shows link ∷ [])
-          (subst (λ (specs : List BoardSpec). AreLeft 0 specs steps (shows link ∷ [])) boards
-          (subst (λ link. AreLeft 0 c.as_slice-boards.result.now steps (shows link ∷ [])) (sym c.into_parts-link.ensures.link)
-          c.run_tapped-tap.ensures.left))
-          (omega (arith, kept, one))
-          (records_of session steps c.run_tapped-tap.result.1 c.into_parts-link.result.1 c.in_ok-written.field-0
-          (shows link ∷ [])
+      record_written session steps made makes c.in_ok-written.field-0 (shows link ∷ []) left (omega (arith, kept, one))
+          (records_of laws.sent laws.executed laws.proved c.a_lane_sends_a_merge_at_any_moment.ensures.first session
+          steps board c.run_tapped-tap.result.1 c.into_parts-link.result.1 c.in_ok-written.field-0 (shows link)
+          (one_board session.boards board c.requires.one there)
           (ran_for session steps c.as_slice-boards.result.now shows _ link c.run_tapped-tap.result.1 boards
-          c.into_parts-link.ensures.link c.run_tapped-tap.ensures.ran)
-          (first ∙ sym (ap (λ capture. Some capture.first) c.into_parts-link.ensures.capture))
-          c.in_ok-written.ensures),
+          c.into_parts-link.ensures.link c.run_tapped-tap.ensures.ran) left
+          (c.first_of-first.ensures ∙ sym (ap (λ capture. Some capture.first) c.into_parts-link.ensures.capture))
+          c.into_parts-link.ensures.caught c.in_ok-written.ensures),
     )
-
-pub returns-clause-traffic : goal.returns-clause-traffic
-returns-clause-traffic g c =
-    let it = g.R.L.Link in
-    let shows = shown_by it.faults it.quiets it.gots it.held it.telling in
-    let link = c.into_parts-link.result.0 in
-    let boards = c.as_slice-boards.ensures in
-    let session = c.args.session.now in
-    let steps = c.args.steps.now in
-    let board = c.index-boards-0.result in
-    let there = subst (λ (boards : List BoardSpec). board ≡ slice_index_or boards 0 board) boards c.index-boards-0.is in
-    let first = first_is_told session.boards board c.first_of-first.result c.requires.one there c.first_of-first.ensures in
-    record {
-      link = link;
-      kept = c.keep.ensures.kept ∙ ap (λ (l : List _). l ++ link ∷ []) c.greet_tapped.ensures.kept;
-      shows = shows_traffic session.boards steps (it.telling link) (shows link) c.run_tapped-tap.result.1
-          c.into_parts-link.result.1 c.in_ok-written.field-0 refl
-          (subst (λ (specs : List BoardSpec). AreLeft 0 specs steps (shows link ∷ [])) boards
-          (subst (λ link. AreLeft 0 c.as_slice-boards.result.now steps (shows link ∷ [])) (sym c.into_parts-link.ensures.link)
-          c.run_tapped-tap.ensures.left))
-          (first ∙ sym (ap (λ capture. Some capture.first) c.into_parts-link.ensures.capture))
-          c.in_ok-written.ensures c.into_parts-link.ensures.caught;
-    }

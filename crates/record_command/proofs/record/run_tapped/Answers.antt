@@ -1,7 +1,6 @@
 use Rattle.std.proofs.Common.{◌∙◌, ◌++◌, ◌∷◌, List, [], ap, subst, sym}
 use Rattle.hub_lane.specs.declared.greeting.Greeted.{Greeted}
-use Rattle.board_greeting.specs.Boards.{AreReached, shown_by}
-use Rattle.lane_history.specs.Links.{IsBoardOf, IsUntouched}
+use Rattle.board_greeting.specs.Boards.{AreReached, IsFreshLink, shown_by}
 use Rattle.lane_history.specs.Runs.{AreRunsOver}
 use Rattle.link_tap.specs.Traffic.{Tapped}
 use Rattle.record_command.specs.Taps.{tapped}
@@ -12,19 +11,19 @@ pub returns-then-is_out_of_memory-clause-left : goal.returns-then-is_out_of_memo
 returns-then-is_out_of_memory-clause-left g c =
     let link = g.L.Link in
     let shows = shown_by link.faults link.quiets link.gots link.held link.telling in
-    left_alone c.a_lane_left_at_any_moment_executed_a_merge.ensures.untouched c.args.specs.now c.args.steps.now
+    left_alone c.a_fresh_link_is_left.ensures c.args.settings c.args.specs.now c.args.steps.now
     (shows c.into_link.result.link) c.requires.one
-    (λ spec is. subst (λ (tap : Tapped _). IsBoardOf spec.link (shows tap.link).board × IsUntouched (shows tap.link))
-    (sym c.into_link.ensures) ((c.requires.reached spec is).board', (c.requires.reached spec is).untouched))
+    (λ spec is. subst (λ (tap : Tapped _). IsFreshLink c.args.settings spec (shows tap.link)) (sym c.into_link.ensures)
+    (c.requires.reached spec is).fresh)
 
 pub run_greeted-runs-requires-clause-reached : goal.run_greeted-runs-requires-clause-reached
 run_greeted-runs-requires-clause-reached g c κs within =
     let link = g.L.Link in
     let tells = tapped link.telling in
     let shows = shown_by (tapped link.faults) (tapped link.quiets) (tapped link.gots) (tapped link.held) tells in
-    subst (AreReached tells shows c.args.settings c.args.specs.now)
+    subst (AreReached shows c.args.settings c.args.specs.now)
     (sym (c.push_reserved.ensures.items ∙ ap (λ (l : List (Greeted _)). l ++ c.args.greeted ∷ []) c.requires.empty))
-    (reached_alone tells shows c.args.settings c.args.specs.now c.args.greeted c.requires.one c.requires.reached)
+    (reached_alone shows c.args.settings c.args.specs.now c.args.greeted c.requires.one c.requires.reached)
 
 pub returns-clause-ran : goal.returns-clause-ran
 returns-clause-ran g c =

@@ -9,6 +9,7 @@ use Rattle.server_summary.specs.Frames.{IsAnsweredRightly, OfEachWithCode}
 use Rattle.server_summary.proofs.Asked.{all_asked}
 use Rattle.server_summary.proofs.EachBoard.{all_rightly, board_at, stands_as, submitted}
 use Rattle.server_summary.proofs.laws.code_0_answers_what_was_executed.Goals as goal
+use Rattle.lane_history.specs.Links.{board_there}
 
 pub returns : goal.returns
 returns c = λ settings specs links came back connections lines is position spec link at there.
@@ -19,7 +20,8 @@ returns c = λ settings specs links came back connections lines is position spec
     some_then
     (λ (board : Board). OfEach (IsRightlyReplied (opening_of spec.link) (executed board)) one.served.connections)
     (λ (board : Board). OfEachWithCode replied_code position states
-    (IsAnsweredRightly (opening_of spec.link) (executed board) states position) is.conversations) link.board
+    (IsAnsweredRightly (opening_of spec.link) (executed board) states position) is.conversations)
+    (board_there link.telling)
     (λ board right. all_rightly is.boards position (opening_of spec.link) (executed board) state.0 state.1
     is.conversations asked
     (subst (OfEach (IsRightlyReplied (opening_of spec.link) (executed board)))

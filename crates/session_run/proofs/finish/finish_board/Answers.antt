@@ -1,9 +1,30 @@
-use Rattle.std.proofs.Common.{subst}
+use Rattle.std.proofs.Common.{◌≡◌, subst}
+use Rattle.script_plans.specs.declared.board_run.BoardRun.{BoardRun}
+use Rattle.lane_history.specs.Links.{LinkReport}
+use Rattle.lane_history.specs.Runs.{IsRunOver, ShowsLates, ShowsScripts}
 use Rattle.board_greeting.specs.Boards.{shown_by}
 use Rattle.board_greeting.specs.Places.{IsIdleBoard}
 use Rattle.session_run.specs.Places.{IsCameOf}
-use Rattle.session_run.proofs.BoardRuns.{untouched_left}
+use Rattle.session_run.proofs.Idle.{idle_over, of_three}
 use Rattle.session_run.proofs.finish.finish_board.Goals as goal
+
+pub returns-in-Idle-clause-ran : goal.returns-in-Idle-clause-ran
+returns-in-Idle-clause-ran g c =
+    let link = g.L.Link in
+    let shows = shown_by link.faults link.quiets link.gots link.held link.telling in
+    let settings = c.args.settings in
+    let spec = c.args.spec.now in
+    let position = c.args.position in
+    let scripts = c.args.scripts.now in
+    let told = c.in-Idle.greeting in
+    let shown = shows c.in-Idle.link in
+    let came : IsIdleBoard settings spec told shown =
+    subst (IsCameOf shows settings scripts position spec) c.in-Idle.is c.requires.came in
+    of_three c.run_idle.result (ShowsScripts spec position scripts) (λ run. run.greeting ≡ told)
+    (λ (run : BoardRun). (link : LinkReport) → ShowsLates run link)
+    (λ run. IsRunOver settings spec position scripts run shown)
+    (λ run here greeted late. idle_over settings spec position scripts run shown told came here greeted (late shown))
+    c.run_idle.ensures.scripts c.run_idle.ensures.greeting c.run_idle.ensures.lates
 
 pub returns-in-Idle-clause-left : goal.returns-in-Idle-clause-left
 returns-in-Idle-clause-left g c =
@@ -12,6 +33,5 @@ returns-in-Idle-clause-left g c =
     let spec = c.args.spec.now in
     let scripts = c.args.scripts.now in
     let came : IsIdleBoard c.args.settings spec c.in-Idle.greeting (shows c.in-Idle.link) =
-    subst (IsCameOf link.telling shows c.args.settings scripts c.args.position spec) c.in-Idle.is c.requires.came in
-    untouched_left c.a_lane_left_at_any_moment_executed_a_merge.ensures.untouched spec c.args.position scripts
-    (shows c.in-Idle.link) came.board' came.untouched
+    subst (IsCameOf shows c.args.settings scripts c.args.position spec) c.in-Idle.is c.requires.came in
+    c.a_fresh_link_is_left.ensures c.args.settings spec c.args.position scripts (shows c.in-Idle.link) came.fresh

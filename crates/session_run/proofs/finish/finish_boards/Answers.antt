@@ -22,7 +22,7 @@ pub next-board-requires : goal.next-board-requires
 next-board-requires g c =
     let link = g.R.L.Link in
     let shows = shown_by link.faults link.quiets link.gots link.held link.telling in
-    some_left link.telling shows c.args.settings c.args.scripts.now c.loop-position.position c.args.specs.now
+    some_left shows c.args.settings c.args.scripts.now c.loop-position.position c.args.specs.now
     c.loop-position.boards c.loop-position.invariant.left c.loop-position-test.true
 
 pub keep-requires : goal.keep-requires
@@ -40,7 +40,7 @@ pub finish_board-link-requires-clause-came : goal.finish_board-link-requires-cla
 finish_board-link-requires-clause-came g c =
     let link = g.R.L.Link in
     let shows = shown_by link.faults link.quiets link.gots link.held link.telling in
-    (next_board link.telling shows c.args.settings c.args.scripts.now c.loop-position.position c.args.specs.now
+    (next_board shows c.args.settings c.args.scripts.now c.loop-position.position c.args.specs.now
     c.index-specs-position.result c.loop-position.boards c.next-board.new.self c.next-board.result
     c.loop-position.invariant.left c.loop-position-test.true c.index-specs-position.is c.next-board.ensures).came
 
@@ -49,7 +49,7 @@ loop-position-preserved g c =
     let link = g.R.L.Link in
     let shows = shown_by link.faults link.quiets link.gots link.held link.telling in
     let k = c.loop-position.position in
-    let next = next_board link.telling shows c.args.settings c.args.scripts.now k c.args.specs.now
+    let next = next_board shows c.args.settings c.args.scripts.now k c.args.specs.now
     c.index-specs-position.result c.loop-position.boards c.next-board.new.self c.next-board.result
     c.loop-position.invariant.left c.loop-position-test.true c.index-specs-position.is c.next-board.ensures in
     record {

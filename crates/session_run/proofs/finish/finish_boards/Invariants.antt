@@ -12,7 +12,7 @@ invariant-loop-position g l =
     record {
       so_far : RanBoards shows l.settings l.position l.specs l.scripts l.runs.items l.is_whole
           (g.R.Rack.kept l.initial.rack) (g.R.Rack.kept l.rack);
-      left : AreCameOf link.telling shows l.settings l.scripts l.position (drop l.position l.specs) l.boards;
+      left : AreCameOf shows l.settings l.scripts l.position (drop l.position l.specs) l.boards;
       made : g.R.Rack.made l.rack ≡ g.R.Rack.made l.initial.rack;
       faults : g.R.Rack.faults l.rack ≡ g.R.Rack.faults l.initial.rack;
     }

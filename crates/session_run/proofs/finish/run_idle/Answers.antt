@@ -4,10 +4,12 @@ use Rattle.std.proofs.lemmas.Result.{IfOk-weaker}
 use Rattle.std.specs.List.{AllByRecursion}
 use Rattle.std.proofs.lemmas.List.{take_all}
 use Rattle.script_plans.specs.Plan.{plans_on}
-use Rattle.lane_history.specs.Runs.{ShowsScripts}
+use Rattle.script_plans.specs.declared.board_run.BoardRun.{BoardRun}
+use Rattle.lane_history.specs.Links.{LinkReport}
+use Rattle.lane_history.specs.Runs.{ShowsLates, ShowsScripts}
 use Rattle.session_run.specs.Boards.{IsNamed}
 use Rattle.session_run.proofs.DispatchParts.{plan_in_part}
-use Rattle.session_run.proofs.Idle.{HasNothing, idle_shows}
+use Rattle.session_run.proofs.Idle.{HasNothing, idle_lates, idle_shows}
 use Rattle.session_run.proofs.finish.run_idle.Goals as goal
 
 pub returns-clause-scripts : goal.returns-clause-scripts
@@ -22,4 +24,13 @@ returns-clause-scripts c =
     ∙ ap (plans_on c.args.position c.args.greeting) (take_all c.loop-steps.steps-index scripts
     c.loop-steps-test.false)))
     (subst (AllByRecursion HasNothing) (sym here) c.loop-steps.invariant.nothing)))
+    c.named.ensures
+
+pub returns-clause-lates : goal.returns-clause-lates
+returns-clause-lates c =
+    IfOk-weaker c.named.result (IsNamed c.args.spec.now c.args.greeting (Some c.from_vec.result))
+    (λ (run : BoardRun). (link : LinkReport) → ShowsLates run link)
+    (λ run named. idle_lates run (subst (AllByRecursion HasNothing)
+    (sym (sym (same_Some c.from_vec.result run.parts named.parts') ∙ c.from_vec.ensures))
+    c.loop-steps.invariant.nothing))
     c.named.ensures

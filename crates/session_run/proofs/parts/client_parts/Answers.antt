@@ -1,4 +1,4 @@
-use Rattle.std.proofs.Common.{◌≡◌, ◌∙◌, List, ap, length, map, rules, subst, sym}
+use Rattle.std.proofs.Common.{◌≡◌, ◌∙◌, List, [], ap, length, map, rules, subst, sym}
 use Rattle.std.specs.Vec.Iter.{into_iter_items}
 use Rattle.lane_record.specs.declared.outcome.Outcome.{Outcome}
 use Rattle.board_history.specs.Runs.{parts_with}
@@ -36,7 +36,7 @@ loop-planned-preserved c =
     c.in-Some.planned (map (λ (r : ClientResult). r.lanes) c.args.results.items) old _ c.loop-planned.parts.items
     c.push.new.self.items c.in_ok-parts_on_next.field-0 c.loop-planned.invariant c.in-Some.ensures.steps.0
     (subst (λ (l : List (List (List Outcome))). c.in_ok-parts_on_next.field-0
-    ≡ parts_with c.in-Some.planned (map next_of l)) c.deref_mut.ensures.value c.in_ok-parts_on_next.ensures.parts)
+    ≡ parts_with c.in-Some.planned (map next_of l) []) c.deref_mut.ensures.value c.in_ok-parts_on_next.ensures.parts)
     c.in_ok-push.ensures.items
     (written_back c.loop-planned.clients.len old c.parts_on_next.new.clients
     (sym c.deref_mut.ensures.len ∙ ap (λ (l : List (List (List Outcome))). length l) c.deref_mut.ensures.value) others)

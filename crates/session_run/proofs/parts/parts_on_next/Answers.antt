@@ -7,7 +7,7 @@ pub loop-client-preserved : goal.loop-client-preserved
 loop-client-preserved c =
     client_done c.loop-client.client-index c.args.planned (into_iter_items c.loop-client.plans)
     (into_iter_items c.next.new.self) c.in-Some.planned c.args.clients.now c.loop-client.clients _ c.client-item.result
-    c.next-outcomes.new.self c.next-outcomes.result c.loop-client.parts.items c.push.new.self.items
-    c.loop-client.invariant c.in-Some.ensures.items c.loop-client-test.true c.client-item.is
-    (c.client-item.is ∙ c.next-outcomes.ensures)
+    c.next-outcomes.new.self c.next-outcomes.result c.from_vec-lates.result c.loop-client.parts.items
+    c.push.new.self.items c.loop-client.invariant c.in-Some.ensures.items c.loop-client-test.true c.client-item.is
+    (c.client-item.is ∙ c.next-outcomes.ensures) (c.from_vec-lates.ensures ∙ c.new.ensures.items)
     c.in_ok-push.ensures.items refl

@@ -3,8 +3,8 @@ use Rattle.std.proofs.lemmas.List.{length-map}
 use Rattle.hub_lane.specs.declared.greeting.Greeted.{Greeted}
 use Rattle.hub_lane.specs.Greeting.{link_of}
 use Rattle.board_greeting.specs.Boards.{AreReached, HasRoom, shown_by}
-use Rattle.board_greeting.proofs.Boards.{untouched_all}
-use Rattle.session_run.proofs.Sessions.{untouched_are_left}
+use Rattle.board_greeting.proofs.Boards.{fresh_links}
+use Rattle.session_run.proofs.Sessions.{fresh_are_left}
 use Rattle.session_run.proofs.session.run_greeted.Goals as goal
 
 pub run_split-requires-clause-reached : goal.run_split-requires-clause-reached
@@ -32,10 +32,9 @@ returns-in-Err-clause-left g c =
       links,
       c.keep_all.ensures.kept,
       (
-        untouched_are_left c.a_lane_left_at_any_moment_executed_a_merge.ensures.untouched 0 c.args.specs.now
-            c.args.scripts.now (map shows links)
-            (untouched_all link.telling shows c.args.settings c.args.specs.now boards
-            (subst (AreReached link.telling shows c.args.settings c.args.specs.now) (sym same) c.requires.reached)),
+        fresh_are_left c.a_fresh_link_is_left.ensures c.args.settings 0 c.args.specs.now c.args.scripts.now
+            (map shows links) (fresh_links shows c.args.settings c.args.specs.now boards
+            (subst (AreReached shows c.args.settings c.args.specs.now) (sym same) c.requires.reached)),
         length-map links shows ∙ (length-map boards (λ (b : Greeted _). link_of b)
             ∙ (ap (λ (l : List (Greeted _)). length l) same ∙ c.requires.all)),
       ),

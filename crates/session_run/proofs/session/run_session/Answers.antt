@@ -1,6 +1,6 @@
 use Rattle.std.proofs.Common.{◌∙◌, ◌+◌, ◌++◌, ap, map, sym}
 use Rattle.board_greeting.specs.Boards.{shown_by}
-use Rattle.session_run.proofs.Sessions.{untouched_all, untouched_are_left}
+use Rattle.session_run.proofs.Sessions.{fresh_are_left, untouched_all}
 use Rattle.session_run.proofs.session.run_session.Goals as goal
 
 pub returns-in_err-boards-clause-left : goal.returns-in_err-boards-clause-left
@@ -10,8 +10,8 @@ returns-in_err-boards-clause-left g c =
     let left = c.in_err-boards.ensures.left in (
       left.0,
       left.1,
-      untouched_are_left c.a_lane_left_at_any_moment_executed_a_merge.ensures.untouched 0 c.args.specs.now
-          c.args.scripts.now (map shows left.0) left.2.0,
+      fresh_are_left c.a_fresh_link_is_left.ensures c.args.settings 0 c.args.specs.now c.args.scripts.now
+          (map shows left.0) left.2.0,
     )
 
 pub returns-in_err-boards-clause-untouched : goal.returns-in_err-boards-clause-untouched
@@ -19,7 +19,7 @@ returns-in_err-boards-clause-untouched g c =
     let link = g.R.L.Link in
     let shows = shown_by link.faults link.quiets link.gots link.held link.telling in
     let left = c.in_err-boards.ensures.left in
-    λ fault. (left.0, left.1, untouched_all c.args.specs.now (map shows left.0) left.2.0)
+    λ fault. (left.0, left.1, untouched_all c.args.settings c.args.specs.now (map shows left.0) left.2.0)
 
 pub returns-clause-left : goal.returns-clause-left
 returns-clause-left g c =

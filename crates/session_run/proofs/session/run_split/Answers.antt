@@ -36,7 +36,7 @@ run_lanes-lanes-requires-clause-unused g c κs within =
     let boards = reached.boards in
     let apart = reached.apart in
     subst (AllByRecursion HasNoEntry) (sym apart.lanes')
-    (lanes_unused tells shows c.args.settings c.args.specs.now boards reached.reached)
+    (lanes_unused shows c.args.settings c.args.specs.now boards reached.reached)
 
 pub of-boards-requires : goal.of-boards-requires
 of-boards-requires g c =
@@ -75,7 +75,7 @@ finish_boards-requires-clause-came g c κs within =
     let there = items_or_none c.run_lanes-lanes.result.1 (λ there. there.items) parts
     (AllThree (IsRunOn scripts) (positions_from 0 boards) news) c.parts_or_none.ensures.all c.parts_or_none.ensures.none
     ran in
-    subst (AreCameOf tells shows c.args.settings scripts 0 c.args.specs.now)
+    subst (AreCameOf shows c.args.settings scripts 0 c.args.specs.now)
     (sym (c.of-boards.ensures ∙ ap (λ l. rejoined l news parts) apart.places'))
     (boards_came link.faults link.quiets link.gots link.held tells c.args.settings scripts c.args.specs.now boards
     news parts
