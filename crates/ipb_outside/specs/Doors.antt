@@ -1,8 +1,16 @@
--- The connections that a door lets in and takes back. A door either tells them (`Some`) or it does not (`None`); each
--- relation here keeps that as it is. Profile.
-use Rattle.std.specs.Prelude.{◌≡◌, ℕ, List, [], ◌∷◌, ◌++◌, Option, option_map, Result, MatchResult}
+-- The ports that a door listens on, and the connections that it lets in and takes back. A door either tells these
+-- (`Some`) or it does not (`None`); each relation here keeps that as it is. Profile.
+use Rattle.std.specs.Prelude.{◌≡◌, ◌⊎◌, ℕ, List, [], ◌∷◌, ◌++◌, Option, option_map, Result, MatchResult}
 use Rattle.ipb_outside.specs.Calls.{Calls}
 use Rattle.ipb_outside.specs.Memory.{MemSourceState, MemSinkState}
+
+-- One listen. At `Ok` the port is one more that is listened on, at a failure none is.
+abbrev pub Opens : {A E : Type 0} → ℕ → List ℕ → List ℕ → Result A E → Type 0
+Opens port old new result = MatchResult result (λ _. new ≡ old ++ port ∷ []) (λ _. new ≡ old)
+
+-- A server listened on this port once where it is done, and otherwise once or not at all. It listened on no other.
+abbrev pub Listens : ℕ → Type 0 → List ℕ → List ℕ → Type 0
+Listens port Done old new = (Done → new ≡ old ++ port ∷ []) × ((new ≡ old) ⊎ (new ≡ old ++ port ∷ []))
 
 -- One accept. At `Ok` the connection is the first of those that were coming; at a failure all are still to come.
 abbrev pub Accepts : {C E : Type 0} → Option (List C) → Option (List C) → Result C E → Type 0
@@ -25,5 +33,7 @@ pub record MemDoorState : Type 0 where
   pub kept : List MemConnection
   -- how many were accepted and not yet given back
   pub out : ℕ
+  -- the port that it listens on, if it does
+  pub port : Option ℕ
   -- its calls of `listen` and `accept` so far
   pub calls : Calls

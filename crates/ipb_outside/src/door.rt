@@ -2,7 +2,7 @@
 
 ghost use Rattle.std.specs.Prelude.{◌≡◌, ℕ, ◌<◌, ◌+◌, List, Option, OnOk, OnErr};
 ghost use Rattle.ipb_base.specs.Faults.{HasCause};
-ghost use Rattle.ipb_outside.specs.Doors.{Accepts, Keeps};
+ghost use Rattle.ipb_outside.specs.Doors.{Accepts, Keeps, Opens};
 
 use crate::{Failed, Sink, Source};
 
@@ -24,6 +24,9 @@ pub trait Door {
     // How many connections were accepted and not yet given back.
     ghost out: { Self → ℕ };
 
+    // The ports that it listens on, in the order in which it began to.
+    ghost ports: { Self → List ℕ };
+
     // How many faults it met, in 64 bits; the count stands still at its end.
     ghost faults: { Self → ℕ };
 
@@ -31,6 +34,7 @@ pub trait Door {
     fn listen(&mut self, port: u16) -> Result<(), Failed>
         ensures cause { HasCause (faults self.old) (faults self.new) result }
         ensures unfaulted { OnOk result (faults self.new ≡ faults self.old) }
+        ensures opened { Opens port (ports self.old) (ports self.new) result }
         ensures coming_kept { coming self.new ≡ coming self.old }
         ensures others_kept { kept self.new ≡ kept self.old }
         ensures out_kept { out self.new ≡ out self.old };
@@ -41,6 +45,7 @@ pub trait Door {
         ensures unfaulted { OnOk result (faults self.new ≡ faults self.old) }
         ensures first { Accepts (coming self.old) (coming self.new) result }
         ensures others_kept { kept self.new ≡ kept self.old }
+        ensures ports_kept { ports self.new ≡ ports self.old }
         ensures counted { OnOk result (out self.new ≡ out self.old + 1) }
         ensures not_counted { OnErr result (out self.new ≡ out self.old) };
 
@@ -49,6 +54,7 @@ pub trait Door {
         requires { 0 < out self.old }
         ensures given { Keeps (kept self.old) (kept self.new) (incoming, outgoing) }
         ensures coming_kept { coming self.new ≡ coming self.old }
+        ensures ports_kept { ports self.new ≡ ports self.old }
         ensures counted { out self.new + 1 ≡ out self.old }
         ensures faults_kept { faults self.new ≡ faults self.old };
 }

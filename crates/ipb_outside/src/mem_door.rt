@@ -1,7 +1,8 @@
-//! A door in memory whose connections are pairs in memory, and which fails at chosen calls.
+//! A door in memory whose connections are pairs in memory, which listens on one port at the most and fails at chosen
+//! calls.
 
-ghost use Rattle.std.specs.Prelude.{◌≡◌, ◌≤◌, ◌<◌, ◌+◌, ◌-◌, ◌↔◌, ◌⊎◌, ◌++◌, [], ◌∷◌, Some, IfOk, OnOk, OnErr, IsErr};
-ghost use Rattle.std.specs.Prelude.{MatchOption, length, slice_get};
+ghost use Rattle.std.specs.Prelude.{◌≡◌, ◌≤◌, ◌<◌, ◌+◌, ◌-◌, ◌↔◌, ◌⊎◌, ◌++◌, [], ◌∷◌, None, Some, IfOk, OnOk, OnErr, IsErr};
+ghost use Rattle.std.specs.Prelude.{MatchOption, IsSome, length, option_to_list, slice_get};
 ghost use Rattle.ipb_base.specs.Faults.{HasCause};
 ghost use Rattle.ipb_outside.specs.Calls.{FailsNext, after_call, after_fault};
 
@@ -17,6 +18,7 @@ pub struct MemDoor {
     waiting: Vec<(MemSource, MemSink)>,
     kept: Vec<(MemSource, MemSink)>,
     out: usize,
+    port: Option<u16>,
     calls: NumberedCalls,
 }
 
@@ -30,6 +32,7 @@ impl Model for MemDoor {
       coming = reverse d.waiting.items;
       kept = d.kept.items;
       out = d.out;
+      port = d.port;
       calls = d.calls;
     } };
 
@@ -49,6 +52,7 @@ impl MemDoor {
           coming = pairs.items;
           kept = [];
           out = 0;
+          port = None;
           calls = record { fail = fail.items; made = 0; faults = 0 };
         }) }
     {
@@ -59,6 +63,7 @@ impl MemDoor {
             waiting,
             kept,
             out: 0,
+            port: None,
             calls: NumberedCalls::new(fail),
         })
     }
@@ -82,18 +87,29 @@ impl Door for MemDoor {
 
     ghost out = { λ d. d.out };
 
+    ghost ports = { λ d. option_to_list d.port };
+
     ghost faults = { λ d. d.calls.faults };
 
-    /// `Failed` comes exactly where the number of the call is among those that fail.
-    fn listen(&mut self, _port: u16) -> Result<(), Failed>
-        ensures failed { IsErr result ↔ FailsNext self.old.calls }
-        ensures after { OnOk result (self.new ≡ record self.old { calls = after_call self.old.calls }) }
+    /// `Failed` comes exactly where the number of the call is among those that fail, or the door listens already.
+    fn listen(&mut self, port: u16) -> Result<(), Failed>
+        ensures failed { IsErr result ↔ (FailsNext self.old.calls ⊎ IsSome self.old.port) }
+        ensures after { OnOk result (self.new ≡ record self.old {
+          port = Some port;
+          calls = after_call self.old.calls;
+        }) }
         ensures after_failure { OnErr result (self.new ≡ record self.old {
           calls = after_fault (after_call self.old.calls);
         }) }
         ensures cause { HasCause self.old.calls.faults self.new.calls.faults result }
     {
-        self.calls.begin()
+        self.calls.begin()?;
+        if self.port.is_some() {
+            self.calls.fault();
+            return Err(Failed);
+        }
+        self.port = Some(port);
+        Ok(())
     }
 
     /// `Failed` comes exactly where the number of the call is among those that fail, or no pair is left to come.

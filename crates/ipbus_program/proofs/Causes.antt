@@ -147,13 +147,3 @@ module _ (words : List (String Global)) (command : Command) (laws : AreTerms (te
   pub some_status : AnswersInput (terms_of command) before now given status text → Delivers status handed old new met meets result
       → IsStatus result
   some_status answers delivers = is_status result (result_is answers delivers)
-
--- a text that was written whole, of which this is so where it is no refusal
-pub written_as : (Owed : List ℕ → Type 0) (status : ℕ) (text handed : List ℕ) → handed ≡ text
-    → (old new : Option (List ℕ)) (met meets result : ℕ) → Delivers status handed old new met meets result
-    → IsDoneStatus result → ((status ≡ refused_status → ⊥) → Owed text) → WroteOwed Owed old new
-written_as Owed status text handed same old new met meets result (inr (is, part)) done owed =
-    let small = done_small_status result done in absurd (omega (arith, is, small))
-written_as Owed status text handed same old new met meets result (inl (is, wrote)) done owed =
-    let small = done_small_status result done in
-    (text, owed (λ refused. omega (arith, is, small, refused)), subst (Wrote old new) same wrote)

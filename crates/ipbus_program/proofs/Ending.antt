@@ -2,12 +2,14 @@
 use Rattle.std.proofs.Common.{◌≡◌, ◌≢◌, ◌⊎◌, inl, inr, ℕ, ◌≤◌, List, [], Option, false}
 use Rattle.std.proofs.Common.{Ok, Err, String, Global, refl, sym, ◌∙◌, subst, arith}
 use Rattle.std.proofs.KnownBytes.{prepend_known-nil}
+use Rattle.ipb_outside.specs.Doors.{Listens}
 use Rattle.ipb_outside.specs.Told.{AppendsPart, TakesAtMost}
 use Rattle.command_words.specs.declared.command.Command.{Command}
 use Rattle.command_words.specs.Commands.{usage_text}
 use Rattle.command_terms.specs.declared.answer.Answer.{Answer}
 use Rattle.command_terms.specs.Faults.{RisesOnlyAt}
-use Rattle.command_terms.specs.Numbers.{usage_status, refused_status, read_fault_status, write_fault_status}
+use Rattle.command_terms.specs.Numbers.{IsDoneStatus, usage_status, refused_status}
+use Rattle.command_terms.specs.Numbers.{read_fault_status, write_fault_status}
 use Rattle.command_terms.specs.Numbers.{no_memory_status, rack_fault_status, door_fault_status}
 use Rattle.command_terms.specs.Outside.{GivenBack, no_pairs}
 use Rattle.command_terms.specs.Terms.{AreTerms, Terms, most_bytes}
@@ -78,6 +80,23 @@ module _ (status : ℕ) (small : status ≤ 3) (handed : List ℕ) (old new : Op
       stays_at at result before now same (λ told. omega (arith, is, small, told, large))
   delivered_stays at before now large other (inr (is, part)) same =
       stays_at at result before now same (λ told. other (sym told ∙ is))
+
+-- ---- the port of a server
+
+-- one that was done answered no refusal
+pub listened : (status result port : ℕ) (handed : List ℕ) (old new : Option (List ℕ)) (met meets : ℕ)
+    (ports ports_now : List ℕ) → Delivers status handed old new met meets result
+    → Listens port (status ≢ refused_status) ports ports_now → Listens port (IsDoneStatus result) ports ports_now
+listened status result port handed old new met meets ports ports_now (inl (is, wrote)) told =
+    (λ done. told.0 (λ refused. let small = done_small_status result done in omega (arith, is, small, refused)), told.1)
+listened status result port handed old new met meets ports ports_now (inr (is, part)) told =
+    (λ done. let small = done_small_status result done in absurd (omega (arith, is, small)), told.1)
+
+-- one that has no answer was not done
+pub listened_at_most : (Done : Type 0) (status port : ℕ) (ports ports_now : List ℕ) → 2 ≤ status
+    → Listens port Done ports ports_now → Listens port (IsDoneStatus status) ports ports_now
+listened_at_most Done status port ports ports_now large told =
+    (λ done. let small = done_small_status status done in absurd (omega (arith, large, small)), told.1)
 
 -- ---- the words are no command
 

@@ -1,10 +1,12 @@
--- Faults of running and of serving as the call's.
-use Rattle.std.proofs.Common.{◌≡◌, Result, Ok, Err, refl}
+-- Faults of running and of serving as the call's, and the port of a server.
+use Rattle.std.proofs.Common.{◌≡◌, ◌∙◌, ℕ, Result, Ok, Err, refl, sym}
 use Rattle.std.specs.Result.{IsErrAnd}
 use Rattle.session_run.specs.declared.session.RunFault.{RunFault}
 use Rattle.session_run.specs.declared.session.RunFault.TheVariants.{Rack, NoMemory}
 use Rattle.session_serve.specs.declared.report.ServeFault.{ServeFault}
 use Rattle.session_serve.specs.declared.report.ServeFault.TheVariants as serve
+use Rattle.command_words.specs.declared.command.Command.{Command}
+use Rattle.command_words.specs.declared.command.Command.TheVariants.{Serve}
 use Rattle.command_terms.specs.declared.answer.Answer.{Answer}
 use Rattle.command_terms.specs.Leaving.{IsRunFailure, IsServeFailure}
 use Rattle.ipbus_program.specs.declared.no_answer.NoAnswer.{NoAnswer}
@@ -42,3 +44,8 @@ pub serve_rack : (fault : ServeFault) → no_answer_served fault ≡ RackFault �
 serve_rack serve.Rack is = refl
 serve_rack serve.Door is = absurd cc
 serve_rack serve.NoMemory is = absurd cc
+
+-- a command names one port
+pub one_port : (command : Command) (port count other others : ℕ) → command ≡ Serve other others
+    → command ≡ Serve port count → other ≡ port
+one_port command port count other others is asked = let same = sym is ∙ asked in cc

@@ -31,7 +31,8 @@ pub record Ended (words : List (String Global)) (outside : Outside) (status : �
   -- the rack was given back each link that it made in this call
   pub counted : outside.made_now ≡ outside.made + length outside.given_back.links
   -- they are those of the first boards of a session that the command uses, board by board, and where its scripts were
-  -- run, what each board executed is a merge of bodies that they ask of it; or there are none
+  -- run, what was sent to each board, and so what it executed, is a merge of bodies that they ask of it; or there are
+  -- none
   pub used : (outside.given_back.links ≡ [])
       ⊎ UsedSome words outside.left outside.left_now outside.given_back.links
   -- each pair that came was served and went back

@@ -1,16 +1,16 @@
 //! What each command answers. A command has a case in each of these functions, and nowhere else.
 
-ghost use Rattle.std.specs.Prelude.{◌≡◌, ◌≢◌, ◌≤◌, ℕ, Err, IfOk, true};
+ghost use Rattle.std.specs.Prelude.{◌≡◌, ◌≢◌, ◌≤◌, ℕ, Err, IfOk, IsOkAnd, true};
+ghost use Rattle.ipb_outside.specs.Doors.{Listens};
 ghost use Rattle.board_greeting.specs.Links.{Keeps};
 ghost use Rattle.session_serve.specs.Pairs.{GivesBack};
 ghost use Rattle.command_words.specs.declared.command.Command.{Command as CommandValue};
-ghost use Rattle.command_words.specs.declared.command.Command.TheVariants.{Load, Record};
+ghost use Rattle.command_words.specs.declared.command.Command.TheVariants.{Load, Serve};
 ghost use Rattle.command_terms.specs.Faults.{RisesOnlyAt};
 ghost use Rattle.command_terms.specs.Leaving.{Leaves};
 ghost use Rattle.command_terms.specs.Numbers.{refused_status};
 ghost use Rattle.command_terms.specs.Terms.{AreTerms, Reads};
 ghost use Rattle.load_run.specs.Generated.{most_operations};
-ghost use Rattle.record_command.specs.Headline.{GivesBackTapped};
 ghost use Rattle.ipbus_program.specs.Commands.{terms_of};
 ghost use Rattle.ipbus_program.specs.Steps.{IsFailure, LeavesAlone};
 
@@ -112,10 +112,11 @@ pub(crate) fn answer_to<R: Rack, D: Door, T: Threads + Wait + Sync, G: Gate>(
         (R.made rack.new) result (record { links = links; came = came; back = back }))) }
     ensures alone { LeavesAlone (terms_of command.now) result rack.old rack.new door.old door.new }
     ensures none_out { D.out door.new ≡ D.out door.old }
+    ensures listens { (port count : ℕ) → command.now ≡ Serve port count
+        → Listens port (IsOkAnd result (λ answer. answer.status ≢ refused_status)) (D.ports door.old)
+        (D.ports door.new) }
     ensures serves { result ≡ Err NoAnswer.DoorFault → (terms_of command.now).lets_in ≡ true }
     ensures not_read_fault { result ≢ Err NoAnswer.ReadFault }
-    ensures traffic { command.now ≡ Record → IfOk result (λ answer. answer.status ≢ refused_status
-        → GivesBackTapped R.L.telling (R.kept rack.old) (R.kept rack.new) answer.text.items) }
     ensures rack_faults { RisesOnlyAt (Err NoAnswer.RackFault) result (R.faults rack.old) (R.faults rack.new) }
     ensures door_faults { RisesOnlyAt (Err NoAnswer.DoorFault) result (D.faults door.old) (D.faults door.new) }
 {

@@ -1,24 +1,24 @@
 //! The program's one call: words and an input in, a text and a status out.
 
-ghost use Rattle.std.specs.Prelude.{◌≡◌, ◌≢◌, ◌⊎◌, ◌≤◌, ℕ, List, length, Some, None, Err, IfOk};
+ghost use Rattle.std.specs.Prelude.{◌≡◌, ◌≢◌, ◌⊎◌, ◌≤◌, ℕ, List, length, Some, None, Err, IsOkAnd};
 ghost use Rattle.ipb_base.specs.Faults.{Rose};
+ghost use Rattle.ipb_outside.specs.Doors.{Listens};
 ghost use Rattle.ipb_outside.specs.Told.{TakesCount};
 ghost use Rattle.board_greeting.specs.Links.{Keeps};
 ghost use Rattle.session_serve.specs.Pairs.{GivesBack};
 ghost use Rattle.command_words.specs.declared.command.Command.{Command as Asked};
-ghost use Rattle.command_words.specs.declared.command.Command.TheVariants.{Load, Record};
+ghost use Rattle.command_words.specs.declared.command.Command.TheVariants.{Load, Serve};
 ghost use Rattle.load_run.specs.Generated.{most_operations};
-ghost use Rattle.record_command.specs.Headline.{GivesBackTapped};
 ghost use Rattle.command_terms.specs.Faults.{RisesOnlyAt};
-ghost use Rattle.command_terms.specs.Numbers.{IsDoneStatus};
-ghost use Rattle.command_terms.specs.Numbers.{usage_status, refused_status, read_fault_status, write_fault_status};
+ghost use Rattle.command_terms.specs.Numbers.{IsDoneStatus, usage_status, refused_status};
+ghost use Rattle.command_terms.specs.Numbers.{read_fault_status, write_fault_status};
 ghost use Rattle.command_terms.specs.Numbers.{no_memory_status, rack_fault_status, door_fault_status};
 ghost use Rattle.command_terms.specs.Terms.{most_bytes};
 ghost use Rattle.ipbus_program.specs.Commands.{terms_of};
 ghost use Rattle.ipbus_program.specs.Ended.{AreNoReader, CallsNoDoor, Ended, IsCalm, IsTextless, IsWhole, MakesNoLink};
 ghost use Rattle.ipbus_program.specs.Ended.{RefusesWith};
 ghost use Rattle.ipbus_program.specs.Outputs.{Delivers};
-ghost use Rattle.ipbus_program.specs.Owed.{AreCommand, AreNoCommand, HasInput, WroteOwed};
+ghost use Rattle.ipbus_program.specs.Owed.{AreCommand, AreNoCommand, HasInput};
 ghost use Rattle.ipbus_program.specs.Steps.{InputLeaves, LeavesAlone};
 
 use crate::answering::{answer_to, limit_of, terms_are_terms, too_long};
@@ -56,10 +56,11 @@ fn answer_input<S: Source, R: Rack, D: Door, T: Threads + Wait + Sync, G: Gate>(
     ensures input_faults { RisesOnlyAt (Err NoAnswer.ReadFault) result (S.faults input.old) (S.faults input.new) }
     ensures rack_faults { RisesOnlyAt (Err NoAnswer.RackFault) result (R.faults rack.old) (R.faults rack.new) }
     ensures door_faults { RisesOnlyAt (Err NoAnswer.DoorFault) result (D.faults door.old) (D.faults door.new) }
-    ensures traffic { command.now ≡ Record → IfOk result (λ answer. answer.status ≢ refused_status
-        → GivesBackTapped R.L.telling (R.kept rack.old) (R.kept rack.new) answer.text.items) }
     ensures alone { LeavesAlone (terms_of command.now) result rack.old rack.new door.old door.new }
     ensures none_out { D.out door.new ≡ D.out door.old }
+    ensures listens { (port count : ℕ) → command.now ≡ Serve port count
+        → Listens port (IsOkAnd result (λ answer. answer.status ≢ refused_status)) (D.ports door.old)
+        (D.ports door.new) }
 {
     terms_are_terms();
     match read_all(alloc, input, limit) {
@@ -89,10 +90,11 @@ fn answer_command<S: Source, R: Rack, D: Door, T: Threads + Wait + Sync, G: Gate
     ensures input_faults { RisesOnlyAt (Err NoAnswer.ReadFault) result (S.faults input.old) (S.faults input.new) }
     ensures rack_faults { RisesOnlyAt (Err NoAnswer.RackFault) result (R.faults rack.old) (R.faults rack.new) }
     ensures door_faults { RisesOnlyAt (Err NoAnswer.DoorFault) result (D.faults door.old) (D.faults door.new) }
-    ensures traffic { command.now ≡ Record → IfOk result (λ answer. answer.status ≢ refused_status
-        → GivesBackTapped R.L.telling (R.kept rack.old) (R.kept rack.new) answer.text.items) }
     ensures alone { LeavesAlone (terms_of command.now) result rack.old rack.new door.old door.new }
     ensures none_out { D.out door.new ≡ D.out door.old }
+    ensures listens { (port count : ℕ) → command.now ≡ Serve port count
+        → Listens port (IsOkAnd result (λ answer. answer.status ≢ refused_status)) (D.ports door.old)
+        (D.ports door.new) }
     ensures unread { (terms_of command.now).limit ≡ None → input.new ≡ input.old }
 {
     terms_are_terms();
@@ -119,14 +121,14 @@ fn deliver<O: Sink>(out: &mut O, text: &[u8], status: u8) -> u8
 /// Does what the words ask. `run` reads a session document to its end, makes a link for each of its boards by the rack,
 /// runs its scripts over these links, each client in a thread of its own that calls the gate, gives each link back and
 /// writes the transcript. `serve PORT COUNT` reads one, makes a link for each of its boards, lets so many connections
-/// in by the door, serves each in a thread of its own, gives each pair and each link back and writes a line for each
-/// connection and each board. `check TABLE` reads one and lists the registers of that table. `load COUNT` reads
-/// nothing: it runs the generated session of so many operations and writes its summary. `record` runs the scripts of a
-/// document as `run` does, on its one board, and writes the capture of its datagrams; `describe` reads the text of a
-/// capture and writes its description, and `undescribe` the other way round. `save` reads the kept registers of the boards
-/// of a document and writes their values, and `apply` writes the values that a document has first. Other words are
-/// answered by the usage line. The text of an answer is handed to the output once. The result is the status: `DONE`, `NOT_ALL_DONE`,
-/// `USAGE`, `REFUSED`, `READ_FAULT`, `WRITE_FAULT`, `NO_MEMORY`, `RACK_FAULT` or `DOOR_FAULT`.
+/// in by the door at that port, serves each in a thread of its own, gives each pair and each link back and writes a
+/// line for each connection and each board. `check TABLE` reads one and lists the registers of that table. `load COUNT`
+/// reads nothing: it runs the generated session of so many operations and writes its summary. `record` runs the scripts
+/// of a document as `run` does, on its one board, and writes the capture of its datagrams; `describe` reads the text of
+/// a capture and writes its description, and `undescribe` the other way round. `save` reads the kept registers of the
+/// boards of a document and writes their values, and `apply` writes the values that a document has first. Other words
+/// are answered by the usage line. The text of an answer is handed to the output once. The result is the status:
+/// `DONE`, `NOT_ALL_DONE`, `USAGE`, `REFUSED`, `READ_FAULT`, `WRITE_FAULT`, `NO_MEMORY`, `RACK_FAULT` or `DOOR_FAULT`.
 pub fn control<S: Source, O: Sink, R: Rack, D: Door, T: Threads + Wait + Sync, G: Gate>(
     rt: &T,
     alloc: Global,
@@ -165,10 +167,10 @@ pub fn control<S: Source, O: Sink, R: Rack, D: Door, T: Threads + Wait + Sync, G
     ensures unmade { MakesNoLink words.now result → rack.new ≡ rack.old }
     ensures shut { (CallsNoDoor words.now result → door.new ≡ door.old) × (D.out door.new ≡ D.out door.old) }
 
-    // What `record` writes shows the traffic of the link that was given back, where it tells its datagrams.
-    ensures recorded { AreCommand words.now Record → IsDoneStatus result
-        → WroteOwed (GivesBackTapped R.L.telling (R.kept rack.old) (R.kept rack.new)) (O.written out.old)
-        (O.written out.new) }
+    // Where the words ask for a server, the door listens on the port that they name: with 0 and 1 on this one more, with
+    // any other status on this one more or on none. By `shut` it listens on no more for other words.
+    ensures listens { (port count : ℕ) → AreCommand words.now (Serve port count)
+        → Listens port (IsDoneStatus result) (D.ports door.old) (D.ports door.new) }
 
     // Other words get the usage line, or the output met a fault, want of memory aside.
     ensures other_words { AreNoCommand words.now

@@ -1,8 +1,9 @@
 //! A TCP port that lets connections in.
 
-ghost use Rattle.std.specs.Prelude.{◌≡◌, ◌≤◌, None, OnOk, OnErr, IsSomeAnd};
+ghost use Rattle.std.specs.Prelude.{◌≡◌, ◌≤◌, None, IfOk, OnOk, OnErr, IsSomeAnd};
 ghost use Rattle.ipb_base.specs.Faults.{HasCause, one_more};
-ghost use Rattle.net_edges.specs.Places.{IsAt, every_address};
+ghost use Rattle.ipb_outside.specs.Doors.{Opens};
+ghost use Rattle.net_edges.specs.Places.{IsAt, every_address, ports_at};
 
 use crate::bound::{BoundListener, listener_of_port};
 use crate::counting::incremented;
@@ -13,8 +14,8 @@ use std::io::{self, ErrorKind, Stderr};
 use std::marker::Model;
 use std::net::{Net, TcpListener, TcpStream};
 
-/// A door on a TCP port of every IPv4 address of the machine. It does not tell its connections, and drops those that it
-/// takes back. Contracts see a `DoorState`.
+/// A door on one TCP port of every IPv4 address of the machine. It does not tell its connections, and drops those that
+/// it takes back. Contracts see a `DoorState`.
 #[derive(Drop)]
 pub struct TcpDoor<R: Net<Listener = TcpListener, Stream = TcpStream> + Drop> {
     rt: R,
@@ -60,6 +61,17 @@ impl<R: Net<Listener = TcpListener, Stream = TcpStream> + Drop> TcpDoor<R> {
         }
     }
 
+    // A listener of the port, of a door that does not listen yet.
+    fn first_listener(&self, port: u16) -> io::Result<BoundListener>
+        ensures place { IfOk result (IsAt every_address port) }
+        ensures first { OnOk result (self.now.place ≡ None) }
+    {
+        if self.listener.is_some() {
+            return Err(io::Error::from(ErrorKind::AlreadyExists));
+        }
+        listener_of_port(&self.rt, port)
+    }
+
     // Counts an error.
     fn count_fault(&mut self) -> Failed
         ensures counted { self.new ≡ record self.old { faults = one_more self.old.faults } }
@@ -81,17 +93,21 @@ impl<R: Net<Listener = TcpListener, Stream = TcpStream> + Drop> Door for TcpDoor
 
     ghost out = { λ door. door.out };
 
+    ghost ports = { λ door. ports_at door.place };
+
     ghost faults = { λ door. door.faults };
 
-    /// Listens on the port of the IPv4 address 0.0.0.0. `Failed` where the machine refuses that, as for a port in use.
+    /// Listens on the port of the IPv4 address 0.0.0.0. `Failed` where the machine refuses that, as for a port in use, and
+    /// where the door listens already.
     fn listen(&mut self, port: u16) -> Result<(), Failed>
         ensures listens { OnOk result (IsSomeAnd self.new.place (IsAt every_address port)) }
+        ensures opened { Opens port (ports_at self.old.place) (ports_at self.new.place) result }
         ensures cause { HasCause self.old.faults self.new.faults result }
         ensures unfaulted { OnOk result (self.new.faults ≡ self.old.faults) }
         ensures out_kept { self.new.out ≡ self.old.out }
         ensures not_opened { OnErr result (self.new.place ≡ self.old.place) }
     {
-        match listener_of_port(&self.rt, port) {
+        match self.first_listener(port) {
             Ok(listener) => {
                 self.listener = Some(listener);
                 if let Some(notes) = self.notes {

@@ -1,3 +1,4 @@
 mod Leaving
+pub mod Ports
 mod Ready
 mod Services

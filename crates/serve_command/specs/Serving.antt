@@ -67,7 +67,7 @@ use Rattle.transcript.specs.declared.line.BoardLine.{BoardLine}
 use Rattle.transcript.specs.Lines.{board_line}
 use Rattle.transcript.specs.Shown.{places_told}
 use Rattle.board_history.specs.Runs.{greeting_of, opening_of}
-use Rattle.lane_history.specs.Links.{LinkReport, IsFaithful}
+use Rattle.lane_history.specs.Links.{LinkReport, IsFaithful, board_there}
 use Rattle.lane_history.specs.Runs.{RepliesCame, TimeOutsWaited}
 use Rattle.client_history.specs.Boards.{ServedBoard, run_of}
 use Rattle.client_history.specs.Shown.{HasLostOnlyIfFailed, IsAddedUp}
@@ -90,7 +90,7 @@ use Rattle.session_input.specs.Deserved.{IsServable}
 pub record IsServedRightly (settings : Limits) (spec : BoardSpec) (served : ServedBoard) (link : LinkReport) : Type 0
   where
     -- where the link tells, the board executed no more packets than its line tells places
-    pub executed_some : IfSome link.board
+    pub executed_some : IfSome (board_there link.telling)
         (λ board. length (executed board) ≤ places_told (board_line (run_of spec served)))
     -- each place in its line was replied to, timed out or lost
     pub summed : IsAddedUp (board_line (run_of spec served))
@@ -124,7 +124,7 @@ pub record AreAnsweredRightly (settings : Limits) (boards : List BoardState) (co
   pub unsent_unplaced : OfEachWithCode unsent_code position boards (λ e. place_on position e ≡ None) conversations
   -- where the link tells, each frame that is answered by code 0 has a place where the board executed its body, and the
   -- reply frame has the words of a bus with a single thread there
-  pub replied : IfSome link.board (λ board. OfEachWithCode replied_code position boards
+  pub replied : IfSome (board_there link.telling) (λ board. OfEachWithCode replied_code position boards
       (IsAnsweredRightly (opening_of spec.link) (executed board) boards position) conversations)
   -- where the board is live and so many frames of a connection are answered by code 1 or 2, the link had a quiet
   -- receive in each of the rounds of each and one more, and where it tells it held a datagram in each of the rounds

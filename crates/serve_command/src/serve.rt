@@ -1,6 +1,7 @@
 //! What `serve` makes of the bytes of a document.
 
-ghost use Rattle.std.specs.Prelude.{◌≡◌, ◌≢◌, ◌≤◌, Err, IfOk};
+ghost use Rattle.std.specs.Prelude.{◌≡◌, ◌≢◌, ◌≤◌, Err, IfOk, IsOk, IsOkAnd};
+ghost use Rattle.ipb_outside.specs.Doors.{Listens};
 ghost use Rattle.board_greeting.specs.Links.{Keeps};
 ghost use Rattle.session_serve.specs.Pairs.{GivesBack};
 ghost use Rattle.server_summary.specs.Text as texts;
@@ -49,6 +50,8 @@ pub fn serve_document<R: Rack, D: Door, T: Threads + Wait + Sync>(
         → (rack.new ≡ rack.old) × (door.new ≡ door.old)) }
     ensures not_listened { result ≡ Err ServeFault.Rack → door.new ≡ door.old }
     ensures none_out { D.out door.new ≡ D.out door.old }
+    ensures listens { Listens port (IsOkAnd result (λ answer. answer.status ≢ refused_status)) (D.ports door.old)
+        (D.ports door.new) }
     ensures rack_faults { RisesOnlyAt (Err ServeFault.Rack) result (R.faults rack.old) (R.faults rack.new) }
     ensures door_faults { RisesOnlyAt (Err ServeFault.Door) result (D.faults door.old) (D.faults door.new) }
 {
@@ -79,6 +82,7 @@ fn served<R: Rack, D: Door, T: Threads + Wait + Sync>(
         (record { links = links; came = came; back = back }))) }
     ensures not_listened { result ≡ Err ServeFault.Rack → door.new ≡ door.old }
     ensures none_out { D.out door.new ≡ D.out door.old }
+    ensures listens { Listens port (IsOk result) (D.ports door.old) (D.ports door.new) }
     ensures rack_faults { RisesOnlyAt (Err ServeFault.Rack) result (R.faults rack.old) (R.faults rack.new) }
     ensures door_faults { RisesOnlyAt (Err ServeFault.Door) result (D.faults door.old) (D.faults door.new) }
 {

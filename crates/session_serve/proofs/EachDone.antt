@@ -6,6 +6,7 @@ use Rattle.std.specs.Prelude.{IfOk, OnOk, Result, Ok, Err}
 use Rattle.std.specs.Vec.Iter.{into_iter_items}
 use Rattle.turn_pass.specs.Pass.{Knowledge, TurnId}
 use Rattle.ipb_base.proofs.AllLemmas.{front_of_all, back_of_all}
+use Rattle.ipb_outside.specs.Doors.{Opens}
 use Rattle.board_history.proofs.Lists.{all_at}
 use Rattle.hub_lane.specs.declared.answers.BoardState.{BoardState}
 use Rattle.hub_multiplexer.specs.Ends.{HasTakenIn}
@@ -225,3 +226,9 @@ with_ok P Q (Err e) p q = tt
 pub on_ok_of : {A E : Type 0} {b : Bool} (P : Type 0) (r : Result A E) → OnOk r P → b ≡ is_err r → b ≡ false → P
 on_ok_of P (Ok x) p is no_error = p
 on_ok_of P (Err e) p is no_error = absurd cc
+
+-- the port that was opened where a listen went well
+pub opened_of : {A E : Type 0} {b : Bool} (port : ℕ) (old new : List ℕ) (r : Result A E) → Opens port old new r
+    → b ≡ is_err r → b ≡ false → new ≡ old ++ port ∷ []
+opened_of port old new (Ok x) opened is no_error = opened
+opened_of port old new (Err e) opened is no_error = absurd cc

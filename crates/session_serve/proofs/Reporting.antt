@@ -32,7 +32,7 @@ use Rattle.transcript.specs.declared.line.BoardLine.{BoardLine}
 use Rattle.transcript.specs.declared.line.BoardLine.TheVariants as line
 use Rattle.transcript.specs.Lines.{board_line}
 use Rattle.board_history.specs.Runs.{opening_of}
-use Rattle.lane_history.specs.Links.{IsBoardOf, IsUntouched, LinkReport}
+use Rattle.lane_history.specs.Links.{IsBoardOf, IsUntouched, LinkReport, board_there}
 use Rattle.lane_history.specs.Lanes.{IsSoundLane}
 use Rattle.lane_history.specs.Records.{IsRecordOf}
 use Rattle.lane_history.specs.Runs.{TellsPayload}
@@ -40,7 +40,7 @@ use Rattle.client_history.specs.Clients.{came_with}
 use Rattle.client_history.specs.Boards.{AreServedOver, IsServedOver, ServedBoard, run_of}
 use Rattle.client_history.specs.Connections.{WereServedOn, bodies_of, dispatches_of}
 use Rattle.client_history.specs.Planned.{KeepLimits}
-use Rattle.board_greeting.specs.Boards.{AreReached, AreUntouched, HasMemory, IsEndedLane, IsLaneTo}
+use Rattle.board_greeting.specs.Boards.{AreFreshLinks, AreReached, HasMemory, IsEndedLane, IsLaneTo}
 use Rattle.board_greeting.specs.Boards.{head_shown, shown_by}
 use Rattle.board_greeting.specs.Places.{lanes_in, place_of, rejoined}
 use Rattle.board_greeting.specs.declared.rejoined.Board.{Board}
@@ -63,17 +63,17 @@ RecordLaw = (connections : List (List Submission)) (head head_now : Head) (items
 
 abbrev pub ServedLaw : Type 0
 ServedLaw = (settings : Limits) (spec : BoardSpec) (link : LinkReport) (payload : ℕ)
-    (connections : List (List Submission)) (items : List Item) (outcomes : List (Option Outcome)) (give_ups : ℕ)
-    → IsBoardOf spec.link link.board → TellsPayload spec.link payload
+    (connections : List (List Submission)) (items : List Item) (outcomes : List (Option Outcome))
+    (lates : List (Option (List ℕ))) (give_ups : ℕ) → IsBoardOf spec.link (board_there link.telling) → TellsPayload spec.link payload
     → IsRecordOf (map bodies_of connections) (map dispatches_of connections) items
-    → IsSoundLane settings (opening_of spec.link) link items outcomes give_ups
+    → IsSoundLane settings (opening_of spec.link) link items outcomes lates give_ups
     → IsServedOver settings spec (record { told = greeting.Live payload; connections = connections }) link
 
 abbrev pub LineLaw : Type 0
 LineLaw = (settings : Limits) (status : BoardStatus) (hub : Hub) (items : List Item) (outcomes : List (Option Outcome))
-    (give_ups : ℕ) (down spent : Bool) (telling : Option Telling) (faults quiets : ℕ) (spec : BoardSpec) (payload : ℕ)
-    (connections : List (List Submission))
-    → IsLane settings status hub items outcomes give_ups down spent telling faults quiets
+    (lates : List (Option (List ℕ))) (give_ups : ℕ) (down spent : Bool) (telling : Option Telling) (faults quiets : ℕ)
+    (spec : BoardSpec) (payload : ℕ) (connections : List (List Submission))
+    → IsLane settings status hub items outcomes lates give_ups down spent telling faults quiets
     → IsRecordOf (map bodies_of connections) (map dispatches_of connections) items
     → board_line (run_of spec (record { told = greeting.Live payload; connections = connections }))
     ≡ line.Live spec.name (length hub.sent) (count_by is_replied outcomes) (timeouts outcomes)
@@ -147,7 +147,7 @@ module _ (L C : Type 0) (faults quiets gots held : L → ℕ) (tells : L → Opt
   -- the links are those of the boards
   pub links_to : (lane : ℕ) (specs : List BoardSpec) (boards : List (Greeted L)) (news : List (LaneState L))
       → length boards ≡ length specs → AllByRecursion HasMemory boards
-      → AreReached tells (shown_by faults quiets gots held tells) settings specs boards
+      → AreReached (shown_by faults quiets gots held tells) settings specs boards
       → SideBySide lane (lanes_in boards) news (λ n. KeepsHead tells)
       → AllByRecursion (IsSound faults quiets gots held tells) (rejoined {P = C} (map place_of boards) news [])
       → AreLinksTo specs (map (shown_by faults quiets gots held tells)
@@ -161,15 +161,15 @@ module _ (L C : Type 0) (faults quiets gots held : L → ℕ) (tells : L → Opt
   links_to lane (s ∷ specs) (Ready old ∷ boards) (n ∷ news) long memory are side sound =
       let rest = links_to (lane + 1) specs boards news (omega (arith, long)) memory.1 are.1
       (rest_of lane old (lanes_in boards) n news (λ k. KeepsHead tells) side) sound.1 in
-      let to = lane_back tells (shown_by faults quiets gots held tells old.link) settings s old n are.0 are.0.board'
+      let to = lane_back tells (shown_by faults quiets gots held tells old.link) settings s old n are.0 refl
       (first_of lane old (lanes_in boards) n news (λ k. KeepsHead tells) side) in
       (((sound.0.1 settings s to).board', rest.0), ap suc rest.1)
   links_to lane (s ∷ specs) (Silent link rounds ∷ boards) news long memory are side sound =
       let rest = links_to lane specs boards news (omega (arith, long)) memory.1 are.1 side sound.1 in
-      ((are.0.board', rest.0), ap suc rest.1)
+      ((are.0.fresh.board', rest.0), ap suc rest.1)
   links_to lane (s ∷ specs) (Down link ∷ boards) news long memory are side sound =
       let rest = links_to lane specs boards news (omega (arith, long)) memory.1 are.1 side sound.1 in
-      ((are.0.board', rest.0), ap suc rest.1)
+      ((are.0.fresh.board', rest.0), ap suc rest.1)
   links_to lane (s ∷ specs) (NoMemory link ∷ boards) news long memory are side sound = absurd memory.0
 
   module _ (record_law : RecordLaw) (served_law : ServedLaw) (line_law : LineLaw) (all : List BoardState)
@@ -178,8 +178,8 @@ module _ (L C : Type 0) (faults quiets gots held : L → ℕ) (tells : L → Opt
     live_served : (lane : ℕ) (spec : BoardSpec) (old new : LaneState L)
         → IsLaneTo settings spec (tells new.link) new → KeepsHead tells old new
         → IsServedLane tells (submitted_on all lane conversations) old new
-        → IsLane new.settings new.status new.hub new.items new.outcomes new.give_ups new.down new.spent (tells new.link)
-        (faults new.link) (quiets new.link)
+        → IsLane new.settings new.status new.hub new.items new.outcomes new.lates new.give_ups new.down new.spent
+        (tells new.link) (faults new.link) (quiets new.link)
         → IsEndedLane settings spec new (shown_by faults quiets gots held tells new.link)
         → IsServedOver settings spec (served_board all conversations (greeting.Live (payload_of old.status.mtu))
         (stands.Lane lane)) (shown_by faults quiets gots held tells new.link)
@@ -192,14 +192,14 @@ module _ (L C : Type 0) (faults quiets gots held : L → ℕ) (tells : L → Opt
         let mtu : new.status.mtu ≡ old.status.mtu = ap (λ (h : Head). h.mtu) heads in
         let payload = subst (λ n. TellsPayload spec.link (payload_of n)) mtu ended.payload in (
           served_law settings spec (shown_by faults quiets gots held tells new.link) (payload_of old.status.mtu)
-              connections new.items new.outcomes new.give_ups ended.board' payload left ended.sound,
-          line_law new.settings new.status new.hub new.items new.outcomes new.give_ups new.down new.spent
+              connections new.items new.outcomes new.lates new.give_ups ended.board' payload left ended.sound,
+          line_law new.settings new.status new.hub new.items new.outcomes new.lates new.give_ups new.down new.spent
               (tells new.link) (faults new.link) (quiets new.link) spec (payload_of old.status.mtu) connections is left,
         )
 
     pub all_served_over : (lane : ℕ) (specs : List BoardSpec) (boards : List (Greeted L)) (news : List (LaneState L))
         → length boards ≡ length specs → AllByRecursion HasMemory boards
-        → AreReached tells (shown_by faults quiets gots held tells) settings specs boards
+        → AreReached (shown_by faults quiets gots held tells) settings specs boards
         → SideBySide lane (lanes_in boards) news (λ n. KeepsHead tells)
         → SideBySide lane (lanes_in boards) news (λ n. IsServedLane tells (submitted_on all n conversations))
         → AllByRecursion (IsSound faults quiets gots held tells) (rejoined {P = C} (map place_of boards) news [])
@@ -217,7 +217,7 @@ module _ (L C : Type 0) (faults quiets gots held : L → ℕ) (tells : L → Opt
         let head = first_of lane old (lanes_in boards) n news (λ k. KeepsHead tells) heads in
         let on = first_of lane old (lanes_in boards) n news (λ k. IsServedLane tells (submitted_on all k conversations))
         served in
-        let to = lane_back tells (shown_by faults quiets gots held tells old.link) settings s old n are.0 are.0.board'
+        let to = lane_back tells (shown_by faults quiets gots held tells old.link) settings s old n are.0 refl
         head in
         let one = live_served lane s old n to head on sound.0.0 (sound.0.1 settings s to) in
         let rest = all_served_over (lane + 1) specs boards news (omega (arith, long)) memory.1 are.1
@@ -231,7 +231,7 @@ module _ (L C : Type 0) (faults quiets gots held : L → ℕ) (tells : L → Opt
             record {
               asked = all_map (submissions_to all stands.Silent) (λ (l : List Submission). l ≡ []) conversations
                   (λ c. refl);
-              board' = are.0.board';
+              board' = are.0.fresh.board';
               as_told = are.0.as_told;
             },
             rest.0,
@@ -244,7 +244,7 @@ module _ (L C : Type 0) (faults quiets gots held : L → ℕ) (tells : L → Opt
             record {
               asked = all_map (submissions_to all stands.Down) (λ (l : List Submission). l ≡ []) conversations (λ c.
                   refl);
-              board' = are.0.board';
+              board' = are.0.fresh.board';
               as_told = are.0.as_told;
             },
             rest.0,
@@ -381,20 +381,21 @@ rejoined_long L C (Down link ∷ boards) news long = ap suc (rejoined_long L C b
 rejoined_long L C (NoMemory link ∷ boards) news long = ap suc (rejoined_long L C boards news long)
 
 -- links of boards that were greeted
-pub links_reached : {L : Type 0} (tells : L → Option Telling) (shows : L → LinkReport) (settings : Limits)
-    (specs : List BoardSpec) (boards : List (Greeted L)) → AreReached tells shows settings specs boards
+pub links_reached : {L : Type 0} (shows : L → LinkReport) (settings : Limits) (specs : List BoardSpec)
+    (boards : List (Greeted L)) → AreReached shows settings specs boards
     → AreLinksTo specs (map shows (map (λ (b : Greeted L). link_of b) boards))
-links_reached tells shows settings specs [] are = tt
-links_reached tells shows settings [] (b ∷ boards) are = absurd are
-links_reached tells shows settings (s ∷ specs) (b ∷ boards) are =
-    (are.0.board', links_reached tells shows settings specs boards are.1)
+links_reached shows settings specs [] are = tt
+links_reached shows settings [] (b ∷ boards) are = absurd are
+links_reached shows settings (s ∷ specs) (b ∷ boards) are =
+    (are.0.fresh.board', links_reached shows settings specs boards are.1)
 
-pub untouched_links : (specs : List BoardSpec) (links : List LinkReport) → AreUntouched specs links
-    → AreLinksTo specs links × AllByRecursion IsUntouched links
-untouched_links specs [] are = (tt, tt)
-untouched_links [] (l ∷ links) are = absurd are
-untouched_links (s ∷ specs) (l ∷ links) are =
-    let rest = untouched_links specs links are.2 in ((are.0, rest.0), (are.1, rest.1))
+pub untouched_links : (settings : Limits) (specs : List BoardSpec) (links : List LinkReport)
+    → AreFreshLinks settings specs links → AreLinksTo specs links × AllByRecursion IsUntouched links
+untouched_links settings specs [] are = (tt, tt)
+untouched_links settings [] (l ∷ links) are = absurd are
+untouched_links settings (s ∷ specs) (l ∷ links) are =
+    let rest = untouched_links settings specs links are.1 in
+    ((are.0.board', rest.0), (are.0.untouched, rest.1))
 
 -- ---- the report
 
@@ -406,7 +407,7 @@ pub are_served : {L C : Type 0} → RecordLaw → ServedLaw → LineLaw → (fau
     → all ≡ states_from 0 (map (λ (b : Greeted L). told_by b) boards)
     → names ≡ map (λ (s : BoardSpec). s.name) specs → lines ≡ lines_in names ended
     → length boards ≡ length specs → AllByRecursion HasMemory boards
-    → AreReached tells (shown_by faults quiets gots held tells) settings specs boards
+    → AreReached (shown_by faults quiets gots held tells) settings specs boards
     → AtEach olds news (λ lane. KeepsHead tells) → AllByRecursion (IsSound faults quiets gots held tells) ended
     → AreServedAt tells all olds news came back served
     → AreServed settings specs (map (shown_by faults quiets gots held tells) (map (λ (b : Board L C). link_in b) ended))

@@ -8,7 +8,7 @@ use Rattle.script_plans.specs.declared.greeting.Greeting.{Greeting}
 use Rattle.script_plans.specs.declared.greeting.Greeting.TheVariants.{Live, Silent, Down}
 use Rattle.transcript.specs.declared.line.BoardLine.{BoardLine}
 use Rattle.transcript.specs.Lines.{board_line}
-use Rattle.lane_history.specs.Links.{LinkReport, IsBoardOf}
+use Rattle.lane_history.specs.Links.{LinkReport, IsBoardOf, board_there}
 use Rattle.client_history.specs.Boards.{ServedBoard, run_of}
 
 -- How boards stand by what their greetings came to: the lanes of the live ones are numbered in order, the first of them
@@ -38,4 +38,4 @@ lines_of (spec ∷ specs) (served ∷ boards) = board_line (run_of spec served) 
 abbrev pub AreLinksTo : List BoardSpec → List LinkReport → Type 0
 AreLinksTo specs [] = Unit {0}
 AreLinksTo [] (link ∷ links) = ⊥
-AreLinksTo (spec ∷ specs) (link ∷ links) = IsBoardOf spec.link link.board × AreLinksTo specs links
+AreLinksTo (spec ∷ specs) (link ∷ links) = IsBoardOf spec.link (board_there link.telling) × AreLinksTo specs links

@@ -41,7 +41,7 @@ lines_in (name ∷ names) (one ∷ boards) = line_in name one ∷ lines_in names
 -- Of a live board: its lane keeps what a lane keeps, and has all that the history of its board rests on.
 abbrev pub IsSound : {L C : Type 0} → (L → ℕ) → (L → ℕ) → (L → ℕ) → (L → ℕ) → (L → Option Telling) → Board L C → Type 0
 IsSound faults quiets gots held telling (Live lane came) =
-    IsLane lane.settings lane.status lane.hub lane.items lane.outcomes lane.give_ups lane.down lane.spent
+    IsLane lane.settings lane.status lane.hub lane.items lane.outcomes lane.lates lane.give_ups lane.down lane.spent
     (telling lane.link) (faults lane.link) (quiets lane.link)
     × ((settings : Limits) (spec : BoardSpec) → IsLaneTo settings spec (telling lane.link) lane
     → IsEndedLane settings spec lane (shown_by faults quiets gots held telling lane.link))

@@ -1,10 +1,9 @@
 -- What is known of boards before the door listens. What private functions promise one another; no public clause speaks
 -- of these.
-use Rattle.std.specs.Prelude.{◌≡◌, ℕ, ◌+◌, ◌≤◌, List, [], length, map, Option}
+use Rattle.std.specs.Prelude.{◌≡◌, ℕ, ◌+◌, ◌≤◌, List, [], length, map}
 use Rattle.std.specs.Vec.{vec_capacity}
 use Rattle.ipb_base.specs.Numbers.{payload_of}
 use Rattle.board_node.specs.declared.spec.BoardSpec.{BoardSpec}
-use Rattle.world_core.specs.Telling.{Telling}
 use Rattle.world_model.specs.Settings.{Limits}
 use Rattle.lane_history.specs.Links.{LinkReport}
 use Rattle.board_greeting.specs.Places.{IsSplitOf}
@@ -46,7 +45,7 @@ pub record IsPrepared (specs : List BoardSpec) (told : List Greeting) (prepared 
   pub states' : prepared.states ≡ states_from 0 told
 
 -- Boards that were greeted and taken apart, each that of its document, and what was prepared for them.
-pub record IsReady {L : Type 0} (tells : L → Option Telling) (shows : L → LinkReport) (settings : Limits)
-    (specs : List BoardSpec) (split : Split L) (prepared : Prepared) : Type 0 where
-  pub apart : IsSplitOf tells shows settings specs split
+pub record IsReady {L : Type 0} (shows : L → LinkReport) (settings : Limits) (specs : List BoardSpec) (split : Split L)
+    (prepared : Prepared) : Type 0 where
+  pub apart : IsSplitOf shows settings specs split
   pub prepared' : IsPrepared specs (map (λ board. told_by board) apart.boards) prepared

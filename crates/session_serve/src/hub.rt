@@ -1,9 +1,10 @@
 //! Connections at a hub of all lanes.
 
-ghost use Rattle.std.specs.Prelude.{◌≡◌, ◌≢◌, ◌≤◌, ◌+◌, ℕ, [], length, true, false, Err, IfOk, OnOk};
+ghost use Rattle.std.specs.Prelude.{◌≡◌, ◌≢◌, ◌≤◌, ◌+◌, ℕ, [], length, true, false, Err, IfOk, IsOk, OnOk};
 ghost use Rattle.std.specs.List.{AllByRecursion};
 ghost use Rattle.std.specs.Vec.{vec_capacity};
 ghost use Rattle.ipb_base.specs.Faults.{Rose};
+ghost use Rattle.ipb_outside.specs.Doors.{Listens};
 ghost use Rattle.hub_multiplexer.specs.Ends.{HasTakenIn};
 ghost use Rattle.hub_multiplexer.specs.Seats.{IsMasterOf};
 ghost use Rattle.client_threads.specs.Running.{AtEach};
@@ -61,6 +62,7 @@ fn give_back<L: Link + Send, D: Door>(
     ensures went { Went (D.kept door.old) (D.kept door.new) (pairs_of done.items) }
     ensures out { D.out door.new + length done.items ≡ D.out door.old }
     ensures coming { D.coming door.new ≡ D.coming door.old }
+    ensures ports { D.ports door.new ≡ D.ports door.old }
     ensures faults { D.faults door.new ≡ D.faults door.old }
 {
     for one in done {
@@ -132,6 +134,7 @@ fn serve_seats<L: Link + Send, D: Door, T: Threads + Wait + Sync>(
     ensures had_memory { IfOk result (λ served. AllByRecursion HadMemory served.items) }
     ensures taken_in { HasTakenIn 1 master.old → HasTakenIn (length room.seats.items + 1) master.new }
     ensures none_out { D.out door.new ≡ D.out door.old }
+    ensures listens { Listens port (IsOk result) (D.ports door.old) (D.ports door.new) }
     ensures fault { result ≡ Err ServeFault.Door → Rose (D.faults door.old) (D.faults door.new) }
     ensures unfaulted { result ≢ Err ServeFault.Door → D.faults door.new ≡ D.faults door.old }
     ensures later { D.faults door.old ≤ D.faults door.new }
@@ -194,6 +197,7 @@ fn serve_under_seats<L: Link + Send, D: Door, T: Threads + Wait + Sync>(
     ensures had_memory { IfOk result (λ served. AllByRecursion HadMemory served.items) }
     ensures taken_in { HasTakenIn 1 master.old → HasTakenIn (master.new.seats + 1) master.new }
     ensures none_out { D.out door.new ≡ D.out door.old }
+    ensures listens { Listens port (IsOk result) (D.ports door.old) (D.ports door.new) }
     ensures fault { result ≡ Err ServeFault.Door → Rose (D.faults door.old) (D.faults door.new) }
     ensures unfaulted { result ≢ Err ServeFault.Door → D.faults door.new ≡ D.faults door.old }
     ensures later { D.faults door.old ≤ D.faults door.new }
@@ -231,6 +235,7 @@ pub(crate) fn serve_at_hub<L: Link + Send + Drop, D: Door, T: Threads + Wait + S
     ensures all { IfOk result.1 (λ served. length served.items ≡ count) }
     ensures had_memory { IfOk result.1 (λ served. AllByRecursion HadMemory served.items) }
     ensures none_out { D.out door.new ≡ D.out door.old }
+    ensures listens { Listens port (IsOk result.1) (D.ports door.old) (D.ports door.new) }
     ensures fault { result.1 ≡ Err ServeFault.Door → Rose (D.faults door.old) (D.faults door.new) }
     ensures unfaulted { result.1 ≢ Err ServeFault.Door → D.faults door.new ≡ D.faults door.old }
     ensures later { D.faults door.old ≤ D.faults door.new }

@@ -57,6 +57,7 @@ where
     ensures later { D.faults door.old ≤ D.faults door.new }
     ensures out { D.out door.new ≡ D.out door.old + length running.new.items }
     ensures kept { D.kept door.new ≡ D.kept door.old }
+    ensures ports { D.ports door.new ≡ D.ports door.old }
 {
     for _ in 0..seats.len() {
         let Ok((src, sink)) = door.accept() else {
@@ -105,6 +106,7 @@ where
     ensures later { D.faults door.old ≤ D.faults door.new }
     ensures out { D.out door.new ≡ D.out door.old + length result.done.items }
     ensures kept { D.kept door.new ≡ D.kept door.old }
+    ensures ports { D.ports door.new ≡ D.ports door.old }
 {
     let Work {
         hub,
@@ -163,6 +165,7 @@ pub(crate) fn serve_all<L: Link + Send, D: Door, T: Threads + Wait + Sync>(
     ensures later { D.faults door.old ≤ D.faults door.new }
     ensures out { D.out door.new ≡ D.out door.old + length result.done.items }
     ensures kept { D.kept door.new ≡ D.kept door.old }
+    ensures ports { D.ports door.new ≡ D.ports door.old }
 {
     let work = Work {
         hub,
@@ -184,6 +187,7 @@ pub(crate) fn serve_all<L: Link + Send, D: Door, T: Threads + Wait + Sync>(
             ensures later { D.faults door.entry.now ≤ D.faults result.0.now }
             ensures out { D.out result.0.now ≡ D.out door.entry.now + length result.1.done.items }
             ensures kept { D.kept result.0.now ≡ D.kept door.entry.now }
+            ensures ports { D.ports result.0.now ≡ D.ports door.entry.now }
         {
             let ended = serve_in_scope(scope, rt, alloc, work, &mut *door);
             (door, ended)

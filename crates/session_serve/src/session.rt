@@ -1,8 +1,9 @@
 //! Connections of a door served at the boards of a document.
 
-ghost use Rattle.std.specs.Prelude.{◌≡◌, ◌≢◌, ◌^◌, ◌<◌, ◌≤◌, ◌+◌, length, Err, IfOk};
+ghost use Rattle.std.specs.Prelude.{◌≡◌, ◌≢◌, ◌^◌, ◌<◌, ◌≤◌, ◌+◌, length, Err, IfOk, IsOk};
 ghost use Rattle.std.specs.List.{AllByRecursion};
 ghost use Rattle.ipb_base.specs.Faults.{Rose};
+ghost use Rattle.ipb_outside.specs.Doors.{Listens};
 ghost use Rattle.lane_history.specs.Links.{IsUntouched};
 ghost use Rattle.board_greeting.specs.Boards.{AreReached, HasMemory, HasRoom, shown_by};
 ghost use Rattle.board_greeting.specs.Links.{CanBeReached, Keeps};
@@ -43,7 +44,7 @@ fn serve_split<R: Rack, D: Door, T: Threads + Wait + Sync>(
     rack: &mut R,
     door: &mut D,
 ) -> Result<ServeReport, ServeFault>
-    requires ready { IsReady R.L.telling (shown_by R.L.faults R.L.quiets R.L.gots R.L.held R.L.telling) settings
+    requires ready { IsReady (shown_by R.L.faults R.L.quiets R.L.gots R.L.held R.L.telling) settings
         specs.now split prepared }
     requires room { HasRoom (length (R.kept rack.old)) (R.made rack.old) (length specs.now) }
     ensures served { IfOk result (λ report. Keeps R.L.faults R.L.quiets R.L.gots R.L.held R.L.telling
@@ -57,6 +58,7 @@ fn serve_split<R: Rack, D: Door, T: Threads + Wait + Sync>(
     ensures pairs { GivesBack D.Incoming.left D.Incoming.faults D.Outgoing.written D.Outgoing.faults D.Outgoing.ended
         (D.coming door.old) (D.coming door.new) (D.kept door.old) (D.kept door.new) AreBack }
     ensures none_out { D.out door.new ≡ D.out door.old }
+    ensures listens { Listens port (IsOk result) (D.ports door.old) (D.ports door.new) }
     ensures made { R.made rack.new ≡ R.made rack.old }
     ensures rack_faults { R.faults rack.new ≡ R.faults rack.old }
     ensures door_fault { result ≡ Err ServeFault.Door → Rose (D.faults door.old) (D.faults door.new) }
@@ -104,7 +106,7 @@ fn serve_greeted<R: Rack, D: Door, T: Threads + Wait + Sync>(
     requires few_boards { length specs.now < 2 ^ 32 }
     requires all { length boards.items ≡ length specs.now }
     requires memory { AllByRecursion HasMemory boards.items }
-    requires reached { AreReached R.L.telling (shown_by R.L.faults R.L.quiets R.L.gots R.L.held R.L.telling) settings
+    requires reached { AreReached (shown_by R.L.faults R.L.quiets R.L.gots R.L.held R.L.telling) settings
         specs.now boards.items }
     requires room { HasRoom (length (R.kept rack.old)) (R.made rack.old) (length specs.now) }
     ensures served { IfOk result (λ report. Keeps R.L.faults R.L.quiets R.L.gots R.L.held R.L.telling
@@ -118,6 +120,7 @@ fn serve_greeted<R: Rack, D: Door, T: Threads + Wait + Sync>(
     ensures pairs { GivesBack D.Incoming.left D.Incoming.faults D.Outgoing.written D.Outgoing.faults D.Outgoing.ended
         (D.coming door.old) (D.coming door.new) (D.kept door.old) (D.kept door.new) AreBack }
     ensures none_out { D.out door.new ≡ D.out door.old }
+    ensures listens { Listens port (IsOk result) (D.ports door.old) (D.ports door.new) }
     ensures made { R.made rack.new ≡ R.made rack.old }
     ensures rack_faults { R.faults rack.new ≡ R.faults rack.old }
     ensures door_fault { result ≡ Err ServeFault.Door → Rose (D.faults door.old) (D.faults door.new) }
@@ -178,6 +181,9 @@ pub fn serve_session<R: Rack, D: Door, T: Threads + Wait + Sync>(
     ensures pairs { GivesBack D.Incoming.left D.Incoming.faults D.Outgoing.written D.Outgoing.faults D.Outgoing.ended
         (D.coming door.old) (D.coming door.new) (D.kept door.old) (D.kept door.new) AreBack }
     ensures none_out { D.out door.new ≡ D.out door.old }
+
+    // The door listened on the port once, and on no other; where there is no report, once or not at all.
+    ensures listens { Listens port (IsOk result) (D.ports door.old) (D.ports door.new) }
 
     // The faults of the rack and of the door come only from them. Where the rack failed the door was not called.
     ensures rack_fault { result ≡ Err ServeFault.Rack → Rose (R.faults rack.old) (R.faults rack.new) }

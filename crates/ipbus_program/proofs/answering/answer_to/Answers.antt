@@ -1,6 +1,8 @@
 use Rattle.std.proofs.Common.{Ok, [], map, refl, sym, subst, ◌∙◌, ap}
 use Rattle.session_run.specs.declared.session.RunFault.TheVariants as run
 use Rattle.session_serve.specs.declared.report.ServeFault.TheVariants as serve
+use Rattle.std.specs.Result.{IsOkAnd}
+use Rattle.ipb_outside.specs.Doors.{Listens}
 use Rattle.board_greeting.specs.Boards.{shown_by}
 use Rattle.command_words.specs.declared.command.Command.TheVariants.{Check, Run}
 use Rattle.command_terms.specs.Leaving.{IsRunFailure, IsServeFailure, Leaves}
@@ -11,7 +13,8 @@ use Rattle.command_terms.proofs.Pairs.{therefore, without_pairs}
 use Rattle.ipbus_program.specs.Commands.{terms_of}
 use Rattle.ipbus_program.specs.declared.no_answer.NoAnswer.TheVariants.{NoMemory, RackFault}
 use Rattle.ipbus_program.specs.Steps.{IsFailure, no_answer_of, no_answer_served}
-use Rattle.ipbus_program.proofs.Faults.{run_behind, run_no_door, run_rack, serve_behind, serve_rack}
+use Rattle.serve_command.proofs.Ports.{IsNoRefusal, failed_listens}
+use Rattle.ipbus_program.proofs.Faults.{one_port, run_behind, run_no_door, run_rack, serve_behind, serve_rack}
 use Rattle.ipbus_program.proofs.answering.answer_to.Goals as goal
 
 pub returns-in_err-run_document-in-Run-clause-leaves : goal.returns-in_err-run_document-in-Run-clause-leaves
@@ -328,3 +331,21 @@ returns-in_ok-apply_document-in-Apply-clause-leaves g c =
           (done_as IsRunFailure run.Rack IsFailure RackFault _ c.args.bytes.now made makes
           (no_pairs (map shown left.0)) answer left.2),
     )
+
+pub returns-in_err-serve_document-in-Serve-clause-listens : goal.returns-in_err-serve_document-in-Serve-clause-listens
+returns-in_err-serve_document-in-Serve-clause-listens g c port count asked =
+    let result = c.from_residual-in_err-serve_document-in-Serve.result in
+    let ports = g.D.Door.ports c.args.door.now in
+    let ports_now = g.D.Door.ports c.serve_document.new.door in
+    subst (λ p. Listens p (IsOkAnd result IsNoRefusal) ports ports_now)
+    (one_port c.args.command.now port count _ _ c.in-Serve.is asked)
+    (failed_listens _ ports ports_now result c.from_residual-in_err-serve_document-in-Serve.ensures.0
+    c.in_err-serve_document-in-Serve.ensures.listens.1)
+
+pub returns-in_ok-serve_document-in-Serve-clause-listens : goal.returns-in_ok-serve_document-in-Serve-clause-listens
+returns-in_ok-serve_document-in-Serve-clause-listens g c port count asked =
+    let answer = c.in_ok-serve_document-in-Serve.field-0 in
+    let ports = g.D.Door.ports c.args.door.now in
+    let ports_now = g.D.Door.ports c.serve_document.new.door in
+    subst (λ p. Listens p (IsNoRefusal answer) ports ports_now)
+    (one_port c.args.command.now port count _ _ c.in-Serve.is asked) c.in_ok-serve_document-in-Serve.ensures.listens

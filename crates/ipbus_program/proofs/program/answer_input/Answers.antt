@@ -1,4 +1,4 @@
-use Rattle.std.proofs.Common.{◌≡◌, ◌+◌, ◌≤◌, ◌∙◌, refl, sym, ap, length, vec_len, arith, subst, [], Ok, Err, rules}
+use Rattle.std.proofs.Common.{◌≡◌, ◌+◌, ◌≤◌, ◌∙◌, inl, refl, sym, ap, length, vec_len, arith, subst, [], Ok, Err, rules}
 use Rattle.ipb_outside.specs.Told.{TakesAtMost, TakesCount}
 use Rattle.board_greeting.specs.Boards.{shown_by}
 use Rattle.command_terms.specs.Leaving.{Leaves}
@@ -7,6 +7,7 @@ use Rattle.command_terms.proofs.Pairs.{therefore, without_pairs}
 use Rattle.ipbus_program.specs.Commands.{terms_of}
 use Rattle.ipbus_program.specs.declared.no_answer.NoAnswer.TheVariants.{NoMemory, RackFault, ReadFault}
 use Rattle.ipbus_program.specs.Steps.{InputLeaves, IsFailure}
+use Rattle.serve_command.proofs.Ports.{failed_listens}
 use Rattle.ipbus_program.proofs.Causes.{long_answered}
 use Rattle.ipbus_program.proofs.Reading.{error_untouched, failure_untouched, input_left, input_untouched}
 use Rattle.ipbus_program.proofs.program.answer_input.Goals as goal
@@ -91,3 +92,12 @@ returns-in-Err-NoMemory-clause-leaves g c =
     _ _ _ _ _ _ refl refl
     (InputLeaves (terms_of c.args.command.now) before now made made (Err NoMemory))
     (error_untouched (terms_of c.args.command.now) c.args.limit c.requires.reads before now shown _ _ NoMemory (λ failed. failed) most)
+
+pub returns-in_ok-too_long-in-Err-TooLong-clause-listens : goal.returns-in_ok-too_long-in-Err-TooLong-clause-listens
+returns-in_ok-too_long-in-Err-TooLong-clause-listens g c port count asked =
+    (λ done. absurd (done c.in_ok-too_long-in-Err-TooLong.ensures.status), inl refl)
+
+pub returns-in_err-too_long-in-Err-TooLong-clause-listens : goal.returns-in_err-too_long-in-Err-TooLong-clause-listens
+returns-in_err-too_long-in-Err-TooLong-clause-listens g c port count asked =
+    let ports = g.D.Door.ports c.args.door.now in
+    failed_listens port ports ports c.from_residual.result c.from_residual.ensures.0 (inl refl)

@@ -2,7 +2,7 @@ use Rattle.std.proofs.Common.{string_bytes, Some, Ok, Err, [], ◌∙◌, ◌≤
 use Rattle.std.proofs.Common.{append-nil, sym, subst, arith, rules, refl}
 use Rattle.ipb_outside.specs.Told.{TakesCount}
 use Rattle.board_greeting.specs.Boards.{shown_by}
-use Rattle.command_words.specs.declared.command.Command.TheVariants.{Record}
+use Rattle.command_words.specs.declared.command.Command.TheVariants.{Serve}
 use Rattle.command_terms.specs.Numbers.{no_memory_status, rack_fault_status, read_fault_status, refused_status}
 use Rattle.command_terms.specs.Numbers.{door_fault_status, usage_status}
 use Rattle.command_terms.specs.Terms.{most_bytes}
@@ -12,10 +12,11 @@ use Rattle.ipbus_program.specs.declared.no_answer.NoAnswer.TheVariants.{DoorFaul
 use Rattle.ipbus_program.specs.Ended.{Ended}
 use Rattle.ipbus_program.specs.Owed.{AreCommand, AreNoCommand, HasInput}
 use Rattle.ipbus_program.specs.Steps.{InputLeaves}
-use Rattle.ipbus_program.proofs.Causes.{status_is, written_as}
+use Rattle.ipbus_program.proofs.Causes.{status_is}
 use Rattle.ipbus_program.proofs.Deserved.{accepted_whole, deserved_refused, no_failure, one_command, reads_of}
 use Rattle.ipbus_program.proofs.Deserved.{taken_of_long, used_undeserved}
 use Rattle.ipbus_program.proofs.Ending.{delivered, delivered_stays, failed_with, no_rack_fault, outside}
+use Rattle.ipbus_program.proofs.Ending.{listened, listened_at_most}
 use Rattle.ipbus_program.proofs.Ending.{output_rises, sessionless, shut_by, small_answer, unmade_by, unread_ended}
 use Rattle.ipbus_program.proofs.Ending.{usage_ended, written_with}
 use Rattle.ipbus_program.proofs.program.control.Goals as goal
@@ -286,13 +287,6 @@ returns-in-Ok-clause-shut g c =
       c.in-Ok.ensures.none_out,
     )
 
-pub returns-in-Ok-clause-recorded : goal.returns-in-Ok-clause-recorded
-returns-in-Ok-clause-recorded g c asked done =
-    let are : AreCommand c.args.words.now c.in-Ok-Some.command = search rules in
-    let same = one_command c.args.words.now c.in-Ok-Some.command Record are asked in
-    written_as _ c.in-Ok.answer.status c.in-Ok.answer.text.items c.as_slice.result.now c.as_slice.ensures.value _ _ _ _
-    c.deliver-in-Ok.result c.deliver-in-Ok.ensures.delivers done (c.in-Ok.ensures.traffic same)
-
 pub returns-in-Ok-clause-unbroken : goal.returns-in-Ok-clause-unbroken
 returns-in-Ok-clause-unbroken g c command bytes asked has unbroken unfaulted quiet =
     let are : AreCommand c.args.words.now c.in-Ok-Some.command = search rules in
@@ -479,3 +473,49 @@ pub answer_command-requires-after_bounds : goal.answer_command-requires-after_bo
 answer_command-requires-after_bounds g c κs bounds = λ count same.
     let are : AreCommand c.args.words.now c.in-Ok-Some.command = search rules in
     c.a_load_has_a_bound.ensures (map string_bytes c.args.words.now) count (are ∙ ap Some same)
+
+pub returns-in-Ok-None-clause-listens : goal.returns-in-Ok-None-clause-listens
+returns-in-Ok-None-clause-listens g c port count asked =
+    let none : AreNoCommand c.args.words.now = search rules in
+    absurd (let never = sym none ∙ asked in cc)
+
+pub returns-in-Err-clause-listens : goal.returns-in-Err-clause-listens
+returns-in-Err-clause-listens g c port count asked =
+    let ports = g.D.Door.ports c.args.door.now in
+    listened_at_most ⊥ no_memory_status port ports ports (omega arith) (λ never. absurd never, inl refl)
+
+pub returns-in-Ok-clause-listens : goal.returns-in-Ok-clause-listens
+returns-in-Ok-clause-listens g c port count asked =
+    let are : AreCommand c.args.words.now c.in-Ok-Some.command = search rules in
+    let same = one_command c.args.words.now c.in-Ok-Some.command (Serve port count) are asked in
+    listened c.in-Ok.answer.status c.deliver-in-Ok.result port c.as_slice.result.now _ _ _ _
+    (g.D.Door.ports c.args.door.now) (g.D.Door.ports c.answer_command.new.door) c.deliver-in-Ok.ensures.delivers
+    (c.in-Ok.ensures.listens port count same)
+
+pub returns-in-Err-ReadFault-clause-listens : goal.returns-in-Err-ReadFault-clause-listens
+returns-in-Err-ReadFault-clause-listens g c port count asked =
+    let are : AreCommand c.args.words.now c.in-Ok-Some.command = search rules in
+    let same = one_command c.args.words.now c.in-Ok-Some.command (Serve port count) are asked in
+    listened_at_most _ read_fault_status port (g.D.Door.ports c.args.door.now)
+    (g.D.Door.ports c.answer_command.new.door) (omega arith) (c.in-Err-ReadFault.ensures.listens port count same)
+
+pub returns-in-Err-RackFault-clause-listens : goal.returns-in-Err-RackFault-clause-listens
+returns-in-Err-RackFault-clause-listens g c port count asked =
+    let are : AreCommand c.args.words.now c.in-Ok-Some.command = search rules in
+    let same = one_command c.args.words.now c.in-Ok-Some.command (Serve port count) are asked in
+    listened_at_most _ rack_fault_status port (g.D.Door.ports c.args.door.now)
+    (g.D.Door.ports c.answer_command.new.door) (omega arith) (c.in-Err-RackFault.ensures.listens port count same)
+
+pub returns-in-Err-DoorFault-clause-listens : goal.returns-in-Err-DoorFault-clause-listens
+returns-in-Err-DoorFault-clause-listens g c port count asked =
+    let are : AreCommand c.args.words.now c.in-Ok-Some.command = search rules in
+    let same = one_command c.args.words.now c.in-Ok-Some.command (Serve port count) are asked in
+    listened_at_most _ door_fault_status port (g.D.Door.ports c.args.door.now)
+    (g.D.Door.ports c.answer_command.new.door) (omega arith) (c.in-Err-DoorFault.ensures.listens port count same)
+
+pub returns-clause-listens : goal.returns-clause-listens
+returns-clause-listens g c port count asked =
+    let are : AreCommand c.args.words.now c.in-Ok-Some.command = search rules in
+    let same = one_command c.args.words.now c.in-Ok-Some.command (Serve port count) are asked in
+    listened_at_most _ no_memory_status port (g.D.Door.ports c.args.door.now)
+    (g.D.Door.ports c.answer_command.new.door) (omega arith) (c.in-Err-NoMemory.ensures.listens port count same)

@@ -1,4 +1,4 @@
-use Rattle.std.proofs.Common.{refl, rules}
+use Rattle.std.proofs.Common.{inl, refl, rules}
 use Rattle.session_input.specs.Deserved.{BreaksInServe, Deserves}
 use Rattle.board_greeting.specs.Boards.{shown_by}
 use Rattle.session_serve.specs.declared.report.ServeFault.TheVariants.{NoMemory, Rack}
@@ -9,6 +9,7 @@ use Rattle.command_terms.proofs.Pairs.{therefore, without_pairs}
 use Rattle.serve_command.specs.Steps.{ServeLeaves}
 use Rattle.serve_command.specs.Terms.{serve_terms}
 use Rattle.serve_command.proofs.Leaving.{serve_leaves}
+use Rattle.serve_command.proofs.Ports.{answered_listens, failed_listens}
 use Rattle.serve_command.proofs.Ready.{may_serve}
 use Rattle.serve_command.proofs.Services.{not_refused}
 use Rattle.serve_command.proofs.serve.serve_document.Goals as goal
@@ -80,3 +81,17 @@ returns-in-Err-NoMemory-clause-leaves g c =
     (Leaves IsServeFailure Rack (serve_terms c.args.count) c.args.bytes.now made made _)
     (error_left IsServeFailure Rack shown _ (serve_terms c.args.count) c.args.bytes.now _ NoMemory
     (λ failed. failed))
+
+pub returns-in-Ok-clause-listens : goal.returns-in-Ok-clause-listens
+returns-in-Ok-clause-listens g c =
+    answered_listens c.args.port (g.D.Door.ports c.args.door.now) (g.D.Door.ports c.served.new.door) c.served.result
+    c.served.ensures.listens
+
+pub returns-in_ok-refused-in-Err-Refused-clause-listens : goal.returns-in_ok-refused-in-Err-Refused-clause-listens
+returns-in_ok-refused-in-Err-Refused-clause-listens g c =
+    (λ done. absurd (done c.in_ok-refused-in-Err-Refused.ensures.status), inl refl)
+
+pub returns-in_err-refused-in-Err-Refused-clause-listens : goal.returns-in_err-refused-in-Err-Refused-clause-listens
+returns-in_err-refused-in-Err-Refused-clause-listens g c =
+    let ports = g.D.Door.ports c.args.door.now in
+    failed_listens c.args.port ports ports c.from_residual.result c.from_residual.ensures.0 (inl refl)

@@ -8,6 +8,7 @@ use Rattle.command_terms.proofs.Leaving.{at_links}
 use Rattle.command_terms.proofs.Pairs.{with_links}
 use Rattle.script_lang.specs.declared.session.Session.{Session}
 use Rattle.serve_command.specs.Steps.{ServeLeaves}
+use Rattle.serve_command.proofs.Ports.{failed_once}
 use Rattle.serve_command.proofs.Services.{no_memory_is_no_rack, serve_failed, served_done}
 use Rattle.serve_command.proofs.serve.served.Goals as goal
 
@@ -77,3 +78,16 @@ returns-clause-leaves g c =
     connections lines given of_links.0 of_links.1 served c.in_ok-report.ensures.all c.in_ok-report.ensures.had_memory
     c.in_ok-printed.ensures.text c.in_ok-printed.ensures.status)
     c.serve_session.ensures.links c.in_ok-report.ensures.served
+
+pub returns-in_err-report-clause-listens : goal.returns-in_err-report-clause-listens
+returns-in_err-report-clause-listens g c =
+    failed_once c.args.port (g.D.Door.ports c.args.door.now) (g.D.Door.ports c.serve_session.new.door)
+    c.from_residual.result c.from_residual.ensures.0 c.serve_session.ensures.listens.1
+
+pub returns-in_err-printed-clause-listens : goal.returns-in_err-printed-clause-listens
+returns-in_err-printed-clause-listens g c =
+    failed_once c.args.port (g.D.Door.ports c.args.door.now) (g.D.Door.ports c.serve_session.new.door)
+    c.from_residual-in_err-printed.result c.from_residual-in_err-printed.ensures.0 c.serve_session.ensures.listens.1
+
+pub returns-clause-listens : goal.returns-clause-listens
+returns-clause-listens g c = (λ done. c.in_ok-report.ensures.listens.0 refl, c.serve_session.ensures.listens.1)

@@ -20,6 +20,7 @@ loop-one-init g c = record {
   went = went_none (g.D.Door.kept c.args.door.now);
   out = omega arith;
   coming = refl;
+  ports = refl;
   faults = refl;
 }
 
@@ -62,5 +63,6 @@ loop-one-preserved g c =
           (pairs_of yielded) (one.src, one.sink) i.went c.keep.ensures.given);
       out = omega (arith, out, counted, longer);
       coming = c.keep.ensures.coming_kept ∙ i.coming;
+      ports = c.keep.ensures.ports_kept ∙ i.ports;
       faults = c.keep.ensures.faults_kept ∙ i.faults;
     }

@@ -17,5 +17,6 @@ invariant-loop-one g l = record {
   went : Went (g.D.Door.kept l.fn.door) (g.D.Door.kept l.door) (pairs_of l.yielded);
   out : g.D.Door.out l.door + length l.yielded ≡ g.D.Door.out l.fn.door;
   coming : g.D.Door.coming l.door ≡ g.D.Door.coming l.fn.door;
+  ports : g.D.Door.ports l.door ≡ g.D.Door.ports l.fn.door;
   faults : g.D.Door.faults l.door ≡ g.D.Door.faults l.fn.door;
 }

@@ -1,4 +1,4 @@
-use Rattle.std.proofs.Common.{◌≡◌, ◌∙◌, true, List, Vec, Global, ap, length}
+use Rattle.std.proofs.Common.{◌≡◌, ◌∙◌, inr, true, List, Vec, Global, ap, length}
 use Rattle.std.proofs.Common.{subst, sym, arith}
 use Rattle.std.specs.List.{AllByRecursion}
 use Rattle.std.specs.Vec.Iter.{into_iter_items}
@@ -11,7 +11,7 @@ use Rattle.session_serve.specs.Pairs.{pair_shown}
 use Rattle.session_serve.specs.Seats.{AreTakenIn, HasServed, IsFresh}
 use Rattle.session_serve.proofs.EachDone.{all_back, all_in_turn, all_served, each_back, each_long, fresh_all_back}
 use Rattle.session_serve.proofs.EachDone.{fresh_befores}
-use Rattle.session_serve.proofs.EachDone.{longer, none_back, on_ok_of, with_ok}
+use Rattle.session_serve.proofs.EachDone.{longer, none_back, on_ok_of, opened_of, with_ok}
 use Rattle.session_serve.proofs.hub.serve_seats.Goals as goal
 
 pub returns-then-is_err-clause-all_back : goal.returns-then-is_err-clause-all_back
@@ -161,3 +161,10 @@ returns-clause-unfaulted g c =
     ∙ on_ok_of (g.D.Door.faults c.listen.new.self ≡ g.D.Door.faults c.args.door.now) c.listen.result
     c.listen.ensures.unfaulted
     c.is_err.ensures.value c.if-is_err.false)
+
+pub returns-clause-listens : goal.returns-clause-listens
+returns-clause-listens g c =
+    let opened = c.give_back.ensures.ports ∙ (c.serve_all-ended.ensures.ports
+    ∙ opened_of c.args.port (g.D.Door.ports c.args.door.now) (g.D.Door.ports c.listen.new.self) c.listen.result
+    c.listen.ensures.opened c.is_err.ensures.value c.if-is_err.false) in
+    (λ done. opened, inr opened)

@@ -54,5 +54,6 @@ loop-preserved g c =
       room = (let cap = c.push_reserved.ensures.capacity in let room = i.room in omega (arith, cap, room));
       out = omega (arith, longer, out, counted);
       kept = c.accept.ensures.others_kept ∙ i.kept;
+      ports = c.accept.ensures.ports_kept ∙ i.ports;
       faults = c.in-Ok.ensures.unfaulted ∙ i.faults;
     }

@@ -14,5 +14,6 @@ invariant-loop g l = record {
   room : length (into_iter_items l.initial.seats) ≤ vec_capacity l.running;
   out : g.D.Door.out l.door ≡ g.D.Door.out l.initial.door + length l.running.items;
   kept : g.D.Door.kept l.door ≡ g.D.Door.kept l.initial.door;
+  ports : g.D.Door.ports l.door ≡ g.D.Door.ports l.initial.door;
   faults : g.D.Door.faults l.door ≡ g.D.Door.faults l.initial.door;
 }

@@ -22,7 +22,7 @@ returns-in_default-clause-links g c =
       links,
       c.keep_all.ensures.kept,
       (
-        links_reached link.telling shows c.args.settings c.args.specs.now boards c.requires.reached,
+        links_reached shows c.args.settings c.args.specs.now boards c.requires.reached,
         length-map links shows ∙ (length-map boards (λ (b : Greeted _). link_of b) ∙ c.requires.all),
       ),
     )
@@ -65,8 +65,8 @@ returns-in-Err-clause-links g c =
       links,
       c.keep_all-in-Err.ensures.kept,
       (
-        links_reached link.telling shows c.args.settings c.args.specs.now boards
-            (subst (AreReached link.telling shows c.args.settings c.args.specs.now) (sym same) c.requires.reached),
+        links_reached shows c.args.settings c.args.specs.now boards
+            (subst (AreReached shows c.args.settings c.args.specs.now) (sym same) c.requires.reached),
         length-map links shows ∙ (length-map boards (λ (b : Greeted _). link_of b)
             ∙ (ap (λ (l : List (Greeted _)). length l) same ∙ c.requires.all)),
       ),

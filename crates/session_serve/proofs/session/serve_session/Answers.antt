@@ -13,7 +13,7 @@ returns-in_err-boards-clause-links g c =
     let link = g.R.L.Link in
     let shows = shown_by link.faults link.quiets link.gots link.held link.telling in
     let left = c.in_err-boards.ensures.left in
-    (left.0, left.1, ((untouched_links c.args.specs.now (map shows left.0) left.2.0).0, left.2.1))
+    (left.0, left.1, ((untouched_links c.args.settings c.args.specs.now (map shows left.0) left.2.0).0, left.2.1))
 
 pub returns-in_err-boards-clause-pairs : goal.returns-in_err-boards-clause-pairs
 returns-in_err-boards-clause-pairs g c = (
@@ -29,7 +29,7 @@ returns-in_err-boards-clause-untouched g c =
     let link = g.R.L.Link in
     let shows = shown_by link.faults link.quiets link.gots link.held link.telling in
     let left = c.in_err-boards.ensures.left in
-    λ fault. (left.0, left.1, (untouched_links c.args.specs.now (map shows left.0) left.2.0).1)
+    λ fault. (left.0, left.1, (untouched_links c.args.settings c.args.specs.now (map shows left.0) left.2.0).1)
 
 pub returns-clause-served : goal.returns-clause-served
 returns-clause-served g c =

@@ -27,7 +27,7 @@ serve_at_hub-lanes-requires-clause-unused g c κs within =
     let ready = c.requires.ready in
     let apart = ready.apart in
     let boards = apart.boards in
-    subst (AllByRecursion HasNoEntry) (sym apart.apart.lanes') (lanes_unused tells shows c.args.settings
+    subst (AllByRecursion HasNoEntry) (sym apart.apart.lanes') (lanes_unused shows c.args.settings
     c.args.specs.now boards
     apart.reached)
 
@@ -204,3 +204,11 @@ returns-in-Err-clause-pairs g c =
     g.D.Outgoing.Sink.ended (g.D.Door.coming c.args.door.now) (g.D.Door.coming c.serve_at_hub-lanes.new.door)
     (g.D.Door.kept c.args.door.now) (g.D.Door.kept c.serve_at_hub-lanes.new.door) c.args.prepared.states
     (map (λ b. told_by b) ready.apart.boards) ready.prepared'.states' c.serve_at_hub-lanes.ensures.pairs
+
+-- a server that has no report
+pub returns-in-Err-clause-listens : goal.returns-in-Err-clause-listens
+returns-in-Err-clause-listens g c = (λ never. absurd cc, c.serve_at_hub-lanes.ensures.listens.1)
+
+pub returns-in-Err-clause-door_fault : goal.returns-in-Err-clause-door_fault
+returns-in-Err-clause-door_fault g c = λ failed.
+    let same : c.in-Err.fault ≡ Door = cc in c.serve_at_hub-lanes.ensures.fault (c.in-Err.is ∙ ap Err same)
