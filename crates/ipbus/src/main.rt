@@ -10,8 +10,8 @@ use ipbus_program::{
 };
 use net_edges::{KeptSink, KeptSource, RealRack, StdinSource, StdoutSink, TcpDoor};
 use operator_notes::{
-    Command, MAX_CAPTURE, NoMemory, command_of, configuration_summary, denial_notes, door_note,
-    memory_note, rack_note, read_note, refusal_notes, usage_notes, write_note,
+    Applied, Command, MAX_CAPTURE, NoMemory, command_of, configuration_summary, denial_notes,
+    door_note, memory_note, rack_note, read_note, refusal_notes, usage_notes, write_note,
 };
 use std::alloc::{AllocError, Global};
 use std::env;
@@ -74,14 +74,26 @@ fn most_written(command: Option<&Command>) -> usize {
     }
 }
 
-/// What was read of the configuration of boards.
+/// What was read of the configuration of boards, and which registers are not as `apply` was to write them.
 fn summary_lines(
     alloc: Global,
+    status: u8,
     command: Option<&Command>,
+    given: Option<&[u8]>,
     written: Option<&[u8]>,
 ) -> Result<Vec<String>, NoMemory> {
-    match (command, written) {
-        (Some(Command::Save | Command::Apply), Some(text)) => configuration_summary(alloc, text),
+    match (command, given, written) {
+        (Some(Command::Apply), Some(document), Some(text)) => {
+            let is_all_done = status == DONE;
+            let applied = Applied {
+                document,
+                is_all_done,
+            };
+            configuration_summary(alloc, text, Some(&applied))
+        }
+        (Some(Command::Save | Command::Apply), _, Some(text)) => {
+            configuration_summary(alloc, text, None)
+        }
         _ => Ok(Vec::new(alloc)),
     }
 }
@@ -121,10 +133,16 @@ fn say_end(
     written: Option<&[u8]>,
 ) -> Result<(), NoMemory> {
     match status {
-        DONE => say_all(to, summary_lines(alloc, command, written)?.as_slice()),
+        DONE => say_all(
+            to,
+            summary_lines(alloc, status, command, given, written)?.as_slice(),
+        ),
         NOT_ALL_DONE => {
             say_all(to, denial_lines(alloc, command, given)?.as_slice());
-            say_all(to, summary_lines(alloc, command, written)?.as_slice());
+            say_all(
+                to,
+                summary_lines(alloc, status, command, given, written)?.as_slice(),
+            );
         }
         USAGE => say_all(to, usage_notes(alloc, words)?.as_slice()),
         REFUSED => say_all(to, refusal_lines(alloc, command, given)?.as_slice()),

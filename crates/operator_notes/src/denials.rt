@@ -1,11 +1,11 @@
 //! Which rules of a document's policy denied something.
 
 use crate::escaping::shown;
+use crate::keys::value_of;
 use access_policy::{Policy, PolicyRefusal, read_policy, rule_text};
 use command_words::Command;
 use config_input::{ConfigUnread, read_for_apply, read_for_save};
 use ipb_base::NoMemory;
-use script_lang::{SessionRefusal, parse_document, take_key};
 use script_steps::{Step, Steps};
 use session_input::{Unread, read_for_run};
 use std::alloc::Global;
@@ -77,12 +77,7 @@ fn may_have_policy(bytes: &[u8]) -> bool {
 
 /// The policy of a document, if it has one.
 fn policy_of(alloc: Global, bytes: &[u8]) -> Result<Option<Policy>, NoMemory> {
-    let mut document = match parse_document(alloc, bytes) {
-        Ok(document) => document,
-        Err(SessionRefusal::NoMemory) => return Err(NoMemory),
-        Err(_) => return Ok(None),
-    };
-    let Some(value) = take_key(&mut document, "policy") else {
+    let Some(value) = value_of(alloc, bytes, "policy")? else {
         return Ok(None);
     };
     match read_policy(alloc, &value) {

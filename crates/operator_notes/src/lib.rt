@@ -1,13 +1,16 @@
 //! What the program says on standard error at its end: what to look for where words are no command or an input is
-//! refused, what a policy denied, what of a configuration was read, what was done where the text could not be written, and a
-//! page of help. No contract speaks of these texts.
+//! refused, what a policy denied, what of a configuration was read and is not as it was given, what was done where the text
+//! could not be written, and a page of help. No contract speaks of these texts.
 #![tactic(auto)]
 
 mod captures;
 mod configurations;
 mod denials;
 mod escaping;
+mod given_values;
 mod help;
+mod keys;
+mod naming;
 mod refusals;
 mod script_words;
 mod sentences;
@@ -19,6 +22,7 @@ pub use capture_commands::MAX_CAPTURE;
 pub use command_words::{Command, command_of};
 pub use denials::denial_notes;
 pub use escaping::{MOST_SHOWN, shown};
+pub use given_values::Applied;
 pub use help::{HELP, VERSION};
 pub use ipb_base::NoMemory;
 pub use refusals::refusal_notes;
