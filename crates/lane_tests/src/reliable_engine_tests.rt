@@ -85,3 +85,27 @@ fn after_its_rounds_the_hub_gives_up(rt: HostRuntime) -> Result<(), Fail> {
     assert!(rt; times_out_and_unsends(&mut engine));
     Ok(())
 }
+
+/// Whether the one late answer is that of place 1, of this one word.
+fn tells_late(engine: &mut Engine, word: u32) -> bool {
+    let first = match engine.late() {
+        Some((1, words)) => words.as_slice() == [word].as_slice(),
+        _ => false,
+    };
+    first && engine.late().is_none()
+}
+
+#[test]
+fn a_late_reply_is_kept(rt: HostRuntime) -> Result<(), Fail> {
+    let mut engine = engine(rt.alloc())?;
+    offers(&rt, rt.alloc(), &mut engine, 7)?;
+    sends_first(&rt, &mut engine, 7)?;
+    hears_nothing(&rt, &mut engine);
+    hears_nothing(&rt, &mut engine);
+    assert!(rt; engine.late().is_none());
+    let id = Id::new(65535).ok_or("no identifier")?;
+    let words = Words::from_vec([0x77].to_vec(rt.alloc())?);
+    assert!(rt; engine.on_reply(id, words));
+    assert!(rt; tells_late(&mut engine, 0x77));
+    Ok(())
+}

@@ -4,21 +4,28 @@ use crate::fixtures::add;
 use crate::same::same_items;
 use ipb_base::Text;
 use script_plans::laws::few_words_are_few_pieces;
-use script_plans::{BoardRun, ClientPart, ClientParts, Greeting, plan_on};
+use script_plans::{
+    BoardRun, ClientPart, ClientParts, Greeting, Lates, Outcome, Outcomes, Planned, Words, plan_on,
+};
 use script_steps::laws::what_is_denied_asks_for_less;
 use script_steps::{Decision, Steps, Verb};
 use std::alloc::Global;
 use std::test::Fail;
 use transcript::{
-    LinePlaces, OpLine, OpResult, all_good, board_lines, line_text, lines_of_clients,
+    LateAnswer, LinePlaces, OpLine, OpResult, all_good, board_lines, line_text, lines_of_clients,
     transcript_text,
 };
 
+/// What is asked of a live board by one sum.
+fn planned_sum(alloc: Global) -> Result<Planned, Fail> {
+    few_words_are_few_pieces();
+    let steps = [add(alloc, 0, 7)?];
+    Ok(plan_on(alloc, &steps, 0, Greeting::Live { payload: 16 })?)
+}
+
 #[test]
 fn a_sum_is_planned(rt: HostRuntime) -> Result<(), Fail> {
-    few_words_are_few_pieces();
-    let steps = [add(rt.alloc(), 0, 7)?];
-    let planned = plan_on(rt.alloc(), &steps, 0, Greeting::Live { payload: 16 })?;
+    let planned = planned_sum(rt.alloc())?;
     let [body] = planned.bodies() else {
         return Err("not one body")?;
     };
@@ -71,6 +78,63 @@ fn a_sum_is_printed_with_the_word_before(rt: HostRuntime) -> Result<(), Fail> {
     let text = line_text(rt.alloc(), &line)?;
     let wanted = b"12 rmwsum b0:a was 0xffffffff @1.2,3.1\n";
     same_items(&rt, text.as_slice(), wanted.as_slice());
+    Ok(())
+}
+
+#[test]
+fn a_late_answer_is_printed_behind_its_timeout(rt: HostRuntime) -> Result<(), Fail> {
+    let line = OpLine {
+        number: 1,
+        verb: Verb::Write,
+        board: Text::copy_of(rt.alloc(), "b0")?,
+        name: Text::copy_of(rt.alloc(), "a")?,
+        result: OpResult::Late {
+            rounds: 2,
+            answer: LateAnswer::Done,
+        },
+        places: LinePlaces::from_vec([(1u64, 1u16)].to_vec(rt.alloc())?),
+    };
+    let text = line_text(rt.alloc(), &line)?;
+    let wanted = b"1 write b0:a timeout after 2 rounds, answered late: done @1.1\n";
+    same_items(&rt, text.as_slice(), wanted.as_slice());
+    Ok(())
+}
+
+/// A live board whose one body was timed out at place 1 after 2 rounds, and then answered by the word 5.
+fn answered_late(alloc: Global, planned: Planned) -> Result<BoardRun, Fail> {
+    let mut outcomes = Vec::new(alloc);
+    outcomes.push(Outcome::TimedOut {
+        place: 1,
+        rounds: 2,
+    })?;
+    let mut lates = Vec::new(alloc);
+    lates.push(Some(Words::from_vec([0x2000_0150u32, 5].to_vec(alloc)?)))?;
+    let mut parts = Vec::new(alloc);
+    parts.push(ClientPart {
+        planned,
+        outcomes: Outcomes::from_vec(outcomes),
+        lates: Lates::from_vec(lates),
+    })?;
+    Ok(BoardRun {
+        name: Text::copy_of(alloc, "b0")?,
+        greeting: Greeting::Live { payload: 16 },
+        parts: ClientParts::from_vec(parts),
+    })
+}
+
+#[test]
+fn a_body_that_was_answered_late_shows_the_answer(rt: HostRuntime) -> Result<(), Fail> {
+    let runs = [answered_late(rt.alloc(), planned_sum(rt.alloc())?)?];
+    let mut sums = Vec::new(rt.alloc());
+    sums.push(add(rt.alloc(), 0, 7)?)?;
+    let clients = lines_of_clients(rt.alloc(), &runs, &[Steps::from_vec(sums)])?;
+    let boards = board_lines(rt.alloc(), &runs)?;
+    let text = transcript_text(rt.alloc(), &clients, &boards)?;
+    let line = "1 rmwsum b0:a timeout after 2 rounds, answered late: was 0x00000005 @1.1";
+    let board = "board b0 places 1 replied 0 timeout 1 lost 0";
+    let wanted = format!(in rt.alloc(); "client 1\n{line}\n{board}\n")?;
+    same_items(&rt, text.as_slice(), wanted.as_bytes());
+    assert!(rt; !all_good(&clients));
     Ok(())
 }
 

@@ -1,56 +1,13 @@
-//! What is said on standard error, and what it is made from.
+//! What is said on standard error at the end.
 
-use crate::fixtures::words_of;
-use crate::same::{same, same_items};
-use ipb_outside::{MemSource, read_all};
-use net_edges::{KeptSource, SILENT_AFTER, Silence, is_passing};
+use crate::same::same;
 use operator_notes::{
-    Command, HELP, MOST_SHOWN, VERSION, door_note, memory_note, rack_note, read_note,
-    refusal_notes, shown, usage_notes, write_note,
+    Applied, Command, HELP, MOST_SHOWN, VERSION, configuration_summary, door_note, memory_note,
+    rack_note, read_note, refusal_notes, shown, usage_notes, write_note,
 };
+use program_fixtures::words_of;
 use std::alloc::{AllocError, Global};
 use std::test::Fail;
-
-/// A source of three bytes, of which so many are kept.
-fn kept(alloc: Global, most: usize) -> Result<KeptSource<MemSource>, AllocError> {
-    let bytes = vec![in alloc; 7u8, 8, 9]?;
-    let source = MemSource::new(bytes, 2, Vec::new(alloc));
-    Ok(KeptSource::new(alloc, source, most))
-}
-
-#[test]
-fn a_source_keeps_what_it_gave(rt: HostRuntime) -> Result<(), Fail> {
-    for most in [2, 3] {
-        let mut source = kept(rt.alloc(), most)?;
-        same_items(&rt, &read_all(rt.alloc(), &mut source, 10)?, &[7, 8, 9]);
-        let is_kept = source.given() == Some([7u8, 8, 9].as_slice());
-        assert!(rt; is_kept == (most == 3));
-    }
-    Ok(())
-}
-
-#[test]
-fn errors_that_pass(rt: HostRuntime) {
-    for (number, passes) in [
-        (101, true),
-        (105, true),
-        (1, true),
-        (22, false),
-        (90, false),
-    ] {
-        assert!(rt; is_passing(number) == passes);
-    }
-}
-
-#[test]
-fn a_silence_is_told_once(rt: HostRuntime) {
-    let mut silence = Silence::new();
-    for count in 1..=2 * SILENT_AFTER {
-        assert!(rt; silence.quiet() == (count == SILENT_AFTER));
-    }
-    assert!(rt; silence.ended());
-    assert!(rt; !silence.ended());
-}
 
 /// The first line that is said of the words of a line.
 fn first_of(alloc: Global, line: &str) -> Result<String, Fail> {
@@ -123,6 +80,52 @@ fn a_description_in_words(rt: HostRuntime) -> Result<(), Fail> {
             &wanted,
         );
     }
+    Ok(())
+}
+
+/// Values for two registers, and what is said of a text that shows another one, and none.
+const GIVEN: &str = "[state.b0]\n\"a\" = 9\n\"b\" = 1\n";
+
+const WRITTEN: &str = "[state.b0]\n\"a\" = 0x00000007\n# \"b\" unsent\n";
+
+const NOTED: &str = "registers: 2, boards: 1; not read: 1\n\
+    board b0: \"b\" unsent\n\
+    not as given: 2\n\
+    board b0: \"a\" = 0x00000007, given 0x00000009\n\
+    board b0: \"b\" not read, given 0x00000001\n";
+
+/// What is said of a text of a configuration, where all was done or not.
+fn noted_of(alloc: Global, text: &str, is_all_done: bool) -> Result<String, Fail> {
+    let applied = Applied {
+        document: GIVEN.as_bytes(),
+        is_all_done,
+    };
+    let mut noted = String::new(alloc);
+    for note in configuration_summary(alloc, text.as_bytes(), Some(&applied))? {
+        noted.push_str(note.as_str())?;
+        noted.push('\n')?;
+    }
+    Ok(noted)
+}
+
+#[test]
+fn registers_that_do_not_show_what_was_given(rt: HostRuntime) -> Result<(), Fail> {
+    let noted = noted_of(rt.alloc(), WRITTEN, false)?;
+    same(&rt, &noted.as_str(), &NOTED);
+    Ok(())
+}
+
+/// A text that shows what was given, and what is said of it where a write was not done.
+const AS_GIVEN: &str = "[state.b0]\n\"a\" = 0x00000009\n\"b\" = 0x00000001\n";
+
+#[test]
+fn a_write_that_was_not_done_is_told(rt: HostRuntime) -> Result<(), Fail> {
+    let done = noted_of(rt.alloc(), AS_GIVEN, true)?;
+    same(&rt, &done.as_str(), &"registers: 2, boards: 1\n");
+    let wanted = "registers: 2, boards: 1\n\
+        not done: one write or more, of registers that show the values given all the same\n";
+    let noted = noted_of(rt.alloc(), AS_GIVEN, false)?;
+    same(&rt, &noted.as_str(), &wanted);
     Ok(())
 }
 

@@ -2,18 +2,16 @@
 
 ghost use Rattle.std.specs.Prelude.{◌≤◌};
 
-use crate::fixtures::{
-    FIRST, TRANSCRIPT, calm, first_in_bytes, over, over_links, shut_door, wide_sink,
-};
 use crate::same::{same, same_items};
 use command_words::USAGE_LINE;
 use ipb_base::NoMemory;
-use ipb_outside::{CalmSource, MemSink, read_all};
+use ipb_outside::{CalmSource, MemSink, MemSource, read_all};
 use ipbus_program::{
     DONE, NO_MEMORY, NOT_ALL_DONE, RACK_FAULT, READ_FAULT, REFUSED, USAGE, WRITE_FAULT,
 };
 use lossy_network::SimRack;
-use std::alloc::Global;
+use program_fixtures::{FIRST, FIRST_TRANSCRIPT, calm, over, over_links, shut_door, wide_sink};
+use std::alloc::{AllocError, Global};
 use std::marker::Sync;
 use std::sync::Wait;
 use std::test::Fail;
@@ -27,6 +25,12 @@ tables.t = []
 
 /// The most bytes that a document may have.
 const LONGEST: usize = 16_777_216;
+
+/// A source of that document, a byte at a time, whose read with this number fails.
+fn first_in_bytes(alloc: Global, fail: u64) -> Result<MemSource, AllocError> {
+    let bytes = Vec::from_slice(alloc, FIRST.as_bytes())?;
+    Ok(MemSource::new(bytes, 1, [fail].to_vec(alloc)?))
+}
 
 /// The status and the text that the words of a line get for a document, or want of memory where they are set up.
 fn answer<T: Threads + Wait + Sync>(
@@ -45,7 +49,7 @@ fn answer<T: Threads + Wait + Sync>(
 #[test]
 fn each_command_is_done(rt: HostRuntime) -> Result<(), Fail> {
     for (line, wanted) in [
-        ("run", TRANSCRIPT),
+        ("run", FIRST_TRANSCRIPT),
         ("check main", "id 0x00000004 0xffffffff rw single 1\n"),
         ("load 1", "load 1\ndone 1\nwas total 0\nplaces 1\n"),
         (
@@ -100,7 +104,11 @@ fn documents_that_cannot_be_run(rt: HostRuntime) -> Result<(), Fail> {
 #[test]
 fn first_session_with_any_memory(rt: HostRuntime) -> Result<(), Fail> {
     if let Ok((status, text)) = answer(&rt, rt.alloc(), "run", FIRST) {
-        let wanted = if status == NO_MEMORY { "" } else { TRANSCRIPT };
+        let wanted = if status == NO_MEMORY {
+            ""
+        } else {
+            FIRST_TRANSCRIPT
+        };
         same_items(&rt, text.as_slice(), wanted.as_bytes());
         assert!(rt; status == DONE || status == NO_MEMORY);
     }
@@ -139,10 +147,10 @@ fn cut<T: Threads + Wait + Sync>(
 /// Whichever write fails, where each takes one byte, the bytes before it were written.
 #[test]
 fn each_write_fails_in_turn(rt: HostRuntime) -> Result<(), Fail> {
-    for before in 0..TRANSCRIPT.len() {
+    for before in 0..FIRST_TRANSCRIPT.len() {
         let (status, text) = cut(&rt, rt.alloc(), "run", 1, before as u64 + 1)?;
         same(&rt, &status, &WRITE_FAULT);
-        same_items(&rt, &text, &TRANSCRIPT.as_bytes()[..before]);
+        same_items(&rt, &text, &FIRST_TRANSCRIPT.as_bytes()[..before]);
     }
     Ok(())
 }

@@ -1,11 +1,11 @@
 //! `run` where one call of a link or one write fails.
 
-use crate::document_a::{DOCUMENT, TRANSCRIPT, run_over};
 use crate::same::{same, same_items};
 use ipb_base::NoMemory;
 use ipb_outside::MemSink;
 use ipbus_program::{DONE, NOT_ALL_DONE, WRITE_FAULT};
 use lossy_network::SimRack;
+use program_fixtures::{DOCUMENT, DOCUMENT_TRANSCRIPT, run_over};
 use std::alloc::Global;
 use std::marker::Sync;
 use std::sync::Wait;
@@ -23,7 +23,7 @@ const FAILING_CALLS: [(u64, u8, &str, usize); 5] = [
     (2, NOT_ALL_DONE, DOWN, 0),
     (3, NOT_ALL_DONE, LOST, 0),
     (4, NOT_ALL_DONE, LOST, 0),
-    (5, DONE, TRANSCRIPT, 1),
+    (5, DONE, DOCUMENT_TRANSCRIPT, 1),
 ];
 
 /// The status and the text of `run` over a link whose call with this number fails and into a sink that takes 16 bytes
@@ -64,9 +64,9 @@ fn each_write_of_sixteen_bytes_fails(rt: HostRuntime) -> Result<(), Fail> {
     for write in 1..8 {
         let (status, text, executed) = run(&rt, alloc, 0, write as u64)?;
         let wanted = if write < 7 { WRITE_FAULT } else { DONE };
-        let written = TRANSCRIPT.len().min(16 * (write - 1));
+        let written = DOCUMENT_TRANSCRIPT.len().min(16 * (write - 1));
         same(&rt, &(status, executed), &(wanted, Some(1)));
-        same_items(&rt, &text, &TRANSCRIPT.as_bytes()[..written]);
+        same_items(&rt, &text, &DOCUMENT_TRANSCRIPT.as_bytes()[..written]);
     }
     Ok(())
 }

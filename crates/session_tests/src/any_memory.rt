@@ -2,13 +2,12 @@
 //! came back once. `checks/failing_allocations` makes each allocation of a test fail in turn, in a process of its own.
 //! Each session runs twice: one of the two runs at most meets that allocation, so the other comes to its end.
 
-use crate::document_a::{DOCUMENT, run_over};
-use crate::fixtures::{calm, over, wide_sink};
 use crate::serving::door_for;
 use ipb_base::NoMemory;
 use ipb_outside::Door;
 use ipbus_program::{DONE, NO_MEMORY, NOT_ALL_DONE};
 use lossy_network::SimRack;
+use program_fixtures::{DOCUMENT, calm, over, run_over, wide_sink};
 use std::alloc::Global;
 use std::marker::Sync;
 use std::sync::Wait;
@@ -33,7 +32,7 @@ board b0 places 2 replied 2 timeout 0 lost 0
 ";
 
 const TIMED_OUT: &str = "client 1
-1 write b0:a timeout after 2 rounds, execution unknown @1.1
+1 write b0:a timeout after 2 rounds, answered late: done @1.1
 2 read b0:a = 0x00000001 @2.1
 board b0 places 2 replied 1 timeout 1 lost 0
 ";

@@ -1,11 +1,10 @@
 //! What a transcript shows of datagrams that were held back, and what the link that was given back tells of them.
 
-use crate::document_a::{DOCUMENT, TRANSCRIPT, run_over};
-use crate::fixtures::wide_sink;
 use crate::same::{same, same_items};
 use ipb_base::NoMemory;
 use ipbus_program::{DONE, NOT_ALL_DONE};
 use lossy_network::SimRack;
+use program_fixtures::{DOCUMENT, DOCUMENT_TRANSCRIPT, run_over, wide_sink};
 use std::alloc::Global;
 use std::marker::Sync;
 use std::sync::Wait;
@@ -26,7 +25,7 @@ const RUNS: [(&str, &str, &str, u8, &str, (u64, u64)); 2] = [
         "fates = \"ddd1\"\n",
         "read b0:sys.id",
         DONE,
-        TRANSCRIPT,
+        DOCUMENT_TRANSCRIPT,
         (1, 1),
     ),
     (

@@ -1,14 +1,14 @@
 //! Two connections that are served at once.
 
-ghost use Rattle.std.specs.Prelude.{◌≡◌, ◌≤◌, None, Some};
+ghost use Rattle.std.specs.Prelude.{◌≡◌, ◌≤◌, None, Some, option_to_list};
 ghost use Rattle.ipb_base.specs.Faults.{one_more};
 
-use crate::fixtures::FIRST;
 use crate::same::same;
 use crate::serving::{ASKED, serve};
 use ipb_base::NoMemory;
 use ipb_outside::{Door, Failed, MemSink, MemSource, Sink, Source};
 use ipbus_program::DONE;
+use program_fixtures::FIRST;
 use std::alloc::Global;
 use std::sync::atomic::{AtomicU64, Ordering};
 use std::test::Fail;
@@ -87,6 +87,7 @@ impl<'a> Sink for TellingSink<'a> {
 #[derive(Drop)]
 struct PairsDoor<'a> {
     waiting: Vec<(HeldSource<'a>, TellingSink<'a>)>,
+    port: Option<u16>,
     out: u64,
     faults: u64,
 }
@@ -95,6 +96,7 @@ impl<'a> PairsDoor<'a> {
     fn count_fault(&mut self) -> Failed
         ensures counted { self.new.faults ≡ one_more self.old.faults }
         ensures out { self.new.out ≡ self.old.out }
+        ensures port { self.new.port ≡ self.old.port }
         ensures later { self.old.faults ≤ self.new.faults }
     {
         self.faults = self.faults.saturating_add(1);
@@ -113,9 +115,15 @@ impl<'a> Door for PairsDoor<'a> {
 
     ghost out = { λ door. door.out };
 
+    ghost ports = { λ door. option_to_list door.port };
+
     ghost faults = { λ door. door.faults };
 
-    fn listen(&mut self, _port: u16) -> Result<(), Failed> {
+    fn listen(&mut self, port: u16) -> Result<(), Failed> {
+        if self.port.is_some() {
+            return Err(self.count_fault());
+        }
+        self.port = Some(port);
         Ok(())
     }
 
@@ -155,6 +163,7 @@ fn door_of<'a>(alloc: Global, told: &'a Told) -> Result<PairsDoor<'a>, NoMemory>
     waiting.push(pair(alloc, Some(told), None)?)?;
     Ok(PairsDoor {
         waiting,
+        port: None,
         out: 0,
         faults: 0,
     })

@@ -1,7 +1,7 @@
-//! A link over UDP: from whom it receives, what is quiet, and what is too long.
+//! A link over UDP: from whom it receives, what is quiet, too long or passes, and when a silence is told.
 
 use crate::same::{differing_bytes, same_items};
-use net_edges::{Link, LinkFault, Received, UdpLink};
+use net_edges::{Link, LinkFault, Received, SILENT_AFTER, Silence, UdpLink, is_passing};
 use std::net::{IpAddr, Ipv4Addr, SocketAddr, UdpSocket};
 use std::test::Fail;
 use std::time::{Duration, Instant};
@@ -179,4 +179,27 @@ fn a_board_that_is_not_there_is_quiet(rt: HostRuntime) -> Result<(), Fail> {
         assert!(rt; link.receive(&mut into) == Ok(Received::Quiet));
     }
     Ok(())
+}
+
+#[test]
+fn errors_that_pass(rt: HostRuntime) {
+    for (number, passes) in [
+        (101, true),
+        (105, true),
+        (1, true),
+        (22, false),
+        (90, false),
+    ] {
+        assert!(rt; is_passing(number) == passes);
+    }
+}
+
+#[test]
+fn a_silence_is_told_once(rt: HostRuntime) {
+    let mut silence = Silence::new();
+    for count in 1..=2 * SILENT_AFTER {
+        assert!(rt; silence.quiet() == (count == SILENT_AFTER));
+    }
+    assert!(rt; silence.ended());
+    assert!(rt; !silence.ended());
 }
