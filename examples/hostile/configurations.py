@@ -37,7 +37,7 @@ def by_model(data, command):
             return text, status, None
         session = Configuration(data, command)
         session.run()
-        return text, status, denial_notes(session) + configuration_notes(text)
+        return text, status, denial_notes(session) + configuration_notes(text, session.entries(), status)
     except Exception:
         return None
 

@@ -40,10 +40,11 @@ LINES = [
     "read b0:slow",
 ]
 
+ANSWER = r"(=( 0x[0-9a-f]{8})+|done|was 0x[0-9a-f]{8}|error [4-7] after [0-9]+|skipped|garbled)"
 OPERATION_LINE = re.compile(
     r"[0-9]+ (read|write|readblock|writeblock|rmwbits|rmwsum) b0:\S+ "
-    r"((=( 0x[0-9a-f]{8})+|done|was 0x[0-9a-f]{8}|error [4-7] after [0-9]+|skipped|garbled"
-    r"|timeout after [0-9]+ rounds, execution unknown)( @[0-9]+\.[0-9]+(,[0-9]+\.[0-9]+)*)|unsent( @.*)?)"
+    rf"(({ANSWER}|timeout after [0-9]+ rounds, (execution unknown|answered late: {ANSWER}))"
+    r"( @[0-9]+\.[0-9]+(,[0-9]+\.[0-9]+)*)|unsent( @.*)?)"
 )
 BOARD_LINE = re.compile(r"board b0 places ([0-9]+) replied ([0-9]+) timeout ([0-9]+) lost 0|board b0 silent")
 

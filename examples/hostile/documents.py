@@ -43,11 +43,13 @@ b0:unit[0 b0:unit[65535].* b0:unit[65536].* b0:unit].* *:low.**.count b0:low..co
 *:*[1]""".split()
 SIGNS = '" \' [ ] [[ ]] { } = , . : # \\ \n \r\n \t \0 \x7f \u00e9 \U0001f4a1'.split(" ")
 
+ANSWER = "(=( 0x[0-9a-f]{8})+|done|was 0x[0-9a-f]{8}|error [0-9]+ after [0-9]+|skipped)"
 TRANSCRIPT_LINE = re.compile(
     r"client [0-9]+|board \S+ (places [0-9]+ replied [0-9]+ timeout [0-9]+ lost [0-9]+|silent|down)"
     r"|[0-9]+ (read|write|readblock|writeblock|rmwbits|rmwsum) \S+ "
-    r"(=( 0x[0-9a-f]{8})+|done|was 0x[0-9a-f]{8}|error [0-9]+ after [0-9]+|skipped|unsent"
-    r"|timeout after [0-9]+ rounds, execution unknown)( @[0-9]+\.[0-9]+(,[0-9]+\.[0-9]+)*)?"
+    rf"({ANSWER}|unsent"
+    rf"|timeout after [0-9]+ rounds, (execution unknown|answered late: {ANSWER}))"
+    r"( @[0-9]+\.[0-9]+(,[0-9]+\.[0-9]+)*)?"
     r"|[0-9]+ (read|write|readblock|writeblock|rmwbits|rmwsum) \S+ denied by rule [0-9]+"
 )
 REFUSAL = re.compile(rb"refused: (document|table|policy|compile|board|script) [^\n]+ [A-Z][A-Za-z]+\n")

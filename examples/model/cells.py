@@ -26,14 +26,25 @@ def address_of(request, done):
 
 def shown_words(line):
     """The words that a line shows, if all its pieces were done."""
-    operation = line.operation
-    is_field = operation.verb == "read"
-    mask, shift = (operation.register.mask, operation.register.shift) if is_field else (WHOLE, 0)
     words = iter(line.words)
-    for (body, index), request in zip(operation.pieces, operation.requests):
-        # a write shows no word
-        for done, word in zip(range(request.count), words):
-            yield Shown((line.client, body), index, done, address_of(request, done), mask, shift, word)
+    for (body, index), request in zip(line.operation.pieces, line.operation.requests):
+        yield from shown_of(line, body, index, request, words)
+
+
+def shown_late(line, body):
+    """The words that a line shows, if it tells of the late answer of this body."""
+    request, index = line.first_piece(body)
+    return list(shown_of(line, body, index, request, line.late_words(body)))
+
+
+def shown_of(line, body, index, request, words):
+    """What a line shows of a request, by the next ones of its words."""
+    register = line.operation.register
+    is_field = line.operation.verb == "read"
+    mask, shift = (register.mask, register.shift) if is_field else (WHOLE, 0)
+    # a write shows no word
+    for done, word in zip(range(request.count), words):
+        yield Shown((line.client, body), index, done, address_of(request, done), mask, shift, word)
 
 
 # a step at an address leads from the words that can be there to those that can be there behind it
@@ -89,13 +100,19 @@ class Event(namedtuple("Event", "place keys others")):
     """A place of bodies with steps at an address: the keys of those that can have it, and whether another body can."""
 
 
+# a body at a place or at None, and its steps at an address
+Fixed = namedtuple("Fixed", "key place steps")
+
+
 class Cell:
     """The word that an address opens with, and the steps of bodies there, by the key of each body. A body of which no
-    line shows a word there, and that only reads, has an empty list of them."""
+    line shows a word there, and that only reads, has an empty list of them. `lates` has the steps of a body whose late
+    answer a line may show, by what that line tells."""
 
-    def __init__(self, word, steps):
+    def __init__(self, word, steps, lates):
         self.word = word
         self.steps = steps
+        self.lates = lates
 
     def events(self, options):
         """The events in rising order of their places."""
@@ -107,30 +124,30 @@ class Cell:
         others = {place for key in options if key not in self.steps for place in options[key]}
         return [Event(place, keys, place in others) for place, keys in sorted(by_place.items())]
 
-    def behind(self, event, words, fixed=None, option=None):
+    def behind(self, event, words, fixed=Fixed(None, None, None)):
         """The words that can be there behind an event. One body can be fixed to a place, or to None."""
-        if event.place == option:
-            return behind(self.steps[fixed], words)
+        if event.place == fixed.place:
+            return behind(fixed.steps, words)
         found = set(words) if event.others else set()
         for key in event.keys:
-            if key != fixed:
+            if key != fixed.key:
                 found |= behind(self.steps[key], words)
         return found
 
-    def holds(self, events, before, fixed, option):
+    def holds(self, events, before, fixed):
         """Whether all that is shown can be so where one body is fixed. That each of the others has one place alone is
         not looked at. `before` has the words that can be there before each event where none is fixed."""
-        own = [number for number, event in enumerate(events) if fixed in event.keys]
+        own = [number for number, event in enumerate(events) if fixed.key in event.keys]
         words = before[own[0]]
         for number in range(own[0], len(events)):
             if number > own[-1] and words == before[number]:
                 return True
-            words = self.behind(events[number], words, fixed, option)
+            words = self.behind(events[number], words, fixed)
         return bool(words)
 
     def refused(self, options):
-        """The options that no way lets be, as pairs of a body's key and a place or None. None where there is no way at
-        all."""
+        """The options that no way lets be, as pairs of a body's key and a place or None, and the late answers that none
+        does. None where there is no way at all."""
         events = self.events(options)
         before = [{self.word}]
         for event in events:
@@ -138,6 +155,10 @@ class Cell:
         if not before[-1]:
             return None
         open_keys = [key for key in self.steps if len(options[key]) > 1]
-        return {
-            (key, place) for key in open_keys for place in options[key] if not self.holds(events, before, key, place)
-        }
+        fixed = [Fixed(key, place, self.steps[key]) for key in open_keys for place in options[key]]
+        refused = {(each.key, each.place) for each in fixed if not self.holds(events, before, each)}
+        for late, steps in self.lates.items():
+            fixed = [Fixed(late.key, place, steps) for place in options[late.key] if place is not None]
+            if not any(self.holds(events, before, each) for each in fixed):
+                refused.add(late)
+        return refused

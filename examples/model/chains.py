@@ -7,14 +7,18 @@ from collections import defaultdict, namedtuple
 
 from model.told import Wrong, check
 
-# the outcomes of bodies with a place, in the order of the counts of a board
+# the outcomes of bodies with a place, in the order of the counts of a board, and by which of these each is counted
 COUNTED = ("replied", "timeout", "link lost")
+COUNTED_AS = {"replied": "replied", "timeout": "timeout", "late": "timeout", "link lost": "link lost"}
 WITHOUT_A_PLACE = ("unsent", "link lost")
 
 # how many places are given to the bodies before, whether a line goes on that is not decided by them, and whether one
 # goes on of whose bodies the last one was left without a place
 State = namedtuple("State", "taken is_open was_left")
 BEGIN = State(0, False, False)
+
+# that the line which is told so tells of the late answer of the body with this key
+Late = namedtuple("Late", "key told")
 
 
 def piece_text(answers, index):
@@ -99,12 +103,24 @@ class Body:
     def leaves_open(self, line, positions, outcome):
         """Whether a line still waits for the piece that decides its result, where this body has that outcome and all
         before it were done. None where the line tells otherwise."""
+        if outcome == line.outcome == "late":
+            return False if self.can_be_late(line, positions[0]) else None
         if outcome != "replied":
             return False if outcome == line.outcome else None
         text = next((self.texts[position - 1] for position in positions if self.texts[position - 1]), None)
         if text is None:
             return True
         return False if text == line.result else None
+
+    def can_be_late(self, line, position):
+        """Whether a line can tell of its late answer, but for the words, if its first piece here has this position."""
+        text = self.texts[position - 1]
+        return line.late_words(self.number) is not None if text is None else line.late == text
+
+    def told_late(self, is_open):
+        """What the lines tell of it, if it was answered late."""
+        lines = [line for line, _ in self.lines if is_open or self.begins(line)]
+        return {Late(self.key, line.told) for line in lines}
 
     def after(self, is_open, outcome):
         """Whether the line that goes on behind this body waits for what decides it, or None where a line tells
@@ -128,7 +144,7 @@ class Body:
         if len(self.lines) == 1 and self.goes_on and not is_open:
             yield None, False
             return
-        for outcome in COUNTED if is_placed else WITHOUT_A_PLACE:
+        for outcome in COUNTED_AS if is_placed else WITHOUT_A_PLACE:
             is_open_behind = self.after(is_open, outcome)
             if is_open_behind is not None:
                 yield outcome, is_open_behind
@@ -186,7 +202,8 @@ class Chain:
         fits = self.body_shapes[number] == self.shapes[taken]
         if fits and (body.key, self.places[taken]) not in refused:
             for outcome, is_open in body.moves(state.is_open, True):
-                yield self.places[taken], outcome, State(taken + 1, is_open, False)
+                if outcome != "late" or refused.isdisjoint(body.told_late(state.is_open)):
+                    yield self.places[taken], outcome, State(taken + 1, is_open, False)
         # the places that are left need as many bodies
         enough = not fits or self.bodies_behind[number] >= self.places_from[taken]
         if enough and (body.key, None) not in refused:
@@ -211,7 +228,8 @@ class Chain:
             for state, labels in layer.items():
                 for place, outcome, behind in self.edges(number, state, refused):
                     is_cut = state.was_left and place is not None
-                    more = tuple(place is not None and outcome == each for each in COUNTED)
+                    counted = place is not None and COUNTED_AS.get(outcome)
+                    more = tuple(counted == each for each in COUNTED)
                     found[behind] += [label.with_body(place, more, is_cut) for label in labels]
             if not found:
                 self.stuck = body
@@ -230,8 +248,8 @@ class Chain:
         """For each body, by its key, the places that it has on some way to place all bodies, and None where it has
         none on some way. Nothing where there is no way."""
         if not self.is_open:
-            places = self.labels(least)[0].parts()
-            return {body.key: {place} for body, place in zip(self.bodies, places)}
+            labels = self.labels(least, refused)
+            return {body.key: {place} for body, place in zip(self.bodies, labels[0].parts())} if labels else {}
         layers = [{BEGIN}]
         for number in range(len(self.bodies)):
             edges = (edge for state in layers[-1] for edge in self.edges(number, state, refused))

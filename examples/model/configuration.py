@@ -73,6 +73,10 @@ class Configuration(Session):
     def plan(self):
         """The session's own scripts are not run."""
 
+    def entries(self):
+        """The values that are written, in their order, as boards, names and values."""
+        return entries_of(self.state)
+
     def why(self, board_name, name, value):
         """The rule that a value breaks first, or None."""
         board = next((board for board in self.boards if board.name == board_name), None)
@@ -96,7 +100,7 @@ class Configuration(Session):
                 return board.name, name, "Overlap"
         if sum(map(len, self.kept.values())) > MOST_KEPT:
             return "", "", "TooMany"
-        for board_name, name, value in entries_of(self.state):
+        for board_name, name, value in self.entries():
             why = self.why(board_name, name, value)
             if why is not None:
                 return board_name, name, why
@@ -110,7 +114,7 @@ class Configuration(Session):
     def run(self):
         """Puts the script of the one client in place of the session's own."""
         reads = [f"read {board.name}:{name}" for board in self.boards for name in self.kept[board.name]]
-        writes = [f"write {board}:{name} {value}" for board, name, value in entries_of(self.state)]
+        writes = [f"write {board}:{name} {value}" for board, name, value in self.entries()]
         self.scripts = [[*writes, "dispatch", *reads] if self.applies else reads]
         super().plan()
 

@@ -60,6 +60,8 @@ LAST_RULES = [("allow", "rw"), ("allow", "rw"), ("allow", "rw"), ("allow", "r"),
 
 # what befalls the datagrams of boards behind the first one; those of the first one always meet noise
 NETWORKS = ["noise", "fates", "fates", ""]
+# the fates of datagrams where much is lost or late, behind those of a greeting
+LOSSES = ["dddl", "ddl5", "dl", "ddddr259l", "dl1379"]
 
 
 class Draw:
@@ -98,6 +100,9 @@ class Draw:
         """What befalls a board's datagrams, by noise or by fates, or nothing."""
         if kind == "noise":
             return f"noise = {self.random.getrandbits(32)}\n"
+        if kind == "losses":
+            letters = self.random.choice(LOSSES)
+            return f'fates = "dd{"".join(self.random.choices(letters, k=2000))}"\n'
         if kind == "fates":
             letters = self.random.choice(["ddddl", "dl", "ddddlr123456789", "dddr9", "l"])
             count = self.random.choice([1, 4, 10, 60, 200])
@@ -139,12 +144,12 @@ class Draw:
             rules.append(f'{{ effect = "{last[0]}", access = "{last[1]}", name = "*:**" }}')
         return "policy = [\n" + "".join(f"  {rule},\n" for rule in rules) + "]\n"
 
-    def session(self, clients):
-        """A session with one of these numbers of clients."""
+    def session(self, clients, rounds=(1, 2, 3, 8, 255), first="noise", others=NETWORKS):
+        """A session with one of these numbers of clients and of rounds. The network of its first board is of one kind,
+        and those of the others are of one of several."""
         boards = [f"b{place}" for place in range(self.random.choice([1, 1, 2, 3]))]
-        rounds = self.random.choice([1, 2, 3, 8, 255])
-        head = f"format = 2\nrounds = {rounds}\nwindow = {self.random.randint(1, 16)}\n"
-        text = "".join(self.board(board, ["noise"] if board == boards[0] else NETWORKS) for board in boards)
+        head = f"format = 2\nrounds = {self.random.choice(rounds)}\nwindow = {self.random.randint(1, 16)}\n"
+        text = "".join(self.board(board, [first] if board == boards[0] else others) for board in boards)
         count = self.random.choice(clients)
         for _ in range(count):
             script = [self.line(boards) for _ in range(self.random.choice([2, 10, 30, 60]))]
@@ -155,6 +160,11 @@ class Draw:
 def drawn_session(number):
     """The document that this number draws."""
     return Draw(f"session {number}").session([1, 1, 2, 3, 5])
+
+
+def drawn_session_of_losses(number):
+    """The document whose hub gives up after one round, on boards that lose much, that this number draws."""
+    return Draw(f"losses {number}").session([1, 1, 2, 3], [1], "losses", ["losses", "noise"])
 
 
 def drawn_session_of_many(number):

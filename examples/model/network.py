@@ -10,6 +10,7 @@ IDENTIFIERS = 65_535
 LIFETIME = 32_768
 STRANGERS = 64
 
+# what became of a body: a timeout with answers is one whose reply came late
 Outcome = namedtuple("Outcome", "kind place answers", defaults=(None, None))
 Datagram = namedtuple("Datagram", "is_for_board message birth")
 
@@ -156,6 +157,7 @@ class Hub:
         self.queue = deque()
         self.open = set()
         self.waited = {}
+        self.timed_out = {}
         self.resends = set()
         self.controls = set()
         self.wants_status = False
@@ -207,6 +209,8 @@ class Hub:
             self.round = 0
             if place in self.waited:
                 self.outcomes[self.waited.pop(place)] = Outcome("replied", place, answers)
+            else:
+                self.outcomes[self.timed_out.pop(place)] = Outcome("timeout", place, answers)
 
     def hear_status(self, expected):
         if self.round == 0:
@@ -223,6 +227,7 @@ class Hub:
             return
         for place, tag in self.waited.items():
             self.outcomes[tag] = Outcome("timeout", place)
+        self.timed_out |= self.waited
         for tag, _ in self.queue:
             self.outcomes[tag] = Outcome("unsent")
         self.waited.clear()

@@ -76,13 +76,42 @@ def denial_notes(session):
     return "".join(f"ipbus: {line}\n" for line in lines).encode()
 
 
-# so many registers that were not read are named
+# so many registers that were not read, or do not show the value that was given, are named
 MOST_NAMED = 10
 
 
-def configuration_notes(text):
-    """What is said of the text of a configuration: how many registers of how many boards it has, and which of them were
-    not read."""
+def named(lines):
+    """The first of many lines, and how many more there are."""
+    more = len(lines) - MOST_NAMED
+    return lines[:MOST_NAMED] + ([f"and {more} more"] if more > 0 else [])
+
+
+def not_as_given(text, entries):
+    """What is said of the registers that do not show in the text of a configuration the value that was given, in the
+    order of these values."""
+    board, values = "", {}
+    for line in text.splitlines():
+        if line.startswith("["):
+            board = line.removeprefix("[state.").removesuffix("]")
+        elif not line.startswith("# "):
+            name, _, value = line.partition(" = ")
+            values[board, name] = value
+    lines = []
+    for board, name, value in entries:
+        wanted, found = f"0x{value:08x}", values.get((board, f'"{name}"'))
+        if found != wanted:
+            became = f"= {found}" if found else "not read"
+            lines.append(f'board {shown(board)}: "{shown(name)}" {became}, given {wanted}')
+    return [f"not as given: {len(lines)}", *named(lines)] if lines else []
+
+
+# where a write was not done, and each register shows the value that it was given
+NO_REGISTER = "not done: one write or more, of registers that show the values given all the same"
+
+
+def configuration_notes(text, entries=(), status=0):
+    """What is said of the text of a configuration, beside its status: how many registers of how many boards it has,
+    which of them were not read, and which do not show the values of these entries, which were written before."""
     board, boards, registers, missing = "", 0, 0, []
     for line in text.splitlines():
         if line.startswith("["):
@@ -92,9 +121,9 @@ def configuration_notes(text):
         if line.startswith("# "):
             missing.append(f"board {shown(board)}: {shown(line.removeprefix('# '))}")
     lines = [f"registers: {registers}, boards: {boards}" + (f"; not read: {len(missing)}" if missing else "")]
-    lines += missing[:MOST_NAMED]
-    if len(missing) > MOST_NAMED:
-        lines.append(f"and {len(missing) - MOST_NAMED} more")
+    lines += named(missing) + not_as_given(text, entries)
+    if status == 1 and len(lines) == 1:
+        lines.append(NO_REGISTER)
     return "".join(f"ipbus: {line}\n" for line in lines).encode()
 
 

@@ -4,7 +4,9 @@ with a single thread in the order of the printed places, and each line must show
 What a policy denies is in no body, and just its lines say that it is denied, each by its rule.
 
 It knows nothing of networks and hubs, and holds for clients in any order, also at once. A body that timed out has a
-place; if a later place was replied to, it was executed, and else nobody can tell, so all places are replayed.
+place; if a later place was replied to, it was executed, and else nobody can tell, so all places are replayed. A late
+answer is what the bus gave at its body's place to the first piece there of the line that tells of it; which one of the
+bodies of a line that is, the line does not tell.
 
 Where lines leave open which of their bodies have their places, a way is looked for in which all lines are as they are
 printed. Ways in which the bodies without a place stand together come first: a hub that gives up leaves the rest of what
@@ -13,8 +15,8 @@ steps at that word's address are looked at, what cannot be is set aside, and whe
 """
 from collections import defaultdict
 
-from model.cells import Cell, shown_words, steps_of
-from model.chains import Chain, Label, fewest_cuts, least, piece_text
+from model.cells import Cell, shown_late, shown_words, steps_of
+from model.chains import Chain, Label, Late, fewest_cuts, least, piece_text
 from model.session import Bus
 from model.told import Wrong, check, read_lines
 
@@ -28,7 +30,8 @@ class Undecided(Wrong):
 class Replay:
     """The lines of a live board, and the ways to give their places to the bodies of its clients.
 
-    What was set aside is a tuple with a set for each chain, of pairs of a body's key and a place or None.
+    What was set aside is a tuple with a set for each chain, of pairs of a body's key and a place or None, and of bodies
+    of whose late answers lines do not tell.
     """
 
     def __init__(self, session, told):
@@ -43,6 +46,8 @@ class Replay:
         self.chains = [Chain(lines, self.texts_of) for lines in by_client.values()]
         placed = sorted(place for chain in self.chains for place in chain.places)
         check(placed == list(range(1, told.sent + 1)), f"{self.name}: its bodies do not have its places")
+        # the words that lines show, by each body of whose late answer they may tell
+        self.lates = {late: shown_late(line, late.key[1]) for line in told.lines for late in self.lates_of(line)}
         self.fault = None
         self.tries = 0
         self.cells = {}
@@ -58,20 +63,39 @@ class Replay:
         self.answers[key] = answers = Bus(self.told.board.ranges).execute(self.body(key))
         return [piece_text(answers, index) for index in range(len(self.body(key)))]
 
-    def wrong_addresses(self, places):
-        """The addresses of words that lines show otherwise than the bus gives them by these places."""
+    def lates_of(self, line):
+        """The bodies of whose late answers a line may tell, if it shows words of one."""
+        if line.outcome != "late":
+            return
+        for number, _ in line.bodies:
+            key = (line.client, number)
+            _, index = line.first_piece(number)
+            if piece_text(self.answers[key], index) is None and line.late_words(number):
+                yield Late(key, line.told)
+
+    def answers_at(self, places):
+        """What the bus answers to each body that has a place of these."""
         bus = Bus(self.told.board.ranges)
         in_order = sorted((place, key) for key, place in places.items() if place is not None)
-        answers = {key: bus.execute(self.body(key)) for _, key in in_order}
+        return {key: bus.execute(self.body(key)) for _, key in in_order}
+
+    def wrong_addresses(self, answers):
+        """The addresses of words that lines show otherwise than the bus gave them, where all pieces were done."""
         found = set()
         for line in self.told.lines:
             if not line.is_good or not line.words:
                 continue
-            wrong = {word.address for word in shown_words(line) if not word.is_shown_of(word.found_in(answers))}
+            wrong = wrong_words(shown_words(line), answers)
             if wrong and not self.fault:
                 self.fault = f"{line.told}: {line.result[:80]!r} is not what the board's order gives"
             found |= wrong
         return found
+
+    def wrong_lates(self, answers):
+        """The bodies of whose late answers lines cannot tell, with the addresses of words that are shown otherwise than
+        the bus gave them."""
+        found = {late: wrong_words(words, answers) for late, words in self.lates.items() if late.key in answers}
+        return {late: wrong for late, wrong in found.items() if wrong}
 
     # ---- what is set aside
 
@@ -87,7 +111,16 @@ class Replay:
                 for each, steps in steps_of(self.body(key), answers, shown[key]).items():
                     self.steps[each][key] = steps
         word, _ = Bus(self.told.board.ranges).read(address)
-        return Cell(word, self.steps[address])
+        return Cell(word, self.steps[address], self.late_steps(address))
+
+    def late_steps(self, address):
+        """The steps at an address of the bodies of whose late answers lines may show a word there."""
+        found = {}
+        for late, words in self.lates.items():
+            shown = {(word.index, word.done): word for word in words if word.address == address}
+            if shown:
+                found[late] = steps_of(self.body(late.key), self.answers[late.key], shown)[address]
+        return found
 
     def settled(self, aside):
         """Sets aside what no way lets be, by the chains and the addresses that are looked at. The options that are
@@ -104,7 +137,7 @@ class Replay:
                 refused = cell.refused(options)
                 if refused is None:
                     return None
-                more |= refused
+                more |= refused.difference(*aside)
             if not more:
                 return options, aside
             aside = self.with_aside(aside, more)
@@ -112,8 +145,9 @@ class Replay:
     def with_aside(self, aside, more):
         """What was set aside, and more."""
         of_client = defaultdict(set)
-        for key, place in more:
-            of_client[key[0]].add((key, place))
+        for each in more:
+            (client, _), _ = each
+            of_client[client].add(each)
         return tuple(refused | of_client[chain.client] for chain, refused in zip(self.chains, aside))
 
     # ---- the search
@@ -142,14 +176,19 @@ class Replay:
         if fit is None:
             self.fault = self.fault or f"{self.name}: its counts are not those of its lines"
             return None
-        places = self.places([chain.labels(fewest_cuts, refused)[0] for chain, refused in zip(self.chains, aside)])
-        wrong = self.wrong_addresses(places)
-        if wrong:
-            return wrong
-        others = {(key, place) for key in options for place in options[key] if place != places[key]}
-        if self.fitting(self.with_aside(aside, others)) is not None:
-            return set()
-        return self.wrong_addresses(self.places(fit))
+        cheapest = [chain.labels(fewest_cuts, refused)[0] for chain, refused in zip(self.chains, aside)]
+        for labels in (cheapest, fit):
+            places = self.places(labels)
+            answers = self.answers_at(places)
+            wrong = self.wrong_addresses(answers)
+            if wrong:
+                return wrong
+            lates = self.wrong_lates(answers)
+            others = {(key, place) for key in options for place in options[key] if place != places[key]}
+            if self.fitting(self.with_aside(aside, others.union(lates))) is not None:
+                return set()
+        self.fault = self.fault or f"{min(lates).told}: its late answer is not what the board's order gives"
+        return set().union(*lates.values())
 
     def is_right(self, aside):
         """Some way to place the bodies is right, of those that are not set aside."""
@@ -182,6 +221,11 @@ class Replay:
         aside = tuple(frozenset() for _ in self.chains)
         if not self.is_right(aside):
             raise Wrong(self.fault or f"{self.name}: its lines cannot have its places")
+
+
+def wrong_words(shown, answers):
+    """The addresses of the words that are shown otherwise than the bus gave them."""
+    return {word.address for word in shown if not word.is_shown_of(word.found_in(answers))}
 
 
 def check_board(session, told):

@@ -30,7 +30,8 @@ def check_denied(text, client, operation, board):
 
 class Line:
     """The line of an operation: its result, its places with the positions that it shows there, and the bodies that it
-    has pieces in with their positions. Positions count from 1."""
+    has pieces in with their positions. Positions count from 1. Where the line tells of a body without a reply in time,
+    `outcome` is what became of that body; it is `late` where its reply came late, and `late` is then what that was."""
 
     def __init__(self, text, client, operation, board, rounds):
         begin = begin_of(operation, board)
@@ -43,21 +44,32 @@ class Line:
         pairs = [tuple(map(int, place.split("."))) for place in places.split(",") if place]
         self.places = grouped(pairs)
         self.bodies = grouped((body, index + 1) for body, index in operation.pieces)
-        timed_out = f"timeout after {rounds} rounds, execution unknown"
-        # the outcome that a body without a reply has, where the line tells of one
-        self.outcome = {timed_out: "timeout", "unsent": "unsent", "link lost": "link lost"}.get(self.result)
-        self.words = self.shown_words()
+        begin = f"timeout after {rounds} rounds, "
+        late = f"{begin}answered late: "
+        self.late = self.result.removeprefix(late) if self.result.startswith(late) else None
+        outcomes = {f"{begin}execution unknown": "timeout", "unsent": "unsent", "link lost": "link lost"}
+        self.outcome = outcomes.get(self.result) if self.late is None else "late"
+        self.words = self.words_of(self.result, operation.requests)
         self.is_good = self.words is not None
 
-    def shown_words(self):
-        """The words that the line shows, if it tells that all its pieces were done."""
+    def words_of(self, text, requests):
+        """The words that a text shows, if it tells that these requests were done; none for a write."""
         sign = GOOD[self.operation.verb]
         if sign == "done":
-            return [] if self.result == sign else None
-        found = WORDS.fullmatch(self.result)
+            return [] if text == sign else None
+        found = WORDS.fullmatch(text)
         words = [int(word, 16) for word in found[2].split()] if found and found[1] == sign else []
-        wanted = sum(request.count for request in self.operation.requests)
-        return words if len(words) == wanted else None
+        return words if len(words) == sum(request.count for request in requests) else None
+
+    def first_piece(self, body):
+        """The request of its first piece in a body, and that request's index there."""
+        pieces = zip(self.operation.pieces, self.operation.requests)
+        return next((request, index) for (number, index), request in pieces if number == body)
+
+    def late_words(self, body):
+        """The words that came late, if the line tells that its first piece in this body was done."""
+        request, _ = self.first_piece(body)
+        return self.words_of(self.late, [request])
 
 
 def grouped(pairs):

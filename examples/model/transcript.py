@@ -5,34 +5,46 @@ def word_text(word):
     return f"0x{word:08x}"
 
 
-def piece_result(outcome, index, rounds):
-    """What became of one piece: the words, or the result that is shown in their place."""
-    if outcome.kind == "timeout":
-        return f"timeout after {rounds} rounds, execution unknown"
-    if outcome.kind != "replied":
-        return outcome.kind
+def answer_of(outcome, index):
+    """What the board answered to one piece: the words, or the result that is shown in their place."""
     if index >= len(outcome.answers):
         return "skipped"
     words, code = outcome.answers[index]
-    if code:
-        return f"error {code} after {len(words)}"
-    return words
+    return f"error {code} after {len(words)}" if code else words
+
+
+def done_text(operation, words):
+    """The text of an operation that was done, with these words."""
+    if operation.verb in ("write", "writeblock"):
+        return "done"
+    sign = "was" if operation.verb in ("rmwbits", "rmwsum") else "="
+    return " ".join([sign, *map(word_text, operation.shown(words))])
+
+
+def timeout_text(operation, outcome, index, rounds):
+    """The text of a piece that was timed out: where it was answered late it is shown as though it were all of the
+    operation."""
+    begin = f"timeout after {rounds} rounds"
+    if outcome.answers is None:
+        return f"{begin}, execution unknown"
+    answer = answer_of(outcome, index)
+    return f"{begin}, answered late: {answer if isinstance(answer, str) else done_text(operation, answer)}"
 
 
 def result_of(operation, outcomes, rounds):
-    """The text of the result, and whether it is a value, `done` or `was`."""
+    """The text of the result, and whether it is a value, `done` or `was`: the first piece that was not done decides."""
     if operation.denied_by is not None:
         return f"denied by rule {operation.denied_by}", False
     words = []
     for body, index in operation.pieces:
-        result = piece_result(outcomes[body], index, rounds)
-        if isinstance(result, str):
-            return result, False
-        words += result
-    if operation.verb in ("write", "writeblock"):
-        return "done", True
-    sign = "was" if operation.verb in ("rmwbits", "rmwsum") else "="
-    return " ".join([sign, *map(word_text, operation.shown(words))]), True
+        outcome = outcomes[body]
+        if outcome.kind == "timeout":
+            return timeout_text(operation, outcome, index, rounds), False
+        answer = answer_of(outcome, index) if outcome.kind == "replied" else outcome.kind
+        if isinstance(answer, str):
+            return answer, False
+        words += answer
+    return done_text(operation, words), True
 
 
 def line_of(operation, board, outcomes, rounds):

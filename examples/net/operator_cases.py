@@ -5,16 +5,19 @@ import time
 from concurrent.futures import ThreadPoolExecutor
 
 from model.notes import NOTES
+from model.replay import check_transcript
+from model.session import Session
 from net.clients import end, sum_body
 from net.frames import TIMED_OUT, Answer, ask
 from net.packets import RMW_SUM, WRITE, request, transaction_header
 from net.peers import Board, Wrong, ended, require, rest_of
-from net.sessions import COUNT, DEAF_WAIT, RANGES, boards_of, on_network
+from net.sessions import COUNT, DEAF_WAIT, RANGES, boards_of, on_network, simulated
 
 # how long a route is away, in seconds, and how long a receive waits meanwhile, in milliseconds
 AWAY, AWAY_WAIT = 0.6, 20
 NO_ROUTE = "Network is unreachable (os error 101)"
-SUMS = 300
+# so many that a run is still under way when the machine that takes a route away is slow
+SUMS = 3000
 
 
 def sums(count):
@@ -216,6 +219,25 @@ def run_while_a_board_sleeps(peers):
     board.require_executed(SUMS)
 
 
+def run_past_a_long_sleep(peers):
+    """A board is stopped for longer than the rounds. What was sent meanwhile is given up, and then executed once each
+    and answered late: the text is right by replay."""
+    (board,) = boards_of(1)
+    peers.start_board(board)
+    scripts, rounds = [sums(SUMS)], 3
+    process = peers.start_run(on_network([board], scripts, AWAY_WAIT, rounds=rounds))
+    in_the_middle(board, process)
+    board.process.send_signal(signal.SIGSTOP)
+    time.sleep(AWAY)
+    board.process.send_signal(signal.SIGCONT)
+    done = ended(process)
+    check_transcript(Session(simulated([board], scripts, rounds=rounds)), done.text, done.status)
+    late = done.text.count(f" timeout after {rounds} rounds, answered late: was 0x")
+    unknown = done.text.count("execution unknown")
+    require(late >= 1 and unknown == 0, f"{late} answered late, {unknown} not at all")
+    board.require_executed(SUMS - done.text.count(" unsent\n"))
+
+
 def silent_boards_take_their_time(peers):
     """Silent boards are greeted one by one, each for all its rounds, and a server opens its port behind the last."""
     boards = boards_of(2)
@@ -364,6 +386,7 @@ OPERATORS = {
     "run of more packets than identifiers": run_of_more_packets_than_identifiers,
     "run at a board that never answers": run_at_a_board_that_never_answers,
     "run while a board sleeps": run_while_a_board_sleeps,
+    "run past a long sleep of a board": run_past_a_long_sleep,
     "silent boards take their time": silent_boards_take_their_time,
     "a mute board takes its time": a_mute_board_takes_its_time,
     "a given up write is executed later": a_given_up_write_is_executed_later,
