@@ -1,14 +1,13 @@
 //! Names cut at their dots and brackets.
 
 ghost use Rattle.std.specs.Prelude.{◌≡◌, ◌<◌, ◌∷◌, option_map, option_copied, length, IfOk, IfSome};
-ghost use Rattle.std.specs.List.{list_all};
 ghost use Rattle.script_lang.specs.Texts as texts;
 ghost use Rattle.access_policy.specs.Cutting.{parts_left};
 ghost use Rattle.access_policy.specs.Names as spec;
 
 use crate::MAX_INDEX;
-use address_table::number_in_text;
 use ipb_base::NoMemory;
+use script_lang::decimal_between;
 use std::alloc::Global;
 use std::marker::Model;
 
@@ -61,43 +60,11 @@ pub(crate) fn first_part(text: &str) -> (&str, Option<&str>)
     }
 }
 
-fn is_digit(byte: u8) -> bool
-    ensures { result ≡ texts.is_digit byte }
-{
-    matches!(byte, b'0'..=b'9')
-}
-
-fn are_digits(text: &[u8]) -> bool
-    ensures { result ≡ list_all texts.is_digit text.now }
-{
-    text.iter().all(|byte| is_digit(*byte))
-}
-
-/// Whether a text is decimal digits without a leading zero.
-fn is_decimal(text: &[u8]) -> bool
-    ensures { result ≡ texts.is_decimal text.now }
-{
-    match text {
-        [] => false,
-        [first, rest @ ..] => {
-            is_digit(*first) && are_digits(rest) && (*first != b'0' || rest.is_empty())
-        }
-    }
-}
-
 /// The index that digits write.
 pub(crate) fn index_in(digits: &str) -> Option<u32>
     ensures { result ≡ spec.index_in digits.now }
 {
-    if !is_decimal(digits.as_bytes()) {
-        return None;
-    }
-    let number = number_in_text(digits.as_bytes())?;
-    if number <= MAX_INDEX {
-        Some(number)
-    } else {
-        None
-    }
+    decimal_between(0, MAX_INDEX, digits.as_bytes())
 }
 
 /// What stands before the first bracket, and what stands in brackets behind it, up to the end.

@@ -63,8 +63,8 @@ pub record IsTranscriptOf (bytes : List ℕ) (links : List LinkReport) (status :
   pub told : status ≡ run_status (transcript_of steps runs).clients
 
 -- At every status: the bytes stand for a session that can be run, and the links are those of its first boards, in
--- order, each given back once; what each board executed is a merge of bodies that the scripts ask of it, some of each
--- client's, in its order.
+-- order, each given back once; what was sent to each board, and so what it executed, is a merge of bodies that the
+-- scripts ask of it, some of each client's, in its order.
 pub record RanSomeOf (bytes : List ℕ) (links : List LinkReport) : Type 0 where
   pub session : Session
   pub steps : List (List Step)

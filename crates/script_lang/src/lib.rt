@@ -31,4 +31,5 @@ pub use script_refusal::{MAX_LINES, ScriptRefusal, ScriptWhy};
 pub use script_steps::{MAX_BLOCK_WORDS, MAX_OPERATIONS, RegOp, Step, Steps, Verb};
 pub use session::{Boards, Script, Scripts, Session};
 pub use steps::PathStep;
+pub use texts::decimal_between;
 pub use world_model::Settings;

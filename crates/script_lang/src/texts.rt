@@ -89,8 +89,8 @@ fn is_decimal(text: &[u8]) -> bool
     }
 }
 
-/// The number from `least` to `most` that such digits write.
-fn decimal_between(least: u32, most: u32, text: &[u8]) -> Option<u32>
+/// The number from `least` to `most` that decimal digits without a leading zero write. `None` of any other text.
+pub fn decimal_between(least: u32, most: u32, text: &[u8]) -> Option<u32>
     ensures { result ≡ spec.decimal_between least most text.now }
 {
     if !is_decimal(text) {
