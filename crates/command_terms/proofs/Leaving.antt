@@ -3,14 +3,12 @@ use Rattle.std.proofs.Common.{◌≡◌, inl, inr, ℕ, List, [], ◌++◌, map,
 use Rattle.std.proofs.Common.{refl, sym, ap, ◌∙◌, subst, append-nil, arith}
 use Rattle.std.proofs.lemmas.List.{append_cancel_left}
 use Rattle.std.specs.Result.{IsErr, IsErrAnd}
+use Rattle.ipb_outside.specs.Pairs.{PairReport}
 use Rattle.lane_history.specs.Links.{LinkReport}
-use Rattle.session_run.specs.declared.session.RunFault.{RunFault}
-use Rattle.session_run.specs.declared.session.RunFault.TheVariants.{NoMemory, Rack}
-use Rattle.session_serve.specs.Serving.{AreBack}
 use Rattle.command_terms.specs.declared.answer.Answer.{Answer}
 use Rattle.command_terms.specs.Leaving.{Leaves}
 use Rattle.command_terms.specs.Numbers.{refused_status}
-use Rattle.command_terms.specs.Outside.{GivenBack, no_pairs}
+use Rattle.command_terms.specs.Outside.{GivenBack, NoneCame, no_pairs}
 use Rattle.command_terms.specs.Terms.{Owes, Terms}
 
 -- what is said of the links that were given back, by what each shows
@@ -25,24 +23,21 @@ at_links shown old new links grown holds told =
 pub same_Err : {T E : Type 0} (why other : E) → ◌≡◌ {A = Result T E} (Err why) (Err other) → why ≡ other
 same_Err why other same = cc
 
-pub no_memory_is_no_rack : (fault : RunFault) → fault ≡ NoMemory → fault ≡ Rack → ⊥
-no_memory_is_no_rack fault is rack = cc
-
--- no pair came
-pub none_served : AreBack [] []
-none_served = ([], record { served = []; each = tt })
+pub none_came : NoneCame [] []
+none_came = (refl, refl)
 
 -- ---- nothing was made
 
-module _ {E : Type 0} (Fails : E → Type 0) (rack_failed : E) where
+module _ {E : Type 0} (Served : List PairReport → List PairReport → Type 0) (none : Served [] []) (Fails : E → Type 0)
+    (rack_failed : E) where
   nothing_used : (terms : Terms) (bytes : List ℕ) (made : ℕ) (result : Result Answer E)
       → IfOk result (λ answer. Owes terms bytes (no_pairs []) answer.status answer.text.items)
       → ((fault : E) → result ≡ Err fault → Fails fault → ⊥)
-      → Leaves Fails rack_failed terms bytes made made result (no_pairs [])
+      → Leaves Served Fails rack_failed terms bytes made made result (no_pairs [])
   nothing_used terms bytes made result owed calm = record {
     used = inl refl;
     counted = omega arith;
-    back = none_served;
+    back = none;
     owed = owed;
     behind = λ fault is failed. absurd (calm fault is failed);
     untouched = λ rack. tt;
@@ -52,7 +47,7 @@ module _ {E : Type 0} (Fails : E → Type 0) (rack_failed : E) where
       (made : ℕ) (result : Result Answer E)
       → IfOk result (λ answer. Owes terms bytes (no_pairs []) answer.status answer.text.items)
       → ((fault : E) → result ≡ Err fault → Fails fault → ⊥)
-      → Told shown kept kept (λ links. Leaves Fails rack_failed terms bytes made made result (no_pairs links))
+      → Told shown kept kept (λ links. Leaves Served Fails rack_failed terms bytes made made result (no_pairs links))
   nothing_left shown kept terms bytes made result owed calm =
       ([], sym (append-nil kept), nothing_used terms bytes made result owed calm)
 
@@ -64,7 +59,7 @@ module _ {E : Type 0} (Fails : E → Type 0) (rack_failed : E) where
   pub failure_left : {L : Type 0} (shown : L → LinkReport) (kept : List L) (terms : Terms) (bytes : List ℕ)
       (made : ℕ) (result : Result Answer E) (fault : E)
       → IsErr result → IsErrAnd result (λ why. why ≡ fault) → (Fails fault → ⊥)
-      → Told shown kept kept (λ links. Leaves Fails rack_failed terms bytes made made result (no_pairs links))
+      → Told shown kept kept (λ links. Leaves Served Fails rack_failed terms bytes made made result (no_pairs links))
   failure_left shown kept terms bytes made (Ok answer) fault fails is calm = absurd cc
   failure_left shown kept terms bytes made (Err why) fault fails is calm =
       nothing_left shown kept terms bytes made (Err why) tt
@@ -72,27 +67,30 @@ module _ {E : Type 0} (Fails : E → Type 0) (rack_failed : E) where
 
   pub error_left : {L : Type 0} (shown : L → LinkReport) (kept : List L) (terms : Terms) (bytes : List ℕ) (made : ℕ)
       (why : E) → (Fails why → ⊥)
-      → Told shown kept kept (λ links. Leaves Fails rack_failed terms bytes made made (Err why) (no_pairs links))
+      → Told shown kept kept (λ links. Leaves Served Fails rack_failed terms bytes made made (Err why) (no_pairs links))
   error_left shown kept terms bytes made why calm =
       nothing_left shown kept terms bytes made (Err why) tt
       (λ other same failed. calm (subst Fails (sym (same_Err why other same)) failed))
 
   pub refusal_left : {L : Type 0} (shown : L → LinkReport) (kept : List L) (terms : Terms) (bytes : List ℕ)
       (made : ℕ) (answer : Answer) → terms.Refuses bytes answer.text.items → answer.status ≡ refused_status
-      → Told shown kept kept (λ links. Leaves Fails rack_failed terms bytes made made (Ok answer) (no_pairs links))
+      → Told shown kept kept
+      (λ links. Leaves Served Fails rack_failed terms bytes made made (Ok answer) (no_pairs links))
   refusal_left shown kept terms bytes made answer deserved status =
       nothing_left shown kept terms bytes made (Ok answer) (inr (status, deserved)) (λ fault is failed. absurd cc)
 
--- ---- the same with another error
+-- ---- the same with another error, and with what follows of the pairs
 
-module _ {E F : Type 0} (Fails : E → Type 0) (rack : E) (Failed : F → Type 0) (rack_now : F) (terms : Terms)
-    (bytes : List ℕ) (made makes : ℕ) (given : GivenBack) where
-  pub done_as : (answer : Answer) → Leaves Fails rack terms bytes made makes (Ok answer) given
-      → Leaves Failed rack_now terms bytes made makes (Ok answer) given
+module _ {E F : Type 0} (Served Served_now : List PairReport → List PairReport → Type 0)
+    (served_as : (came back : List PairReport) → Served came back → Served_now came back) (Fails : E → Type 0)
+    (rack : E) (Failed : F → Type 0) (rack_now : F) (terms : Terms) (bytes : List ℕ) (made makes : ℕ)
+    (given : GivenBack) where
+  pub done_as : (answer : Answer) → Leaves Served Fails rack terms bytes made makes (Ok answer) given
+      → Leaves Served_now Failed rack_now terms bytes made makes (Ok answer) given
   done_as answer leaves = record {
     used = leaves.used;
     counted = leaves.counted;
-    back = leaves.back;
+    back = served_as given.came given.back leaves.back;
     owed = leaves.owed;
     behind = λ fault is failed. absurd cc;
     untouched = λ is. absurd cc;
@@ -101,13 +99,13 @@ module _ {E F : Type 0} (Fails : E → Type 0) (rack : E) (Failed : F → Type 0
   pub failed_as : (convert : E → F) (fault : E) (result : Result Answer F)
       → (Failed (convert fault) → Fails fault) → (convert fault ≡ rack_now → fault ≡ rack)
       → IsErr result → IsErrAnd result (λ why. why ≡ convert fault)
-      → Leaves Fails rack terms bytes made makes (Err fault) given
-      → Leaves Failed rack_now terms bytes made makes result given
+      → Leaves Served Fails rack terms bytes made makes (Err fault) given
+      → Leaves Served_now Failed rack_now terms bytes made makes result given
   failed_as convert fault (Ok answer) behind is_rack fails is leaves = absurd cc
   failed_as convert fault (Err why) behind is_rack fails is leaves = record {
     used = leaves.used;
     counted = leaves.counted;
-    back = leaves.back;
+    back = served_as given.came given.back leaves.back;
     owed = tt;
     behind = λ other same failed.
         leaves.behind fault refl

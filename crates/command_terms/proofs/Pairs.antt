@@ -2,8 +2,8 @@
 use Rattle.std.proofs.Common.{◌≡◌, ℕ, Bool, List, [], ◌++◌, Option, Some, None}
 use Rattle.std.proofs.Common.{refl, sym, ap, ◌∙◌, subst, append-nil}
 use Rattle.std.specs.Prelude.{option_map}
+use Rattle.ipb_outside.specs.Pairs.{GivesBack}
 use Rattle.lane_history.specs.Links.{LinkReport}
-use Rattle.session_serve.specs.Pairs.{GivesBack}
 use Rattle.command_terms.specs.Outside.{GivenBack, no_pairs}
 use Rattle.command_terms.proofs.Leaving.{Told, at_links}
 

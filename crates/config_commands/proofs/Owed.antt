@@ -8,15 +8,16 @@ use Rattle.script_lang.specs.declared.session.Session.{Session}
 use Rattle.script_plans.specs.declared.board_run.BoardRun.{BoardRun}
 use Rattle.session_run.specs.declared.session.RunFault.{RunFault}
 use Rattle.session_run.specs.declared.session.RunFault.TheVariants.{Rack}
+use Rattle.session_run.specs.Faults.{IsRunFailure}
 use Rattle.transcript.specs.Lines.{client_lines, run_status, transcript_of}
 use Rattle.config_store.specs.Text.{state_text}
 use Rattle.config_input.specs.Deserved.{IsApplicable, IsReadFor, IsSavable}
 use Rattle.config_input.specs.Work.{ConfigCommand, apply_command, save_command}
 use Rattle.command_terms.specs.declared.answer.Answer.{Answer}
-use Rattle.command_terms.specs.Leaving.{IsRunFailure, Leaves}
-use Rattle.command_terms.specs.Outside.{no_pairs}
+use Rattle.command_terms.specs.Leaving.{Leaves}
+use Rattle.command_terms.specs.Outside.{NoneCame, no_pairs}
 use Rattle.command_terms.specs.Terms.{Owes, Terms}
-use Rattle.command_terms.proofs.Leaving.{none_served}
+use Rattle.command_terms.proofs.Leaving.{none_came}
 use Rattle.run_laws.specs.Runs.{IsSessionRun}
 use Rattle.run_laws.specs.Steps.{CanRunSteps}
 use Rattle.config_commands.specs.Applied.{IsAppliedText}
@@ -47,13 +48,13 @@ leaves_by : (command : ConfigCommand) (terms : Terms) (bytes : List ℕ)
     (result : Result Answer RunFault) (links : List LinkReport) → IsReadFor command bytes session steps
     → RunLeaves session steps made makes result links
     → IfOk result (λ answer. Owes terms bytes (no_pairs links) answer.status answer.text.items)
-    → Leaves IsRunFailure Rack terms bytes made makes result (no_pairs links)
+    → Leaves NoneCame IsRunFailure Rack terms bytes made makes result (no_pairs links)
 leaves_by command terms bytes uses session steps made makes result links read leaves owed =
     let ran : RanSomeFor command bytes links =
     record { session = session; steps = steps; read = read; left = leaves.left } in record {
       used = inr (uses links ran);
       counted = leaves.counted;
-      back = none_served;
+      back = none_came;
       owed = owed;
       behind = λ fault is failed. uses links ran;
       untouched = leaves.untouched;
@@ -89,7 +90,7 @@ save_owed runs law bytes session (steps ∷ []) links (Ok answer) is alone can w
 pub save_leaves : RunsLaw → SavedLaw → (bytes : List ℕ) (session : Session) (steps : List (List Step))
     (made makes : ℕ) (result : Result Answer RunFault) (links : List LinkReport) → IsSavable bytes session steps
     → length steps ≡ 1 → CanRunSteps session steps → RunLeaves session steps made makes result links
-    → Leaves IsRunFailure Rack save_terms bytes made makes result (no_pairs links)
+    → Leaves NoneCame IsRunFailure Rack save_terms bytes made makes result (no_pairs links)
 save_leaves runs law bytes session steps made makes result links is alone can leaves =
     leaves_by save_command save_terms bytes (λ links ran. ran) session steps made makes result links is leaves
     (save_owed runs law bytes session steps links result is alone can leaves.writes)
@@ -125,7 +126,7 @@ apply_owed runs law bytes session (steps ∷ []) links (Ok answer) is alone can 
 pub apply_leaves : RunsLaw → AppliedLaw → (bytes : List ℕ) (session : Session) (steps : List (List Step))
     (made makes : ℕ) (result : Result Answer RunFault) (links : List LinkReport) → IsApplicable bytes session steps
     → length steps ≡ 1 → CanRunSteps session steps → RunLeaves session steps made makes result links
-    → Leaves IsRunFailure Rack apply_terms bytes made makes result (no_pairs links)
+    → Leaves NoneCame IsRunFailure Rack apply_terms bytes made makes result (no_pairs links)
 apply_leaves runs law bytes session steps made makes result links is alone can leaves =
     leaves_by apply_command apply_terms bytes (λ links ran. ran) session steps made makes result links is leaves
     (apply_owed runs law bytes session steps links result is alone can leaves.writes)

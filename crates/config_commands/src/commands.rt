@@ -2,10 +2,11 @@
 
 ghost use Rattle.std.specs.Prelude.{◌≡◌, ◌≢◌, ◌≤◌, Err, IfOk};
 ghost use Rattle.board_greeting.specs.Links.{Keeps};
+ghost use Rattle.session_run.specs.Faults.{IsRunFailure};
 ghost use Rattle.command_terms.specs.Faults.{RisesOnlyAt};
-ghost use Rattle.command_terms.specs.Leaving.{IsRunFailure, Leaves};
+ghost use Rattle.command_terms.specs.Leaving.{Leaves};
 ghost use Rattle.command_terms.specs.Numbers.{refused_status};
-ghost use Rattle.command_terms.specs.Outside.{no_pairs};
+ghost use Rattle.command_terms.specs.Outside.{NoneCame, no_pairs};
 ghost use Rattle.config_input.specs.Lines.{refusal_line};
 ghost use Rattle.config_commands.specs.Terms.{apply_terms, save_terms};
 
@@ -38,8 +39,8 @@ pub fn save_document<R: Rack, T: Threads + Wait + Sync, G: Gate>(
     gate: &G,
 ) -> Result<Answer, RunFault>
     ensures leaves { Keeps R.L.faults R.L.quiets R.L.gots R.L.held R.L.telling (R.kept rack.old) (R.kept rack.new)
-        (λ links. Leaves IsRunFailure RunFault.Rack save_terms bytes.now (R.made rack.old) (R.made rack.new) result
-        (no_pairs links)) }
+        (λ links. Leaves NoneCame IsRunFailure RunFault.Rack save_terms bytes.now (R.made rack.old) (R.made rack.new)
+        result (no_pairs links)) }
     ensures refused { IfOk result (λ answer. answer.status ≡ refused_status → rack.new ≡ rack.old) }
     ensures rack_faults { RisesOnlyAt (Err RunFault.Rack) result (R.faults rack.old) (R.faults rack.new) }
 {
@@ -67,8 +68,8 @@ pub fn apply_document<R: Rack, T: Threads + Wait + Sync, G: Gate>(
     gate: &G,
 ) -> Result<Answer, RunFault>
     ensures leaves { Keeps R.L.faults R.L.quiets R.L.gots R.L.held R.L.telling (R.kept rack.old) (R.kept rack.new)
-        (λ links. Leaves IsRunFailure RunFault.Rack apply_terms bytes.now (R.made rack.old) (R.made rack.new) result
-        (no_pairs links)) }
+        (λ links. Leaves NoneCame IsRunFailure RunFault.Rack apply_terms bytes.now (R.made rack.old) (R.made rack.new)
+        result (no_pairs links)) }
     ensures refused { IfOk result (λ answer. answer.status ≡ refused_status → rack.new ≡ rack.old) }
     ensures rack_faults { RisesOnlyAt (Err RunFault.Rack) result (R.faults rack.old) (R.faults rack.new) }
 {

@@ -6,11 +6,12 @@ use Rattle.std.specs.Result.{IsErr, IsErrAnd}
 use Rattle.lane_history.specs.Links.{LinkReport}
 use Rattle.session_run.specs.declared.session.RunFault.{RunFault}
 use Rattle.session_run.specs.declared.session.RunFault.TheVariants.{Rack}
+use Rattle.session_run.specs.Faults.{IsRunFailure}
 use Rattle.command_terms.specs.declared.answer.Answer.{Answer}
-use Rattle.command_terms.specs.Leaving.{IsRunFailure, Leaves}
+use Rattle.command_terms.specs.Leaving.{Leaves}
 use Rattle.command_terms.specs.Numbers.{told_status}
-use Rattle.command_terms.specs.Outside.{no_pairs}
-use Rattle.command_terms.proofs.Leaving.{none_served, same_Err}
+use Rattle.command_terms.specs.Outside.{NoneCame, no_pairs}
+use Rattle.command_terms.proofs.Leaving.{none_came, same_Err}
 use Rattle.load_run.specs.declared.run.Load.{Load}
 use Rattle.load_run.specs.Loading.{IsLoadOf, LoadLeaves}
 use Rattle.load_run.specs.Terms.{load_terms}
@@ -19,12 +20,12 @@ module _ (count : ℕ) (bytes : List ℕ) (made makes : ℕ) (links : List LinkR
   pub load_stopped : (fault : RunFault) (result : Result Answer RunFault) → IsErr result
       → IsErrAnd result (λ why. why ≡ fault)
       → LoadLeaves IsLoadOf count made makes (Err fault) links
-      → Leaves IsRunFailure Rack (load_terms count) bytes made makes result (no_pairs links)
+      → Leaves NoneCame IsRunFailure Rack (load_terms count) bytes made makes result (no_pairs links)
   load_stopped fault (Ok answer) fails is leaves = absurd cc
   load_stopped fault (Err why) fails is leaves = record {
     used = inr leaves.left;
     counted = leaves.counted;
-    back = none_served;
+    back = none_came;
     owed = tt;
     behind = λ other same failed. leaves.left;
     untouched = λ rack. leaves.untouched (ap Err (sym is ∙ same_Err why Rack rack));
@@ -32,12 +33,12 @@ module _ (count : ℕ) (bytes : List ℕ) (made makes : ℕ) (links : List LinkR
 
   pub load_done : (load : Load) (status : ℕ) → status ≡ told_status load.done
       → LoadLeaves IsLoadOf count made makes (Ok load) links
-      → Leaves IsRunFailure Rack (load_terms count) bytes made makes (Ok (record { status = status; text = load.text }))
-      (no_pairs links)
+      → Leaves NoneCame IsRunFailure Rack (load_terms count) bytes made makes
+      (Ok (record { status = status; text = load.text })) (no_pairs links)
   load_done load status told leaves = record {
     used = inr leaves.left;
     counted = leaves.counted;
-    back = none_served;
+    back = none_came;
     owed = inl (record { done = load.done; load = leaves.tells; told = told });
     behind = λ fault is failed. absurd cc;
     untouched = λ rack. absurd cc;

@@ -2,10 +2,11 @@
 
 ghost use Rattle.std.specs.Prelude.{◌≡◌, ◌≢◌, ◌≤◌, ℕ, List, Err, IfOk};
 ghost use Rattle.board_greeting.specs.Links.{Keeps};
+ghost use Rattle.session_run.specs.Faults.{IsRunFailure};
 ghost use Rattle.command_terms.specs.Faults.{RisesOnlyAt};
-ghost use Rattle.command_terms.specs.Leaving.{IsRunFailure, Leaves};
+ghost use Rattle.command_terms.specs.Leaving.{Leaves};
 ghost use Rattle.command_terms.specs.Numbers.{refused_status};
-ghost use Rattle.command_terms.specs.Outside.{no_pairs};
+ghost use Rattle.command_terms.specs.Outside.{NoneCame, no_pairs};
 ghost use Rattle.load_run.specs.Generated.{most_operations};
 ghost use Rattle.load_run.specs.Terms.{load_terms};
 
@@ -32,8 +33,8 @@ pub fn answer_load<R: Rack, T: Threads + Wait + Sync, G: Gate>(
     requires { count ≤ most_operations }
     ensures leaves { (bytes : List ℕ)
         → Keeps R.L.faults R.L.quiets R.L.gots R.L.held R.L.telling (R.kept rack.old) (R.kept rack.new)
-        (λ links. Leaves IsRunFailure RunFault.Rack (load_terms count) bytes (R.made rack.old) (R.made rack.new) result
-        (no_pairs links)) }
+        (λ links. Leaves NoneCame IsRunFailure RunFault.Rack (load_terms count) bytes (R.made rack.old) (R.made rack.new)
+        result (no_pairs links)) }
     ensures not_refused { IfOk result (λ answer. answer.status ≢ refused_status) }
     ensures rack_faults { RisesOnlyAt (Err RunFault.Rack) result (R.faults rack.old) (R.faults rack.new) }
 {

@@ -12,14 +12,15 @@ use Rattle.session_input.specs.Recording.{IsRecordable}
 use Rattle.session_run.specs.declared.session.RunFault.{RunFault}
 use Rattle.session_run.specs.declared.session.RunFault.TheVariants.{Rack, NoMemory}
 use Rattle.session_run.specs.Links.{AreLeft}
+use Rattle.session_run.specs.Faults.{IsRunFailure}
 use Rattle.script_plans.specs.declared.board_run.BoardRun.{BoardRun}
 use Rattle.transcript.specs.Lines.{all_good, transcript_of}
 use Rattle.command_terms.specs.declared.answer.Answer.{Answer}
-use Rattle.command_terms.specs.Leaving.{IsRunFailure, Leaves}
+use Rattle.command_terms.specs.Leaving.{Leaves}
 use Rattle.command_terms.specs.Numbers.{refused_status}
-use Rattle.command_terms.specs.Outside.{no_pairs}
+use Rattle.command_terms.specs.Outside.{NoneCame, no_pairs}
 use Rattle.command_terms.specs.Terms.{Owes}
-use Rattle.command_terms.proofs.Leaving.{none_served}
+use Rattle.command_terms.proofs.Leaving.{none_came}
 use Rattle.command_terms.proofs.Statuses.{done_is_no_refusal, told_is_done}
 use Rattle.run_laws.specs.Runs.{IsSessionRun}
 use Rattle.run_laws.specs.Steps.{CanRunSteps}
@@ -88,13 +89,13 @@ owed_by law bytes session steps links (Err why) is can records = tt
 pub record_leaves : RunsLaw → (bytes : List ℕ) (session : Session) (steps : List (List Step)) (made makes : ℕ)
     (result : Result Answer RunFault) (links : List LinkReport) → IsRecordable bytes session steps
     → CanRunSteps session steps → RecordLeaves session steps made makes result links
-    → Leaves IsRunFailure Rack record_terms bytes made makes result (no_pairs links)
+    → Leaves NoneCame IsRunFailure Rack record_terms bytes made makes result (no_pairs links)
 record_leaves law bytes session steps made makes result links is can leaves =
     let recorded : RecordedSomeOf bytes links =
     record { session = session; steps = steps; recordable = is; left = leaves.left } in record {
       used = inr recorded;
       counted = leaves.counted;
-      back = none_served;
+      back = none_came;
       owed = owed_by law bytes session steps links result is can leaves.records;
       behind = λ fault failed why. recorded;
       untouched = leaves.untouched;

@@ -13,11 +13,12 @@ ghost use Rattle.session_input.specs.Recording.{IsOneSimulated, IsSimulated};
 ghost use Rattle.board_greeting.specs.Boards.{HasMemory, IsReached, shown_by};
 ghost use Rattle.board_greeting.specs.Links.{CanBeReached, Keeps};
 ghost use Rattle.session_run.specs.Links.{AreLeft};
+ghost use Rattle.session_run.specs.Faults.{IsRunFailure};
 ghost use Rattle.run_laws.specs.Steps.{MayRun};
 ghost use Rattle.command_terms.specs.Faults.{RisesOnlyAt};
-ghost use Rattle.command_terms.specs.Leaving.{IsRunFailure, Leaves};
+ghost use Rattle.command_terms.specs.Leaving.{Leaves};
 ghost use Rattle.command_terms.specs.Numbers.{refused_status};
-ghost use Rattle.command_terms.specs.Outside.{no_pairs};
+ghost use Rattle.command_terms.specs.Outside.{NoneCame, no_pairs};
 ghost use Rattle.capture_reader.specs.CaptureText.{AreItems};
 ghost use Rattle.record_command.specs.Headline as spec;
 ghost use Rattle.record_command.specs.Steps.{RecordLeaves, WritesOf};
@@ -69,8 +70,8 @@ pub fn record_document<R: Rack, T: Threads + Wait + Sync, G: Gate>(
     gate: &G,
 ) -> Result<Answer, RunFault>
     ensures leaves { Keeps R.L.faults R.L.quiets R.L.gots R.L.held R.L.telling (R.kept rack.old) (R.kept rack.new)
-        (λ links. Leaves IsRunFailure RunFault.Rack record_terms bytes.now (R.made rack.old) (R.made rack.new) result
-        (no_pairs links)) }
+        (λ links. Leaves NoneCame IsRunFailure RunFault.Rack record_terms bytes.now (R.made rack.old) (R.made rack.new)
+        result (no_pairs links)) }
     ensures refused { IfOk result (λ answer. answer.status ≡ refused_status → rack.new ≡ rack.old) }
     ensures rack_faults { RisesOnlyAt (Err RunFault.Rack) result (R.faults rack.old) (R.faults rack.new) }
 {

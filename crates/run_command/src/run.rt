@@ -4,10 +4,11 @@ ghost use Rattle.std.specs.Prelude.{◌≡◌, ◌≢◌, ◌≤◌, Err, IfOk};
 ghost use Rattle.board_greeting.specs.Links.{Keeps};
 ghost use Rattle.transcript.specs.Lines as lines;
 ghost use Rattle.transcript.specs.Text as texts;
+ghost use Rattle.session_run.specs.Faults.{IsRunFailure};
 ghost use Rattle.command_terms.specs.Faults.{RisesOnlyAt};
-ghost use Rattle.command_terms.specs.Leaving.{IsRunFailure, Leaves};
+ghost use Rattle.command_terms.specs.Leaving.{Leaves};
 ghost use Rattle.command_terms.specs.Numbers.{refused_status};
-ghost use Rattle.command_terms.specs.Outside.{no_pairs};
+ghost use Rattle.command_terms.specs.Outside.{NoneCame, no_pairs};
 ghost use Rattle.run_laws.specs.Steps.{MayRun};
 ghost use Rattle.run_command.specs.Steps.{RunLeaves};
 ghost use Rattle.run_command.specs.Terms.{run_terms};
@@ -43,8 +44,8 @@ pub fn run_document<R: Rack, T: Threads + Wait + Sync, G: Gate>(
     gate: &G,
 ) -> Result<Answer, RunFault>
     ensures leaves { Keeps R.L.faults R.L.quiets R.L.gots R.L.held R.L.telling (R.kept rack.old) (R.kept rack.new)
-        (λ links. Leaves IsRunFailure RunFault.Rack run_terms bytes.now (R.made rack.old) (R.made rack.new) result
-        (no_pairs links)) }
+        (λ links. Leaves NoneCame IsRunFailure RunFault.Rack run_terms bytes.now (R.made rack.old) (R.made rack.new)
+        result (no_pairs links)) }
     ensures refused { IfOk result (λ answer. answer.status ≡ refused_status → rack.new ≡ rack.old) }
     ensures rack_faults { RisesOnlyAt (Err RunFault.Rack) result (R.faults rack.old) (R.faults rack.new) }
 {

@@ -2,6 +2,7 @@
 use Rattle.std.proofs.Common.{◌≡◌, inl, inr, ℕ, ◌+◌, List, [], ◌∷◌, length}
 use Rattle.std.proofs.Common.{Result, Ok, Err, IfOk, suc}
 use Rattle.std.proofs.Common.{refl, ap, ◌∙◌}
+use Rattle.ipb_outside.specs.Pairs.{PairReport}
 use Rattle.hub_lane.specs.declared.answers.BoardState.{BoardState}
 use Rattle.hub_session.specs.declared.served.Served.{Served}
 use Rattle.session_serve.specs.Boards.{states_of}
@@ -10,9 +11,10 @@ use Rattle.script_lang.specs.declared.session.Session.{Session}
 use Rattle.session_input.specs.Deserved.{IsServable, session_part}
 use Rattle.session_serve.specs.declared.report.ServeFault.{ServeFault}
 use Rattle.session_serve.specs.declared.report.ServeFault.TheVariants.{Rack}
-use Rattle.session_serve.specs.Pairs.{PairReport}
+use Rattle.session_serve.specs.Faults.{IsServeFailure}
+use Rattle.session_serve.specs.Serving.{AreBack}
 use Rattle.command_terms.specs.declared.answer.Answer.{Answer}
-use Rattle.command_terms.specs.Leaving.{IsServeFailure, Leaves}
+use Rattle.command_terms.specs.Leaving.{Leaves}
 use Rattle.command_terms.specs.Outside.{GivenBack}
 use Rattle.command_terms.specs.Terms.{Owes}
 use Rattle.serve_command.specs.Below.{ServeLaws}
@@ -71,7 +73,7 @@ service_owed laws count bytes session given (Err why) can serves = tt
 pub serve_leaves : ServeLaws → (count : ℕ) (bytes : List ℕ) (session : Session) (made makes : ℕ)
     (result : Result Answer ServeFault) (given : GivenBack) → IsServable bytes session
     → ServeLeaves session count made makes result given
-    → Leaves IsServeFailure Rack (serve_terms count) bytes made makes result given
+    → Leaves AreBack IsServeFailure Rack (serve_terms count) bytes made makes result given
 serve_leaves laws count bytes session made makes result given can leaves =
     let linked : IsLinkedTo bytes given.links =
     record { session = session; servable = can; linked = leaves.linked } in record {

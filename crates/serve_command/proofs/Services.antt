@@ -4,6 +4,7 @@ use Rattle.std.proofs.Common.{Result, Ok, Err}
 use Rattle.std.proofs.Common.{sym, ap, ◌∙◌, subst}
 use Rattle.std.specs.List.{AllByRecursion}
 use Rattle.std.specs.Result.{IsErr, IsErrAnd}
+use Rattle.ipb_outside.specs.Pairs.{PairReport}
 use Rattle.board_node.specs.declared.spec.BoardSpec.{BoardSpec}
 use Rattle.world_model.specs.Settings.{Limits}
 use Rattle.lane_history.specs.Links.{IsUntouched, LinkReport}
@@ -16,7 +17,6 @@ use Rattle.session_serve.specs.declared.report.ServeFault.TheVariants.{NoMemory,
 use Rattle.session_serve.specs.Boards.{AreLinksTo, states_of}
 use Rattle.session_serve.specs.Connections.{Conversation, HaveExchanged, WereServed}
 use Rattle.client_history.specs.Boards.{AreServedOver, IsServedOver, ServedBoard}
-use Rattle.session_serve.specs.Pairs.{PairReport}
 use Rattle.session_serve.specs.Serving.{AreBack, AreServed, HadMemory}
 use Rattle.server_summary.specs.Text.{all_closed, serve_status, serve_text}
 use Rattle.command_terms.specs.declared.answer.Answer.{Answer}

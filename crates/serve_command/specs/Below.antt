@@ -1,6 +1,7 @@
 -- What laws of the crates below say of boards that were served, put together. No public clause speaks of it.
 use Rattle.std.specs.Prelude.{ℕ, List}
 use Rattle.std.specs.List.{AllByRecursion}
+use Rattle.ipb_outside.specs.Pairs.{PairReport}
 use Rattle.lane_history.specs.Links.{LinkReport}
 use Rattle.script_lang.specs.declared.session.Session.{Session}
 use Rattle.script_lang.specs.Document.{IsSession}
@@ -12,7 +13,6 @@ use Rattle.world_model.specs.Settings.{Limits}
 use Rattle.client_history.specs.Boards.{AreServedOver, ServedBoard}
 use Rattle.hub_session.specs.declared.served.Served.{Served}
 use Rattle.session_serve.specs.Boards.{states_of}
-use Rattle.session_serve.specs.Pairs.{PairReport}
 use Rattle.session_serve.specs.Serving.{AreServed, HadMemory}
 use Rattle.server_summary.specs.Answers.{AllTellAnswers, HasWrittenAll}
 use Rattle.server_summary.specs.Frames.{HasUnaskedCodes, OfEachBoard, OfEachFrame}

@@ -59,6 +59,7 @@
 --   the links, at every status   IsLinkedTo, below                       session_serve/specs/Boards
 use Rattle.std.specs.Prelude.{◌≡◌, ℕ, ◌≤◌, List, [], ◌∷◌, length, None, IfSome}
 use Rattle.std.specs.List.{AllByRecursion}
+use Rattle.ipb_outside.specs.Pairs.{PairReport}
 use Rattle.board_node.specs.declared.spec.BoardSpec.{BoardSpec}
 use Rattle.world_model.specs.Board.{executed}
 use Rattle.world_model.specs.Settings.{Limits}
@@ -76,7 +77,6 @@ use Rattle.hub_session.specs.declared.served.Served.{Served}
 use Rattle.hub_session.specs.Codes.{replied_code, timed_out_code, unsent_code}
 use Rattle.session_serve.specs.Boards.{AreLinksTo, states_of}
 use Rattle.session_serve.specs.Connections.{Conversation}
-use Rattle.session_serve.specs.Pairs.{PairReport}
 use Rattle.session_serve.specs.Serving.{AreServed, HadMemory}
 use Rattle.server_summary.specs.Answers.{AllTellAnswers, HasWrittenAll}
 use Rattle.server_summary.specs.Frames.{FramesGivenUpOnlyAfterRounds, HasLane, HasUnaskedCodes, IsAnsweredRightly}

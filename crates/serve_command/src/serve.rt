@@ -2,11 +2,13 @@
 
 ghost use Rattle.std.specs.Prelude.{◌≡◌, ◌≢◌, ◌≤◌, Err, IfOk, IsOk, IsOkAnd};
 ghost use Rattle.ipb_outside.specs.Doors.{Listens};
+ghost use Rattle.ipb_outside.specs.Pairs.{GivesBack};
 ghost use Rattle.board_greeting.specs.Links.{Keeps};
-ghost use Rattle.session_serve.specs.Pairs.{GivesBack};
+ghost use Rattle.session_serve.specs.Faults.{IsServeFailure};
+ghost use Rattle.session_serve.specs.Serving.{AreBack};
 ghost use Rattle.server_summary.specs.Text as texts;
 ghost use Rattle.command_terms.specs.Faults.{RisesOnlyAt};
-ghost use Rattle.command_terms.specs.Leaving.{IsServeFailure, Leaves};
+ghost use Rattle.command_terms.specs.Leaving.{Leaves};
 ghost use Rattle.command_terms.specs.Numbers.{refused_status};
 ghost use Rattle.serve_command.specs.Steps.{MayServe, ServeLeaves};
 ghost use Rattle.serve_command.specs.Terms.{serve_terms};
@@ -44,7 +46,7 @@ pub fn serve_document<R: Rack, D: Door, T: Threads + Wait + Sync>(
     ensures leaves { Keeps R.L.faults R.L.quiets R.L.gots R.L.held R.L.telling (R.kept rack.old) (R.kept rack.new)
         (λ links. GivesBack D.Incoming.left D.Incoming.faults D.Outgoing.written D.Outgoing.faults D.Outgoing.ended
         (D.coming door.old) (D.coming door.new) (D.kept door.old) (D.kept door.new)
-        (λ came back. Leaves IsServeFailure ServeFault.Rack (serve_terms count) bytes.now (R.made rack.old)
+        (λ came back. Leaves AreBack IsServeFailure ServeFault.Rack (serve_terms count) bytes.now (R.made rack.old)
         (R.made rack.new) result (record { links = links; came = came; back = back }))) }
     ensures refused { IfOk result (λ answer. answer.status ≡ refused_status
         → (rack.new ≡ rack.old) × (door.new ≡ door.old)) }

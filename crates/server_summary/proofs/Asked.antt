@@ -1,13 +1,13 @@
 -- The frames of connections that were served: the hub was asked for each body that one has for a lane.
 use Rattle.std.proofs.Common.{◌≡◌, ℕ, ◌+◌, List, [], ◌∷◌, ◌++◌, Option, Some, None, subst, ap, ◌∙◌}
 use Rattle.std.specs.List.{AllByRecursion}
+use Rattle.ipb_outside.specs.Pairs.{PairReport}
 use Rattle.hub_lane.specs.declared.answers.BoardState.{BoardState}
 use Rattle.hub_session.specs.declared.got.Got.{Got}
 use Rattle.hub_session.specs.declared.got.Got.TheVariants.{NotAsked, Refused, Came}
 use Rattle.hub_session.specs.declared.served.Served.{Served}
 use Rattle.hub_session.specs.Exchanges.{Exchange, IsExchange, IsGotFor, LaneRequest, request_of}
 use Rattle.session_serve.specs.Connections.{Conversation, HasExchanged, HaveExchanged, exchanges_of}
-use Rattle.session_serve.specs.Pairs.{PairReport}
 use Rattle.server_summary.proofs.OneFrame.{IsAsked, IsAskedFor}
 
 -- so of each frame of a connection

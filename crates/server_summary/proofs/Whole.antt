@@ -1,6 +1,7 @@
 -- Connections that ended without a fault of writing and without want of memory wrote all answers.
 use Rattle.std.proofs.Common.{◌≡◌, ◌≢◌, ℕ, ◌+◌, List, [], ◌∷◌, Option, refl, sym, ◌∙◌}
 use Rattle.std.specs.List.{AllByRecursion}
+use Rattle.ipb_outside.specs.Pairs.{PairReport}
 use Rattle.hub_lane.specs.declared.answers.BoardState.{BoardState}
 use Rattle.hub_session.specs.declared.served.Served.{Served}
 use Rattle.hub_session.specs.declared.served.SessionEnd.{SessionEnd}
@@ -8,7 +9,6 @@ use Rattle.hub_session.specs.declared.served.SessionEnd.TheVariants as ends
 use Rattle.hub_session.specs.Exchanges.{Exchange}
 use Rattle.hub_session.specs.Serving.{IsPartAt, Unanswered}
 use Rattle.session_serve.specs.Connections.{Conversation, HasExchanged, HaveExchanged}
-use Rattle.session_serve.specs.Pairs.{PairReport}
 use Rattle.session_serve.specs.Serving.{HadMemory}
 use Rattle.server_summary.specs.Answers.{HasWrittenAll}
 

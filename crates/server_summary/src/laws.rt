@@ -2,6 +2,7 @@
 
 ghost use Rattle.std.specs.Prelude.{◌≡◌, ℕ, ◌≤◌, List, None, IfSome};
 ghost use Rattle.std.specs.List.{AllByRecursion};
+ghost use Rattle.ipb_outside.specs.Pairs.{PairReport};
 ghost use Rattle.board_node.specs.declared.spec.BoardSpec.{BoardSpec};
 ghost use Rattle.world_model.specs.Board.{executed};
 ghost use Rattle.world_model.specs.Settings.{Limits};
@@ -11,7 +12,6 @@ ghost use Rattle.transcript.specs.declared.line.BoardLine.{BoardLine};
 ghost use Rattle.hub_session.specs.declared.served.Served.{Served};
 ghost use Rattle.hub_session.specs.Codes.{replied_code, timed_out_code, unsent_code};
 ghost use Rattle.session_serve.specs.Boards.{states_of};
-ghost use Rattle.session_serve.specs.Pairs.{PairReport};
 ghost use Rattle.session_serve.specs.Serving.{AreServed, HadMemory};
 ghost use Rattle.server_summary.specs.Answers.{AllTellAnswers, HasWrittenAll};
 ghost use Rattle.server_summary.specs.Frames.{FramesGivenUpOnlyAfterRounds, HasLane, HasUnaskedCodes};

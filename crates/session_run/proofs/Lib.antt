@@ -15,3 +15,4 @@ pub mod Sessions
 pub mod Pairs
 pub mod Plans
 pub mod PartLists
+pub mod Faults

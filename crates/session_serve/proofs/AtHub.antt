@@ -10,6 +10,7 @@ use Rattle.ipb_base.specs.Lists.{IsPrefix}
 use Rattle.ipb_base.specs.Numbers.{payload_of}
 use Rattle.turn_pass.specs.Pass.{Joined, Knowledge, Stands, TurnId, first_knowledge, kept_of}
 use Rattle.turn_pass.specs.Record.{Begins, Record}
+use Rattle.ipb_outside.specs.Pairs.{PairReport}
 use Rattle.world_core.specs.Telling.{Telling}
 use Rattle.world_model.specs.Settings.{Limits}
 use Rattle.lane_record.specs.declared.item.Item.{Item}
@@ -41,7 +42,6 @@ use Rattle.board_greeting.specs.Boards.{HasNoEntry, head_shown}
 use Rattle.session_serve.specs.Connections.{Conversation, HaveExchanged, exchanges_of}
 use Rattle.session_serve.specs.Hubs.{AllBack, AreServedAt, HasServedAll, KeepsHead, served_of, pairs_of, seats_of}
 use Rattle.session_serve.specs.Hubs.{IsServedLane, submitted_on}
-use Rattle.session_serve.specs.Pairs.{PairReport}
 use Rattle.session_serve.specs.Refusals.{AreFilledBefore, AreFramesByRules}
 use Rattle.session_serve.specs.Seats.{AreOfClientsFrom, ArePassesOn, AreTakenIn, EachDone, IsDone, IsFresh, IsOpen}
 use Rattle.session_serve.specs.Seats.{with_seats}

@@ -7,6 +7,7 @@ use Rattle.std.specs.Vec.Iter.{into_iter_items}
 use Rattle.turn_pass.specs.Pass.{Knowledge, TurnId}
 use Rattle.ipb_base.proofs.AllLemmas.{front_of_all, back_of_all}
 use Rattle.ipb_outside.specs.Doors.{Opens}
+use Rattle.ipb_outside.specs.Pairs.{Came, PairReport, Went}
 use Rattle.board_history.proofs.Lists.{all_at}
 use Rattle.hub_lane.specs.declared.answers.BoardState.{BoardState}
 use Rattle.hub_multiplexer.specs.Ends.{HasTakenIn}
@@ -14,7 +15,6 @@ use Rattle.hub_multiplexer.specs.Seats.{MasterState, SeatState}
 use Rattle.hub_session.specs.declared.served.Served.{Served}
 use Rattle.session_serve.specs.Connections.{WereServed}
 use Rattle.session_serve.specs.Hubs.{AllBack, HasServedAll, served_of, pairs_of, seats_of}
-use Rattle.session_serve.specs.Pairs.{Came, PairReport, Went}
 use Rattle.session_serve.specs.declared.serving.Ended.{Ended}
 use Rattle.session_serve.specs.Seats.{AreOfClientsFrom, AreTakenIn, Begun, EachDone, HasServed, IsBack, IsDone}
 use Rattle.session_serve.specs.Seats.{IsDoneOf, IsFresh}

@@ -4,7 +4,7 @@ use Rattle.std.proofs.Common.{sym, ap}
 use Rattle.std.proofs.Common.{subst, suc, zero, arith, append_assoc, append-nil}
 use Rattle.std.specs.List.{AllByRecursion, AllZip, slice_get}
 use Rattle.std.proofs.lemmas.Option.{none-some}
-use Rattle.session_serve.specs.Pairs.{Came, Went}
+use Rattle.ipb_outside.specs.Pairs.{Came, Went}
 
 pub came_none : {C : Type 0} (old : Option (List C)) → Came old old []
 came_none None = refl

@@ -7,6 +7,7 @@ use Rattle.std.specs.List.{AllByRecursion, slice_get}
 use Rattle.ipb_base.specs.Numbers.{payload_of}
 use Rattle.turn_pass.specs.Pass.{Knowledge}
 use Rattle.turn_pass.specs.Record.{Record}
+use Rattle.ipb_outside.specs.Pairs.{PairReport}
 use Rattle.world_model.specs.Hub.{Hub}
 use Rattle.world_core.specs.Telling.{Telling}
 use Rattle.world_model.specs.Settings.{Limits}
@@ -48,7 +49,6 @@ use Rattle.board_greeting.proofs.Lanes.{lane_back}
 use Rattle.session_serve.specs.Boards.{AreLinksTo, lines_of, states_from, states_of}
 use Rattle.hub_session.specs.declared.served.Served.{Served}
 use Rattle.session_serve.specs.Connections.{Conversation, HaveExchanged, submissions_to}
-use Rattle.session_serve.specs.Pairs.{PairReport}
 use Rattle.session_serve.specs.Refusals.{AreFilledBefore, AreFramesByRules}
 use Rattle.session_serve.specs.Serving.{AreServed}
 use Rattle.session_serve.specs.Finish.{IsSound, lane_line, lines_in, link_in}

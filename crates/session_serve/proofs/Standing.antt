@@ -4,6 +4,7 @@ use Rattle.std.proofs.Common.{ap, subst, arith}
 use Rattle.std.proofs.Common.{append_assoc, Bool, Option}
 use Rattle.std.specs.List.{AllByRecursion}
 use Rattle.std.proofs.lemmas.List.{drop_more}
+use Rattle.ipb_outside.specs.Pairs.{GivesBack, PairReport, pair_shown}
 use Rattle.hub_lane.specs.declared.greeting.Greeted.{Greeted}
 use Rattle.hub_lane.specs.declared.greeting.Greeted.TheVariants.{Ready, Silent, Down, NoMemory}
 use Rattle.hub_lane.specs.declared.answers.BoardState.{BoardState}
@@ -11,7 +12,6 @@ use Rattle.hub_session.specs.Serving.{IsLaneBelow}
 use Rattle.script_plans.specs.declared.greeting.Greeting.{Greeting}
 use Rattle.board_greeting.specs.Places.{lanes_in}
 use Rattle.session_serve.specs.Boards.{states_from}
-use Rattle.session_serve.specs.Pairs.{GivesBack, PairReport, pair_shown}
 use Rattle.session_serve.specs.Prepared.{lane_after, state_at, told_by}
 use Rattle.session_serve.specs.Serving.{AreBack, AreBackFrom}
 
@@ -85,3 +85,7 @@ back_as_told {I} {O} left read_faults written write_faults ended coming coming_n
       back.3,
       (told, subst (λ (s : List BoardState). AreBackFrom s (map shows back.0) (map shows back.1)) is back.4),
     )
+
+-- no pair came, so none went back
+pub none_served : AreBack [] []
+none_served = ([], record { served = []; each = tt })

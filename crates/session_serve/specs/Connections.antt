@@ -1,6 +1,7 @@
 -- What the connections of a door exchanged with the boards. Profile.
 use Rattle.std.specs.Prelude.{◌≡◌, ◌≢◌, ℕ, ◌+◌, true, List, [], ◌∷◌, ◌++◌, None}
 use Rattle.ipb_base.specs.Faults.{Rose}
+use Rattle.ipb_outside.specs.Pairs.{PairReport}
 use Rattle.lane_record.specs.Submissions.{Submission}
 use Rattle.hub_lane.specs.declared.answers.BoardState.{BoardState}
 use Rattle.hub_lane.specs.declared.answers.BoardState.TheVariants.{Lane, Silent, Down}
@@ -9,7 +10,6 @@ use Rattle.hub_session.specs.declared.served.Served.{Served}
 use Rattle.hub_session.specs.declared.served.SessionEnd.TheVariants as ends
 use Rattle.hub_session.specs.Exchanges.{Exchange, submissions_on}
 use Rattle.hub_session.specs.Serving.{IsServed}
-use Rattle.session_serve.specs.Pairs.{PairReport}
 
 -- The exchanges of a connection: those whose answers were written whole, in order, and then those whose answers were
 -- not.

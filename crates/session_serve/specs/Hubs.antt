@@ -4,6 +4,7 @@ use Rattle.std.specs.Prelude.{◌≡◌, ℕ, List, [], ◌++◌, map, Option}
 use Rattle.std.specs.List.{AllByRecursion}
 use Rattle.ipb_base.specs.Numbers.{payload_of}
 use Rattle.turn_pass.specs.Pass.{Knowledge, TurnId}
+use Rattle.ipb_outside.specs.Pairs.{Came, PairReport, Went}
 use Rattle.world_core.specs.Telling.{Telling}
 use Rattle.lane_record.specs.Submissions.{Submission}
 use Rattle.hub_lane.specs.Lanes.{LaneState}
@@ -19,7 +20,6 @@ use Rattle.hub_session.specs.Exchanges.{submissions_on}
 use Rattle.client_history.specs.Connections.{WereServedOn}
 use Rattle.client_history.specs.Planned.{KeepLimits}
 use Rattle.session_serve.specs.Connections.{Conversation, HaveExchanged, exchanges_of}
-use Rattle.session_serve.specs.Pairs.{Came, PairReport, Went}
 use Rattle.session_serve.specs.Refusals.{AreFilledBefore, AreFramesByRules}
 use Rattle.session_serve.specs.Seats.{AreOfClientsFrom, AreTakenIn, EachDone, IsFresh}
 use Rattle.session_serve.specs.declared.connection.Done.{Done}

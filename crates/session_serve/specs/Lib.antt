@@ -1,4 +1,3 @@
-pub mod Pairs
 pub mod Connections
 pub mod Refusals
 pub mod Boards

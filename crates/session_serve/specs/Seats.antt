@@ -4,6 +4,7 @@ use Rattle.std.specs.Prelude.{◌≡◌, ℕ, ◌+◌, List, [], ◌∷◌, ◌+
 use Rattle.std.specs.List.{AllByRecursion, slice_get}
 use Rattle.std.specs.Vec.Iter.{into_iter_items}
 use Rattle.turn_pass.specs.Pass.{Joined, Knowledge, TurnId, kept_of}
+use Rattle.ipb_outside.specs.Pairs.{Came, PairReport}
 use Rattle.lane_record.specs.Coding.{Head}
 use Rattle.client_history.specs.Clients.{came_with}
 use Rattle.hub_multiplexer.specs.Seats.{MasterState, SeatState}
@@ -13,7 +14,6 @@ use Rattle.hub_lane.specs.declared.answers.BoardState.{BoardState}
 use Rattle.hub_session.specs.declared.served.Served.{Served}
 use Rattle.hub_session.specs.Serving.{IsUnused}
 use Rattle.session_serve.specs.Connections.{IsServedUnder}
-use Rattle.session_serve.specs.Pairs.{Came, PairReport}
 use Rattle.session_serve.specs.declared.connection.Done.{Done}
 use Rattle.session_serve.specs.declared.serving.Ended.{Ended}
 

@@ -1,5 +1,6 @@
 -- What serving connections at the boards of a document does. Profile.
 use Rattle.std.specs.Prelude.{◌≡◌, ◌≢◌, ℕ, List, map}
+use Rattle.ipb_outside.specs.Pairs.{PairReport}
 use Rattle.board_node.specs.declared.spec.BoardSpec.{BoardSpec}
 use Rattle.world_model.specs.Settings.{Limits}
 use Rattle.script_plans.specs.declared.greeting.Greeting.{Greeting}
@@ -12,7 +13,6 @@ use Rattle.client_history.specs.Boards.{AreServedOver, ServedBoard}
 use Rattle.client_history.specs.Planned.{KeepLimits}
 use Rattle.session_serve.specs.Boards.{IsLiveAt, lines_of, states_from, states_of}
 use Rattle.session_serve.specs.Connections.{Conversation, HaveExchanged, WereServed, submissions_to}
-use Rattle.session_serve.specs.Pairs.{PairReport}
 use Rattle.session_serve.specs.Refusals.{AreFilledBefore, AreFramesByRules}
 
 -- Connections were served at these boards: the links show this after it, and the pairs showed this before and after.

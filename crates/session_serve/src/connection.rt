@@ -2,8 +2,8 @@
 
 ghost use Rattle.std.specs.Prelude.{◌≡◌, length};
 ghost use Rattle.std.specs.List.{AllByRecursion};
+ghost use Rattle.ipb_outside.specs.Pairs.{pair_shown};
 ghost use Rattle.hub_session.specs.Serving.{IsLaneBelow, IsUnused};
-ghost use Rattle.session_serve.specs.Pairs.{pair_shown};
 ghost use Rattle.session_serve.specs.Seats.{IsDone};
 
 use crate::states::BoardStates;
@@ -114,7 +114,7 @@ pub(crate) struct Running<S: Source + Drop, O: Sink + Drop> {
 
 impl<S: Source + Drop, O: Sink + Drop> Model for Running<S, O> {
     ghost use Rattle.std.specs.Prelude.{◌≡◌, MatchResult};
-    ghost use Rattle.session_serve.specs.Pairs.{pair_shown};
+    ghost use Rattle.ipb_outside.specs.Pairs.{pair_shown};
     ghost use Rattle.session_serve.specs.Seats.{Begun, IsDone};
 
     ghost Value = { Begun S O };

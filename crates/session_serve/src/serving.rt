@@ -5,8 +5,8 @@ ghost use Rattle.std.specs.List.{AllByRecursion, AllZip};
 ghost use Rattle.std.specs.Vec.{vec_capacity};
 ghost use Rattle.std.specs.Vec.Iter.{into_iter_items};
 ghost use Rattle.ipb_base.specs.Faults.{Rose};
+ghost use Rattle.ipb_outside.specs.Pairs.{Came, pair_shown};
 ghost use Rattle.hub_session.specs.Serving.{IsLaneBelow};
-ghost use Rattle.session_serve.specs.Pairs.{Came, pair_shown};
 ghost use Rattle.session_serve.specs.Seats.{HasServed, IsDoneOf, IsFresh};
 
 use crate::connection::{Connection, Done, Running, begin};

@@ -4,11 +4,11 @@ ghost use Rattle.std.specs.Prelude.{◌≡◌, ◌≢◌, ◌^◌, ◌<◌, ◌�
 ghost use Rattle.std.specs.List.{AllByRecursion};
 ghost use Rattle.ipb_base.specs.Faults.{Rose};
 ghost use Rattle.ipb_outside.specs.Doors.{Listens};
+ghost use Rattle.ipb_outside.specs.Pairs.{GivesBack};
 ghost use Rattle.lane_history.specs.Links.{IsUntouched};
 ghost use Rattle.board_greeting.specs.Boards.{AreReached, HasMemory, HasRoom, shown_by};
 ghost use Rattle.board_greeting.specs.Links.{CanBeReached, Keeps};
 ghost use Rattle.session_serve.specs.Boards.{AreLinksTo};
-ghost use Rattle.session_serve.specs.Pairs.{GivesBack};
 ghost use Rattle.session_serve.specs.Prepared.{IsReady};
 ghost use Rattle.session_serve.specs.Serving.{AreBack, AreServed, HadMemory};
 

@@ -1,8 +1,9 @@
 use Rattle.std.proofs.Common.{◌<◌, ◌^◌, length, map, rules, subst, arith}
 use Rattle.session_run.specs.declared.session.RunFault.TheVariants.{NoMemory, Rack}
+use Rattle.session_run.specs.Faults.{IsRunFailure}
 use Rattle.board_greeting.specs.Boards.{shown_by}
-use Rattle.command_terms.specs.Leaving.{IsRunFailure}
-use Rattle.command_terms.proofs.Leaving.{error_left, failure_left, refusal_left}
+use Rattle.command_terms.specs.Outside.{NoneCame}
+use Rattle.command_terms.proofs.Leaving.{error_left, failure_left, none_came, refusal_left}
 use Rattle.run_laws.specs.Steps.{MayRun}
 use Rattle.config_input.specs.Deserved.{BreaksInApply}
 use Rattle.config_input.specs.Work.{apply_command}
@@ -28,8 +29,8 @@ pub returns-in_err-refused-in-Err-Refused-clause-leaves :
     goal.returns-in_err-refused-in-Err-Refused-clause-leaves
 returns-in_err-refused-in-Err-Refused-clause-leaves g c =
     let shown = shown_by g.R.L.Link.faults g.R.L.Link.quiets g.R.L.Link.gots g.R.L.Link.held g.R.L.Link.telling in
-    failure_left IsRunFailure Rack shown _ apply_terms c.args.bytes.now _ c.from_residual.result NoMemory
-    c.from_residual.ensures.0 c.from_residual.ensures.1 (λ failed. failed)
+    failure_left NoneCame none_came IsRunFailure Rack shown _ apply_terms c.args.bytes.now _
+    c.from_residual.result NoMemory c.from_residual.ensures.0 c.from_residual.ensures.1 (λ failed. failed)
 
 pub returns-in-Ok-clause-leaves : goal.returns-in-Ok-clause-leaves
 returns-in-Ok-clause-leaves g c =
@@ -66,10 +67,10 @@ returns-in_ok-refused-in-Err-Refused-clause-leaves g c =
       deserved = deserved;
       spelled = c.in_ok-refused-in-Err-Refused.ensures.text;
     } in
-    refusal_left IsRunFailure Rack shown _ apply_terms c.args.bytes.now _ answer refused
+    refusal_left NoneCame none_came IsRunFailure Rack shown _ apply_terms c.args.bytes.now _ answer refused
     c.in_ok-refused-in-Err-Refused.ensures.status
 
 pub returns-in-Err-NoMemory-clause-leaves : goal.returns-in-Err-NoMemory-clause-leaves
 returns-in-Err-NoMemory-clause-leaves g c =
     let shown = shown_by g.R.L.Link.faults g.R.L.Link.quiets g.R.L.Link.gots g.R.L.Link.held g.R.L.Link.telling in
-    error_left IsRunFailure Rack shown _ apply_terms c.args.bytes.now _ NoMemory (λ failed. failed)
+    error_left NoneCame none_came IsRunFailure Rack shown _ apply_terms c.args.bytes.now _ NoMemory (λ failed. failed)

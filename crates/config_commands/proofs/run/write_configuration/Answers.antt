@@ -4,10 +4,11 @@ use Rattle.lane_history.specs.Links.{IsUntouched}
 use Rattle.lane_history.specs.Runs.{AreRunsOver}
 use Rattle.script_lang.specs.declared.session.Session.{Session}
 use Rattle.session_run.specs.Links.{AreLeft}
+use Rattle.session_run.proofs.Faults.{no_memory_is_no_rack}
 use Rattle.transcript.specs.Lines.{client_lines, transcript_of, run_status}
 use Rattle.config_store.specs.Text.{state_text}
 use Rattle.board_greeting.specs.Boards.{shown_by}
-use Rattle.command_terms.proofs.Leaving.{at_links, no_memory_is_no_rack}
+use Rattle.command_terms.proofs.Leaving.{at_links}
 use Rattle.config_commands.specs.Steps.{first_of}
 use Rattle.config_commands.proofs.Leaving.{run_failed, run_written}
 use Rattle.config_commands.proofs.run.write_configuration.Goals as goal

@@ -9,9 +9,10 @@ use Rattle.lane_history.specs.Runs.{AreRunsOver}
 use Rattle.load_run.specs.Generated.{boards, steps}
 use Rattle.load_run.specs.Summary.{all_done, summary_of, summary_text}
 use Rattle.session_run.specs.Links.{AreLeft}
+use Rattle.session_run.proofs.Faults.{no_memory_is_no_rack}
 use Rattle.transcript.specs.Lines.{transcript_of}
 use Rattle.load_run.specs.Loading.{PrintsLoad}
-use Rattle.command_terms.proofs.Leaving.{at_links, no_memory_is_no_rack}
+use Rattle.command_terms.proofs.Leaving.{at_links}
 use Rattle.load_run.proofs.Loads.{load_failed, load_told}
 use Rattle.load_run.proofs.run.run_generated.Goals as goal
 

@@ -4,7 +4,7 @@ use Rattle.board_node.specs.declared.spec.BoardSpec.{BoardSpec}
 use Rattle.board_greeting.specs.Boards.{shown_by}
 use Rattle.session_run.specs.declared.session.RunFault.TheVariants.{NoMemory}
 use Rattle.session_run.specs.Links.{AreLeft, CanBeReached}
-use Rattle.command_terms.proofs.Leaving.{no_memory_is_no_rack}
+use Rattle.session_run.proofs.Faults.{no_memory_is_no_rack}
 use Rattle.record_command.proofs.Leaving.{record_failed, record_written}
 use Rattle.record_command.proofs.Tapped.{at_first, one_board, one_is_one, ran_for, records_of}
 use Rattle.record_command.proofs.record.recorded.Goals as goal

@@ -4,10 +4,11 @@ use Rattle.lane_history.specs.Links.{IsUntouched}
 use Rattle.lane_history.specs.Runs.{AreRunsOver}
 use Rattle.script_lang.specs.declared.session.Session.{Session}
 use Rattle.session_run.specs.Links.{AreLeft}
+use Rattle.session_run.proofs.Faults.{no_memory_is_no_rack}
 use Rattle.transcript.specs.Lines.{transcript_of, run_status}
 use Rattle.transcript.specs.Text.{transcript_text}
 use Rattle.board_greeting.specs.Boards.{shown_by}
-use Rattle.command_terms.proofs.Leaving.{at_links, no_memory_is_no_rack}
+use Rattle.command_terms.proofs.Leaving.{at_links}
 use Rattle.run_command.proofs.Leaving.{run_failed, run_printed}
 use Rattle.run_command.proofs.run.transcript.Goals as goal
 

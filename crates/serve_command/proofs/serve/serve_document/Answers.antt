@@ -2,8 +2,11 @@ use Rattle.std.proofs.Common.{inl, refl, rules}
 use Rattle.session_input.specs.Deserved.{BreaksInServe, Deserves}
 use Rattle.board_greeting.specs.Boards.{shown_by}
 use Rattle.session_serve.specs.declared.report.ServeFault.TheVariants.{NoMemory, Rack}
+use Rattle.session_serve.specs.Faults.{IsServeFailure}
+use Rattle.session_serve.specs.Serving.{AreBack}
+use Rattle.session_serve.proofs.Standing.{none_served}
 use Rattle.command_terms.specs.Documents.{IsRefusedDocument}
-use Rattle.command_terms.specs.Leaving.{IsServeFailure, Leaves}
+use Rattle.command_terms.specs.Leaving.{Leaves}
 use Rattle.command_terms.proofs.Leaving.{error_left, failure_left, refusal_left}
 use Rattle.command_terms.proofs.Pairs.{therefore, without_pairs}
 use Rattle.serve_command.specs.Steps.{ServeLeaves}
@@ -26,8 +29,8 @@ returns-in_err-refused-in-Err-Refused-clause-leaves g c =
     without_pairs shown g.D.Incoming.Source.left g.D.Incoming.Source.faults
     g.D.Outgoing.Sink.written g.D.Outgoing.Sink.faults g.D.Outgoing.Sink.ended
     _ _ _ _ _ _ refl refl
-    (Leaves IsServeFailure Rack (serve_terms c.args.count) c.args.bytes.now made made c.from_residual.result)
-    (failure_left IsServeFailure Rack shown _ (serve_terms c.args.count) c.args.bytes.now _
+    (Leaves AreBack IsServeFailure Rack (serve_terms c.args.count) c.args.bytes.now made made c.from_residual.result)
+    (failure_left AreBack none_served IsServeFailure Rack shown _ (serve_terms c.args.count) c.args.bytes.now _
     c.from_residual.result NoMemory c.from_residual.ensures.0 c.from_residual.ensures.1 (λ failed. failed))
 
 pub returns-in-Ok-clause-leaves : goal.returns-in-Ok-clause-leaves
@@ -39,7 +42,7 @@ returns-in-Ok-clause-leaves g c =
     g.D.Outgoing.Sink.written g.D.Outgoing.Sink.faults g.D.Outgoing.Sink.ended
     _ _ _ _ _ _
     (ServeLeaves c.in-Ok.session c.args.count made makes c.served.result)
-    (Leaves IsServeFailure Rack (serve_terms c.args.count) c.args.bytes.now made makes c.served.result)
+    (Leaves AreBack IsServeFailure Rack (serve_terms c.args.count) c.args.bytes.now made makes c.served.result)
     (λ given leaves. serve_leaves c.serve_laws.ensures c.args.count c.args.bytes.now c.in-Ok.session
     made makes c.served.result given c.in-Ok.ensures.servable leaves)
     c.served.ensures.leaves
@@ -67,9 +70,9 @@ returns-in_ok-refused-in-Err-Refused-clause-leaves g c =
     without_pairs shown g.D.Incoming.Source.left g.D.Incoming.Source.faults
     g.D.Outgoing.Sink.written g.D.Outgoing.Sink.faults g.D.Outgoing.Sink.ended
     _ _ _ _ _ _ refl refl
-    (Leaves IsServeFailure Rack (serve_terms c.args.count) c.args.bytes.now made made _)
-    (refusal_left IsServeFailure Rack shown _ (serve_terms c.args.count) c.args.bytes.now _ answer refused
-    c.in_ok-refused-in-Err-Refused.ensures.status)
+    (Leaves AreBack IsServeFailure Rack (serve_terms c.args.count) c.args.bytes.now made made _)
+    (refusal_left AreBack none_served IsServeFailure Rack shown _ (serve_terms c.args.count) c.args.bytes.now _
+    answer refused c.in_ok-refused-in-Err-Refused.ensures.status)
 
 pub returns-in-Err-NoMemory-clause-leaves : goal.returns-in-Err-NoMemory-clause-leaves
 returns-in-Err-NoMemory-clause-leaves g c =
@@ -78,8 +81,8 @@ returns-in-Err-NoMemory-clause-leaves g c =
     without_pairs shown g.D.Incoming.Source.left g.D.Incoming.Source.faults
     g.D.Outgoing.Sink.written g.D.Outgoing.Sink.faults g.D.Outgoing.Sink.ended
     _ _ _ _ _ _ refl refl
-    (Leaves IsServeFailure Rack (serve_terms c.args.count) c.args.bytes.now made made _)
-    (error_left IsServeFailure Rack shown _ (serve_terms c.args.count) c.args.bytes.now _ NoMemory
+    (Leaves AreBack IsServeFailure Rack (serve_terms c.args.count) c.args.bytes.now made made _)
+    (error_left AreBack none_served IsServeFailure Rack shown _ (serve_terms c.args.count) c.args.bytes.now _ NoMemory
     (λ failed. failed))
 
 pub returns-in-Ok-clause-listens : goal.returns-in-Ok-clause-listens

@@ -1,10 +1,10 @@
 use Rattle.std.proofs.Common.{◌≡◌, ◌∙◌, ◌∷◌, ◌++◌, ◌+◌, [], ℕ, List, ap, append_assoc, length, length-append, refl}
 use Rattle.std.proofs.Common.{subst, sym, arith}
 use Rattle.std.proofs.lemmas.List.{map-append}
+use Rattle.ipb_outside.specs.Pairs.{Went}
 use Rattle.hub_multiplexer.specs.Ends.{HasTakenIn}
 use Rattle.hub_multiplexer.specs.Seats.{SeatState}
 use Rattle.session_serve.specs.Hubs.{pairs_of, seats_of}
-use Rattle.session_serve.specs.Pairs.{Went}
 use Rattle.session_serve.specs.Seats.{AreOfClientsFrom, AreTakenIn, IsBack}
 use Rattle.session_serve.proofs.Lists.{all_middle, went_more, went_none}
 use Rattle.session_serve.proofs.Seating.{none_taken, one_taken, taken_more}

@@ -1,7 +1,7 @@
 use Rattle.std.proofs.Common.{◌≡◌, ◌++◌, ◌+◌, length, vec_capacity}
+use Rattle.ipb_outside.specs.Pairs.{Went}
 use Rattle.hub_multiplexer.specs.Ends.{HasTakenIn}
 use Rattle.session_serve.specs.Hubs.{served_of, pairs_of, seats_of}
-use Rattle.session_serve.specs.Pairs.{Went}
 use Rattle.session_serve.specs.Seats.{AreOfClientsFrom, AreTakenIn}
 use Rattle.session_serve.proofs.hub.give_back.Given as goal
 

@@ -1,11 +1,11 @@
 use Rattle.std.proofs.Common.{[], ℕ, List, Vec, Global, length, subst, sym}
 use Rattle.std.specs.List.{AllByRecursion}
 use Rattle.std.proofs.lemmas.Result.{IfOk-weaker}
+use Rattle.ipb_outside.specs.Pairs.{GivesBack, pair_shown}
 use Rattle.hub_multiplexer.specs.Seats.{SeatState}
 use Rattle.hub_session.specs.declared.served.Served.{Served}
 use Rattle.hub_session.specs.Serving.{IsLaneBelow}
 use Rattle.session_serve.specs.Hubs.{AreServedAt, HasServedAll, served_of, pairs_of}
-use Rattle.session_serve.specs.Pairs.{GivesBack, pair_shown}
 use Rattle.session_serve.specs.Seats.{AreOfClientsFrom, IsOpen, with_seats}
 use Rattle.session_serve.specs.Serving.{HadMemory}
 use Rattle.session_serve.proofs.AtHub.{heads_of, heads_returned, opens_all, served_at}

@@ -4,10 +4,10 @@ use Rattle.std.specs.List.{AllByRecursion}
 use Rattle.std.specs.Vec.Iter.{into_iter_items}
 use Rattle.std.proofs.lemmas.List.{length-map}
 use Rattle.std.proofs.lemmas.Result.{IfOk-weaker}
+use Rattle.ipb_outside.specs.Pairs.{pair_shown}
 use Rattle.hub_multiplexer.specs.Seats.{SeatState}
 use Rattle.hub_session.specs.declared.served.Served.{Served}
 use Rattle.session_serve.specs.Hubs.{HasServedAll}
-use Rattle.session_serve.specs.Pairs.{pair_shown}
 use Rattle.session_serve.specs.Seats.{AreTakenIn, HasServed, IsFresh}
 use Rattle.session_serve.proofs.EachDone.{all_back, all_in_turn, all_served, each_back, each_long, fresh_all_back}
 use Rattle.session_serve.proofs.EachDone.{fresh_befores}

@@ -1,9 +1,9 @@
 use Rattle.std.proofs.Common.{[], List, ap, length, refl, subst, sym, arith}
 use Rattle.std.specs.List.{AllByRecursion}
+use Rattle.ipb_outside.specs.Pairs.{pair_shown}
 use Rattle.hub_multiplexer.specs.Ends.{HasTakenIn}
 use Rattle.hub_multiplexer.specs.Seats.{MasterState, SeatState}
 use Rattle.session_serve.specs.Hubs.{AllBack}
-use Rattle.session_serve.specs.Pairs.{pair_shown}
 use Rattle.session_serve.specs.Seats.{AreOfClientsFrom, AreTakenIn, IsBack, with_seats}
 use Rattle.session_serve.proofs.EachDone.{fresh_all_back, none_back}
 use Rattle.session_serve.proofs.Seating.{no_seats, none_taken}

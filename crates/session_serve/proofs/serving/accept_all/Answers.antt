@@ -4,8 +4,8 @@ use Rattle.std.specs.List.{AllByRecursion}
 use Rattle.std.specs.Vec.Iter.{into_iter_items}
 use Rattle.std.proofs.lemmas.List.{map-append}
 use Rattle.ipb_base.proofs.AllLemmas.{AllByRecursion-append}
+use Rattle.ipb_outside.specs.Pairs.{Came}
 use Rattle.hub_multiplexer.specs.Seats.{SeatState}
-use Rattle.session_serve.specs.Pairs.{Came}
 use Rattle.session_serve.specs.Seats.{IsFresh}
 use Rattle.session_serve.proofs.Lists.{all_middle, came_more}
 use Rattle.session_serve.proofs.serving.accept_all.Goals as goal

@@ -1,7 +1,7 @@
 use Rattle.std.proofs.Common.{◌≡◌, ◌≤◌, ◌+◌, ◌++◌, length, map, vec_capacity}
 use Rattle.std.specs.List.{AllByRecursion}
 use Rattle.std.specs.Vec.Iter.{into_iter_items}
-use Rattle.session_serve.specs.Pairs.{Came}
+use Rattle.ipb_outside.specs.Pairs.{Came}
 use Rattle.session_serve.proofs.serving.accept_all.Given as goal
 
 -- the connections so far, and the seats that are left

@@ -1,6 +1,6 @@
 use Rattle.std.proofs.Common.{rules, subst, Option, List}
 use Rattle.std.specs.Vec.Iter.{into_iter_items}
-use Rattle.session_serve.specs.Pairs.{pair_shown}
+use Rattle.ipb_outside.specs.Pairs.{pair_shown}
 use Rattle.session_serve.specs.Seats.{HasServed}
 use Rattle.session_serve.proofs.serving.serve_all.Goals as goal
 

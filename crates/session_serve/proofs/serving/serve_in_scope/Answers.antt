@@ -1,8 +1,8 @@
 use Rattle.std.proofs.Common.{rules, ◌≡◌, ◌∙◌, List, map, subst, sym, arith}
 use Rattle.std.specs.List.{AllByRecursion}
 use Rattle.std.specs.Vec.Iter.{into_iter_items}
+use Rattle.ipb_outside.specs.Pairs.{pair_shown}
 use Rattle.hub_lane.specs.declared.answers.BoardState.{BoardState}
-use Rattle.session_serve.specs.Pairs.{pair_shown}
 use Rattle.session_serve.specs.Seats.{IsDoneOf}
 use Rattle.session_serve.proofs.Lists.{zip_long}
 use Rattle.session_serve.proofs.EachDone.{each_done}

@@ -1,6 +1,6 @@
 use Rattle.std.proofs.Common.{◌∙◌, ◌∷◌, ◌++◌, [], ap, append_assoc, length-append, subst, sym, arith}
 use Rattle.std.specs.List.{AllZip}
-use Rattle.session_serve.specs.Pairs.{pair_shown}
+use Rattle.ipb_outside.specs.Pairs.{pair_shown}
 use Rattle.session_serve.specs.Seats.{IsDoneOf}
 use Rattle.session_serve.proofs.Lists.{zip_push}
 use Rattle.session_serve.proofs.serving.wait_for_all.Goals as goal

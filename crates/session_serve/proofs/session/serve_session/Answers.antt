@@ -1,8 +1,8 @@
 use Rattle.std.proofs.Common.{◌∙◌, [], map, subst}
 use Rattle.std.specs.Prelude.{IfOk}
+use Rattle.ipb_outside.specs.Pairs.{GivesBack}
 use Rattle.board_greeting.specs.Boards.{shown_by}
 use Rattle.board_greeting.specs.Links.{Keeps}
-use Rattle.session_serve.specs.Pairs.{GivesBack}
 use Rattle.session_serve.specs.Serving.{AreServed}
 use Rattle.session_serve.proofs.Lists.{came_none, went_none}
 use Rattle.session_serve.proofs.Reporting.{untouched_links}

@@ -2,6 +2,7 @@ use Rattle.std.proofs.Common.{◌≡◌, ◌∙◌, ℕ, List, Vec, Global, Err,
 use Rattle.std.specs.List.{AllByRecursion}
 use Rattle.std.specs.Prelude.{IfOk}
 use Rattle.std.proofs.lemmas.List.{length-map}
+use Rattle.ipb_outside.specs.Pairs.{GivesBack}
 use Rattle.hub_session.specs.declared.served.Served.{Served}
 use Rattle.hub_session.specs.Serving.{IsLaneBelow}
 use Rattle.client_threads.specs.Running.{AtEach}
@@ -13,7 +14,6 @@ use Rattle.session_serve.specs.Boards.{AreLinksTo}
 use Rattle.session_serve.specs.Finish.{IsSound, link_in}
 use Rattle.session_serve.specs.Hubs.{AreServedAt, KeepsHead}
 use Rattle.session_serve.specs.declared.report.ServeFault.TheVariants.{Door}
-use Rattle.session_serve.specs.Pairs.{GivesBack}
 use Rattle.session_serve.proofs.Reporting.{are_served, from_each, links_to, rejoined_long}
 use Rattle.session_serve.specs.Prepared.{told_by}
 use Rattle.session_serve.proofs.Standing.{back_as_told, states_within}
