@@ -1,10 +1,10 @@
 //! `run` on a document with something changed: the line of the first rule that it breaks.
 
+use crate::fixtures::{DOCUMENT, over_links, wide_sink};
 use crate::same::same;
 use ipb_base::NoMemory;
 use ipb_outside::CalmSource;
 use ipbus_program::REFUSED;
-use program_fixtures::{DOCUMENT, over_links, wide_sink};
 use std::alloc::Global;
 use std::marker::Sync;
 use std::sync::Wait;

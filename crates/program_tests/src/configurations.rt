@@ -1,5 +1,6 @@
 //! `save` and `apply` on a document, with a link that works, one that fails, and where memory runs out.
 
+use crate::fixtures::{DOCUMENT, calm, over, over_links, shut_door, wide_sink};
 use crate::same::{same, same_items};
 use config_input::{ConfigRefusal, ConfigUnread, read_for_apply, read_for_save};
 use config_store::StoreWhy;
@@ -7,7 +8,6 @@ use ipb_base::NoMemory;
 use ipbus_program::{DONE, NO_MEMORY, NOT_ALL_DONE, REFUSED};
 use lossy_network::SimRack;
 use operator_notes::{Command, denial_notes, refusal_notes};
-use program_fixtures::{DOCUMENT, calm, over, over_links, shut_door, wide_sink};
 use std::alloc::Global;
 use std::marker::Sync;
 use std::sync::Wait;

@@ -1,11 +1,11 @@
 //! What is said on standard error at the end.
 
+use crate::fixtures::words_of;
 use crate::same::same;
 use operator_notes::{
     Applied, Command, HELP, MOST_SHOWN, VERSION, configuration_summary, door_note, memory_note,
     rack_note, read_note, refusal_notes, shown, usage_notes, write_note,
 };
-use program_fixtures::words_of;
 use std::alloc::{AllocError, Global};
 use std::test::Fail;
 

@@ -1,10 +1,10 @@
 //! `run`, `check` and `serve` on a document with an access policy.
 
+use crate::fixtures::{DOCUMENT, calm, over_links, wide_sink};
 use crate::same::{same, same_items};
 use ipb_base::NoMemory;
 use ipbus_program::{NOT_ALL_DONE, REFUSED};
 use operator_notes::{Command, denial_notes};
-use program_fixtures::{DOCUMENT, calm, over_links, wide_sink};
 use session_input::{Refusal, Unread, read_for_run, read_for_serve};
 use std::alloc::Global;
 use std::marker::Sync;

@@ -2,6 +2,7 @@
 
 ghost use Rattle.std.specs.Prelude.{◌≤◌};
 
+use crate::fixtures::{FIRST, FIRST_TRANSCRIPT, calm, over, over_links, shut_door, wide_sink};
 use crate::same::{same, same_items};
 use command_words::USAGE_LINE;
 use ipb_base::NoMemory;
@@ -10,7 +11,6 @@ use ipbus_program::{
     DONE, NO_MEMORY, NOT_ALL_DONE, RACK_FAULT, READ_FAULT, REFUSED, USAGE, WRITE_FAULT,
 };
 use lossy_network::SimRack;
-use program_fixtures::{FIRST, FIRST_TRANSCRIPT, calm, over, over_links, shut_door, wide_sink};
 use std::alloc::{AllocError, Global};
 use std::marker::Sync;
 use std::sync::Wait;

@@ -1,11 +1,11 @@
 //! `record` on a document, with a link that works, one that fails, and where memory runs out.
 
 use crate::capture_tests::ONE_READ;
+use crate::fixtures::{DOCUMENT, calm, over, shut_door, wide_sink};
 use crate::same::{same, same_items};
 use ipb_base::NoMemory;
 use ipbus_program::{DONE, NO_MEMORY, NOT_ALL_DONE, RACK_FAULT, REFUSED};
 use lossy_network::SimRack;
-use program_fixtures::{DOCUMENT, calm, over, shut_door, wide_sink};
 use std::alloc::Global;
 use std::marker::Sync;
 use std::sync::Wait;

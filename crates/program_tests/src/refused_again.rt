@@ -1,10 +1,10 @@
 //! Words and documents that are refused, and refused again when they are read again.
 
 use crate::changed_documents::{CHANGES, changed};
+use crate::fixtures::words_of;
 use crate::same::same;
 use command_words::command_of;
 use ipb_base::NoMemory;
-use program_fixtures::words_of;
 use session_input::{Unread, read_for_check, read_for_run};
 use std::alloc::Global;
 use std::test::Fail;

@@ -3,12 +3,12 @@
 ghost use Rattle.std.specs.Prelude.{◌≡◌, ◌≤◌, None, Some, option_to_list};
 ghost use Rattle.ipb_base.specs.Faults.{one_more};
 
+use crate::fixtures::FIRST;
 use crate::same::same;
 use crate::serving::{ASKED, serve};
 use ipb_base::NoMemory;
 use ipb_outside::{Door, Failed, MemSink, MemSource, Sink, Source};
 use ipbus_program::DONE;
-use program_fixtures::FIRST;
 use std::alloc::Global;
 use std::sync::atomic::{AtomicU64, Ordering};
 use std::test::Fail;

@@ -2,12 +2,12 @@
 //! came back once. `checks/failing_allocations` makes each allocation of a test fail in turn, in a process of its own.
 //! Each session runs twice: one of the two runs at most meets that allocation, so the other comes to its end.
 
+use crate::fixtures::{DOCUMENT, calm, over, run_over, wide_sink};
 use crate::serving::door_for;
 use ipb_base::NoMemory;
 use ipb_outside::Door;
 use ipbus_program::{DONE, NO_MEMORY, NOT_ALL_DONE};
 use lossy_network::SimRack;
-use program_fixtures::{DOCUMENT, calm, over, run_over, wide_sink};
 use std::alloc::Global;
 use std::marker::Sync;
 use std::sync::Wait;

@@ -1,11 +1,11 @@
 //! `serve` to a client whose frames are bad, on a board of small packets.
 
+use crate::fixtures::DOCUMENT;
 use crate::same::{same, same_items};
 use crate::serving::serve;
 use ipb_base::NoMemory;
 use ipb_outside::{MemDoor, MemSink, MemSource};
 use ipbus_program::{DONE, NOT_ALL_DONE};
-use program_fixtures::DOCUMENT;
 use std::alloc::Global;
 use std::marker::Sync;
 use std::sync::Wait;

@@ -1,12 +1,12 @@
 //! `control` on sessions whose clients run at once.
 
+use crate::fixtures::{calm, shut_door, wide_sink, words_of};
 use crate::same::same;
 use crossbeam_queue::ArrayQueue;
 use ipb_base::NoMemory;
 use ipb_outside::MemSink;
 use ipbus_program::{DONE, Gate, control};
 use lossy_network::SimRack;
-use program_fixtures::{calm, shut_door, wide_sink, words_of};
 use std::alloc::Global;
 use std::marker::Sync;
 use std::sync::Wait;

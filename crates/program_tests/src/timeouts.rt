@@ -1,10 +1,10 @@
 //! What a transcript shows of datagrams that were held back, and what the link that was given back tells of them.
 
+use crate::fixtures::{DOCUMENT, DOCUMENT_TRANSCRIPT, run_over, wide_sink};
 use crate::same::{same, same_items};
 use ipb_base::NoMemory;
 use ipbus_program::{DONE, NOT_ALL_DONE};
 use lossy_network::SimRack;
-use program_fixtures::{DOCUMENT, DOCUMENT_TRANSCRIPT, run_over, wide_sink};
 use std::alloc::Global;
 use std::marker::Sync;
 use std::sync::Wait;

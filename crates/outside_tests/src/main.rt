@@ -14,3 +14,6 @@ mod std_stream_tests;
 mod tcp_tests;
 #[cfg(test)]
 mod udp_tests;
+
+/// There is nothing to run but the tests.
+fn main() {}

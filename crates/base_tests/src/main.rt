@@ -40,3 +40,6 @@ mod same;
 mod script_lang_tests;
 #[cfg(test)]
 mod transaction_codec_tests;
+
+/// There is nothing to run but the tests.
+fn main() {}

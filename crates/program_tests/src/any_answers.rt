@@ -1,10 +1,10 @@
 //! `run` on a board on a network that answers anything.
 
+use crate::fixtures::{run_over, wide_sink};
 use crate::same::same;
 use ipb_base::NoMemory;
 use ipbus_program::{DONE, NOT_ALL_DONE};
 use lossy_network::{ScriptRack, are_datagrams};
-use program_fixtures::{run_over, wide_sink};
 use std::alloc::Global;
 use std::marker::Sync;
 use std::sync::Wait;

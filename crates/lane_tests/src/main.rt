@@ -36,3 +36,6 @@ mod transcript_tests;
 mod turn_pass_tests;
 #[cfg(test)]
 mod world_core_tests;
+
+/// There is nothing to run but the tests.
+fn main() {}

@@ -2,12 +2,12 @@
 
 ghost use Rattle.std.specs.Prelude.{◌≤◌};
 
+use crate::fixtures::{FIRST, calm, over, wide_sink};
 use crate::same::{same, same_items};
 use ipb_base::NoMemory;
 use ipb_outside::{Door, MemDoor, MemSink, MemSource};
 use ipbus_program::{DONE, DOOR_FAULT, NOT_ALL_DONE, REFUSED};
 use lossy_network::SimRack;
-use program_fixtures::{FIRST, calm, over, wide_sink};
 use std::alloc::Global;
 use std::marker::Sync;
 use std::sync::Wait;

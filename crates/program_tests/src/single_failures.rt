@@ -1,11 +1,11 @@
 //! `run` where one call of a link or one write fails.
 
+use crate::fixtures::{DOCUMENT, DOCUMENT_TRANSCRIPT, run_over};
 use crate::same::{same, same_items};
 use ipb_base::NoMemory;
 use ipb_outside::MemSink;
 use ipbus_program::{DONE, NOT_ALL_DONE, WRITE_FAULT};
 use lossy_network::SimRack;
-use program_fixtures::{DOCUMENT, DOCUMENT_TRANSCRIPT, run_over};
 use std::alloc::Global;
 use std::marker::Sync;
 use std::sync::Wait;

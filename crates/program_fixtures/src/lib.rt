@@ -1,8 +1,0 @@
-//! What tests of the program share: session documents, and `control` on them with sources, sinks and doors in memory.
-#![tactic(auto)]
-
-mod calls;
-mod documents;
-
-pub use calls::{calm, over, over_links, run_over, shut_door, wide_sink, words_of};
-pub use documents::{DOCUMENT, DOCUMENT_TRANSCRIPT, FIRST, FIRST_TRANSCRIPT};
