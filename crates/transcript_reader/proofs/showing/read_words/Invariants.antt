@@ -1,0 +1,16 @@
+use Rattle.std.proofs.Common.{◌≡◌, ◌++◌, length}
+use Rattle.ipb_base.specs.Word.{AreWords}
+use Rattle.transcript_reader.specs.Fronts.{all_of}
+use Rattle.transcript_reader.specs.Reading.{next_word_at}
+use Rattle.transcript_reader.proofs.showing.read_words.Given as goal
+
+-- the words so far, and those of the text that is left
+abbrev pub invariant-words : goal.invariant-words
+invariant-words l = record {
+  words : l.out.items ++ (all_of next_word_at l.rest).0 ≡ l.fn.out.items ++ (all_of next_word_at l.text).0;
+  printed : AreWords l.fn.out.items → AreWords l.out.items;
+  behind : (all_of next_word_at l.rest).1 ≡ (all_of next_word_at l.text).1;
+}
+
+abbrev pub decreases-words : goal.decreases-words
+decreases-words l = length l.rest

@@ -1,0 +1,18 @@
+//! Reading a word at the front of a text.
+
+ghost use Rattle.std.specs.Prelude.{◌≡◌, ◌↔◌, IsTrue};
+ghost use Rattle.transcript_reader.specs.Fronts.{Finds, behind};
+
+/// The text behind a word, where the text begins with it.
+pub(crate) fn behind<'a>(word: &[u8], text: &'a [u8]) -> Option<&'a [u8]>
+    ensures { Finds (λ rest. rest.now) result (behind word.now text.now) }
+{
+    text.strip_prefix(word)
+}
+
+/// Whether two texts are the same.
+pub(crate) fn same_bytes(text: &[u8], other: &[u8]) -> bool
+    ensures { IsTrue result ↔ (text.now ≡ other.now) }
+{
+    text == other
+}
