@@ -1,0 +1,11 @@
+pub mod AskedLines
+pub mod Places
+pub mod Replay
+pub mod Results
+pub mod Counts
+pub mod Verdicts
+pub mod Steps
+pub mod Replaying
+pub mod Agreeing
+pub mod Unreplayed
+pub mod Apart
