@@ -5,7 +5,6 @@ use Rattle.std.proofs.Common.{Option, Some, None, refl, sym, ap, subst, inl, inr
 use Rattle.std.proofs.lemmas.Bool.Decides.{eqb_tells}
 use Rattle.std.specs.Str.{bytes_eq}
 use Rattle.command_words.specs.Commands.{command_of, is_option, number_between}
-use Rattle.std.specs.List.{list_all}
 use Rattle.command_words.specs.Commands.{load_of, loaded, serve_of, served}
 use Rattle.command_words.specs.Forms.{Form, words_of, IsAlone, IsNamed, IsPlain, ArePlain, alone, check, serve, load}
 use Rattle.command_words.specs.Read.{named}

@@ -1,6 +1,6 @@
 -- Words at which clap finds no fault are those of a command.
 use Rattle.std.proofs.Common.{◌≡◌, ◌∙◌, ◌||◌, ◌<◌, ℕ, Bool, true, false, List, [], ◌∷◌, ◌++◌, Option, Some, None, refl}
-use Rattle.std.proofs.Common.{sym, ap, subst, codes, if◌then◌else◌, inl, inr, ◌⊎◌, append-nil, append_assoc, option_map}
+use Rattle.std.proofs.Common.{sym, ap, subst, codes, if◌then◌else◌, inl, inr, append-nil, append_assoc, option_map}
 use Rattle.std.proofs.Common.{fold, slice_index, arith, find, is_some, map}
 use Rattle.std.specs.Option.{option_map_or}
 use Rattle.std.specs.Str.{bytes_eq}

@@ -4,7 +4,7 @@ use Rattle.std.specs.Prelude.{option_and_then}
 use Rattle.std.specs.Str.{bytes_eq}
 use Rattle.ipb_base.specs.Digits.{digits_number, is_between}
 use Rattle.command_words.specs.declared.command.Command.{Command}
-use Rattle.command_words.specs.declared.command.Command.TheVariants.{Run, Check, Serve, Load}
+use Rattle.command_words.specs.declared.command.Command.TheVariants.{Run, Check, Serve, Load, Audit}
 use Rattle.command_words.specs.declared.command.Command.TheVariants.{Record, Describe, Undescribe, Save, Apply}
 
 -- a word begins with a hyphen
@@ -24,6 +24,7 @@ number_between least most word = option_and_then (within least most) (digits_num
 abbrev pub alone : List (List ℕ × Command)
 alone =
     (codes "run", Run)
+    ∷ (codes "audit", Audit)
     ∷ (codes "record", Record)
     ∷ (codes "describe", Describe)
     ∷ (codes "undescribe", Undescribe)
@@ -81,4 +82,4 @@ command_of (word ∷ (first ∷ (second ∷ (third ∷ others)))) = None
 -- the line for words that are no command
 abbrev pub usage_text : List ℕ
 usage_text =
-    codes "usage: ipbus run | check TABLE | serve PORT COUNT | load COUNT | record | describe | undescribe | save | apply\n"
+    codes "usage: ipbus run | check TABLE | serve PORT COUNT | load COUNT | audit | record | describe | undescribe | save | apply\n"

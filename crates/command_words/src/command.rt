@@ -10,7 +10,7 @@ use std::alloc::Global;
 
 /// The line for words that are no command.
 pub const USAGE_LINE: &str =
-    "usage: ipbus run | check TABLE | serve PORT COUNT | load COUNT | record | describe | undescribe | save | apply\n";
+    "usage: ipbus run | check TABLE | serve PORT COUNT | load COUNT | audit | record | describe | undescribe | save | apply\n";
 
 /// What the words of a command line ask for (profile).
 #[derive(Drop)]
@@ -24,6 +24,8 @@ pub enum Command {
     Serve { port: u16, count: u32 },
     /// `load COUNT`: a generated session of so many operations is run, 1 to 100,000 of them.
     Load { count: u32 },
+    /// `audit`: a transcript is judged by the session document before it.
+    Audit,
     /// `record`: the scripts of a session document are run on its one board, and the capture of its traffic is written.
     Record,
     /// `describe`: the description of a capture is written.
@@ -69,6 +71,7 @@ fn alone(name: &str) -> Option<Command>
 {
     match name {
         "run" => Some(Command::Run),
+        "audit" => Some(Command::Audit),
         "record" => Some(Command::Record),
         "describe" => Some(Command::Describe),
         "undescribe" => Some(Command::Undescribe),

@@ -5,7 +5,7 @@ ghost use Rattle.clap.specs.Words.{takes, fault_of};
 ghost use Rattle.command_words.specs.App.{ipbus};
 ghost use Rattle.command_words.specs.Commands.{command_of};
 ghost use Rattle.command_words.specs.Forms.{Form, words_of, ArePlain, IsNamed};
-ghost use Rattle.command_words.specs.declared.command.Command.TheVariants.{Run, Check, Serve, Load};
+ghost use Rattle.command_words.specs.declared.command.Command.TheVariants.{Run, Check, Serve, Load, Audit};
 ghost use Rattle.command_words.specs.declared.command.Command.TheVariants.{Record, Describe, Undescribe, Save, Apply};
 
 /// The words of a command are taken by clap.
@@ -30,6 +30,7 @@ pub fn words_by_hand()
     ensures check { command_of (codes "check" ∷ codes "main" ∷ []) ≡ Some (Check (codes "main")) }
     ensures serve { command_of (codes "serve" ∷ codes "50001" ∷ codes "64" ∷ []) ≡ Some (Serve 50001 64) }
     ensures load { command_of (codes "load" ∷ codes "100000" ∷ []) ≡ Some (Load 100000) }
+    ensures audit { command_of (codes "audit" ∷ []) ≡ Some Audit }
     ensures record_ { command_of (codes "record" ∷ []) ≡ Some Record }
     ensures describe { command_of (codes "describe" ∷ []) ≡ Some Describe }
     ensures undescribe { command_of (codes "undescribe" ∷ []) ≡ Some Undescribe }

@@ -11,7 +11,15 @@ use clap::{Arg, ArgMatches, Command, Error};
 use std::alloc::{AllocError, Global};
 
 /// The names of the commands that are a name alone.
-const ALONE: [&str; 6] = ["run", "record", "describe", "undescribe", "save", "apply"];
+const ALONE: [&str; 7] = [
+    "run",
+    "audit",
+    "record",
+    "describe",
+    "undescribe",
+    "save",
+    "apply",
+];
 
 /// A command that is a name alone, or another and the words behind its name as they are written.
 #[derive(Clone, Copy, PartialEq, Eq)]

@@ -1,6 +1,6 @@
 //! `ipbus`: reads a session document from standard input and runs its scripts on its boards, records the traffic of such
 //! a run, serves TCP connections at its boards, saves or applies their configuration, or lists the registers of one of its
-//! tables; or reads a capture or its description; or runs a session that it generates. The exit status is that of
+//! tables; or judges a transcript by its session; or reads a capture or its description; or runs a session that it generates. The exit status is that of
 //! `control`; beside some of them lines on standard error say what happened.
 #![tactic(auto)]
 
@@ -10,8 +10,9 @@ use ipbus_program::{
 };
 use net_edges::{KeptSink, KeptSource, RealRack, StdinSource, StdoutSink, TcpDoor};
 use operator_notes::{
-    Applied, Command, MAX_CAPTURE, NoMemory, command_of, configuration_summary, denial_notes,
-    door_note, memory_note, rack_note, read_note, refusal_notes, usage_notes, write_note,
+    Applied, Command, MAX_AUDIT, MAX_CAPTURE, NoMemory, command_of, configuration_summary,
+    denial_notes, door_note, memory_note, rack_note, read_note, refusal_notes, usage_notes,
+    verdict_notes, write_note,
 };
 use std::alloc::{AllocError, Global};
 use std::env;
@@ -62,6 +63,7 @@ fn connections_of(command: Option<&Command>) -> Option<u32> {
 fn most_kept(command: Option<&Command>) -> usize {
     match command {
         Some(Command::Describe | Command::Undescribe) => MAX_CAPTURE + 1,
+        Some(Command::Audit) => MAX_AUDIT + 1,
         _ => MAX_DOCUMENT + 1,
     }
 }
@@ -122,6 +124,18 @@ fn denial_lines(
     }
 }
 
+/// Where a transcript does not fit its session, and what belongs there.
+fn verdict_lines(
+    alloc: Global,
+    command: Option<&Command>,
+    given: Option<&[u8]>,
+) -> Result<Vec<String>, NoMemory> {
+    match (command, given) {
+        (Some(Command::Audit), Some(bytes)) => verdict_notes(alloc, bytes),
+        _ => Ok(Vec::new(alloc)),
+    }
+}
+
 /// What is said on standard error at the end, beside a status.
 fn say_end(
     to: Stderr,
@@ -139,6 +153,7 @@ fn say_end(
         ),
         NOT_ALL_DONE => {
             say_all(to, denial_lines(alloc, command, given)?.as_slice());
+            say_all(to, verdict_lines(alloc, command, given)?.as_slice());
             say_all(
                 to,
                 summary_lines(alloc, status, command, given, written)?.as_slice(),

@@ -13,7 +13,7 @@ use Rattle.command_terms.specs.Numbers.{read_fault_status, write_fault_status}
 use Rattle.command_terms.specs.Numbers.{no_memory_status, rack_fault_status, door_fault_status}
 use Rattle.command_terms.specs.Outside.{GivenBack, no_pairs}
 use Rattle.command_terms.specs.Terms.{AreTerms, Terms, most_bytes}
-use Rattle.command_terms.proofs.Leaving.{none_served}
+use Rattle.session_serve.proofs.Standing.{none_served}
 use Rattle.ipbus_program.specs.declared.no_answer.NoAnswer.{NoAnswer}
 use Rattle.ipbus_program.specs.declared.no_answer.NoAnswer.TheVariants.{NoMemory, ReadFault, RackFault, DoorFault}
 use Rattle.ipbus_program.specs.Commands.{terms_of}

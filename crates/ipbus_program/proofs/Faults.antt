@@ -1,14 +1,15 @@
 -- Faults of running and of serving as the call's, and the port of a server.
 use Rattle.std.proofs.Common.{◌≡◌, ◌∙◌, ℕ, Result, Ok, Err, refl, sym}
 use Rattle.std.specs.Result.{IsErrAnd}
+use Rattle.session_run.specs.Faults.{IsRunFailure}
 use Rattle.session_run.specs.declared.session.RunFault.{RunFault}
 use Rattle.session_run.specs.declared.session.RunFault.TheVariants.{Rack, NoMemory}
+use Rattle.session_serve.specs.Faults.{IsServeFailure}
 use Rattle.session_serve.specs.declared.report.ServeFault.{ServeFault}
 use Rattle.session_serve.specs.declared.report.ServeFault.TheVariants as serve
 use Rattle.command_words.specs.declared.command.Command.{Command}
 use Rattle.command_words.specs.declared.command.Command.TheVariants.{Serve}
 use Rattle.command_terms.specs.declared.answer.Answer.{Answer}
-use Rattle.command_terms.specs.Leaving.{IsRunFailure, IsServeFailure}
 use Rattle.ipbus_program.specs.declared.no_answer.NoAnswer.{NoAnswer}
 use Rattle.ipbus_program.specs.declared.no_answer.NoAnswer.TheVariants.{DoorFault, RackFault, ReadFault}
 use Rattle.ipbus_program.specs.Steps.{IsFailure, no_answer_of, no_answer_served}

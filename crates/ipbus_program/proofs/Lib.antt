@@ -3,3 +3,4 @@ pub mod Deserved
 pub mod Ending
 pub mod Reading
 pub mod Faults
+pub mod Served

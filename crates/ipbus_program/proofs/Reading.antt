@@ -6,11 +6,13 @@ use Rattle.std.specs.Result.{IsErr, IsErrAnd}
 use Rattle.std.proofs.KnownBytes.{prepend_known-nil}
 use Rattle.ipb_outside.specs.Told.{TakesAtMost}
 use Rattle.lane_history.specs.Links.{LinkReport}
+use Rattle.session_serve.specs.Serving.{AreBack}
+use Rattle.session_serve.proofs.Standing.{none_served}
 use Rattle.command_terms.specs.declared.answer.Answer.{Answer}
 use Rattle.command_terms.specs.Leaving.{Leaves}
 use Rattle.command_terms.specs.Outside.{GivenBack, no_pairs}
 use Rattle.command_terms.specs.Terms.{AreTerms, Owes, Terms, most_bytes, most_of}
-use Rattle.command_terms.proofs.Leaving.{Told, none_served, same_Err}
+use Rattle.command_terms.proofs.Leaving.{Told, same_Err}
 use Rattle.ipbus_program.specs.declared.no_answer.NoAnswer.{NoAnswer}
 use Rattle.ipbus_program.specs.declared.no_answer.NoAnswer.TheVariants.{DoorFault, RackFault, ReadFault}
 use Rattle.ipbus_program.specs.declared.no_answer.NoAnswer.TheVariants.{NoMemory as of_memory}
@@ -48,7 +50,7 @@ module _ (terms : Terms) (limit : ℕ) (is : terms.limit ≡ Some limit) (before
 
     pub input_left : (result : Result Answer NoAnswer) → length bytes ≤ limit
         → (result ≡ Err DoorFault → terms.lets_in ≡ true)
-        → Leaves IsFailure RackFault terms bytes made makes result given
+        → Leaves AreBack IsFailure RackFault terms bytes made makes result given
         → InputLeaves terms before now made makes result given
     input_left result within serves leaves =
         let by = read_by terms limit is before now bytes read in record {
@@ -123,7 +125,7 @@ module _ (terms : Terms) (laws : AreTerms terms) (is : terms.limit ≡ None) (le
 
   pub unread_left : (made makes : ℕ) (given : GivenBack) (result : Result Answer NoAnswer)
       → (result ≡ Err ReadFault → ⊥) → (result ≡ Err DoorFault → terms.lets_in ≡ true)
-      → Leaves IsFailure RackFault terms [] made makes result given
+      → Leaves AreBack IsFailure RackFault terms [] made makes result given
       → InputLeaves terms left left made makes result given
   unread_left made makes given result no_read serves leaves = record {
     used = used_from terms left left [] unread given.links leaves.used;

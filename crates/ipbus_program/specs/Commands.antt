@@ -1,12 +1,13 @@
 -- WHAT EACH COMMAND OWES. What the program promises of a command is said of its terms. Profile.
 use Rattle.command_words.specs.declared.command.Command.{Command}
-use Rattle.command_words.specs.declared.command.Command.TheVariants.{Run, Check, Serve, Load}
+use Rattle.command_words.specs.declared.command.Command.TheVariants.{Run, Check, Serve, Load, Audit}
 use Rattle.command_words.specs.declared.command.Command.TheVariants.{Record, Describe, Undescribe, Save, Apply}
 use Rattle.command_terms.specs.Terms.{Terms}
 use Rattle.run_command.specs.Terms.{run_terms}
 use Rattle.check_command.specs.Terms.{check_terms}
 use Rattle.serve_command.specs.Terms.{serve_terms}
 use Rattle.load_run.specs.Terms.{load_terms}
+use Rattle.audit_command.specs.Terms.{audit_terms}
 use Rattle.record_command.specs.Terms.{record_terms}
 use Rattle.capture_commands.specs.Terms.{describe_terms, undescribe_terms}
 use Rattle.config_commands.specs.Terms.{apply_terms, save_terms}
@@ -16,6 +17,7 @@ terms_of Run = run_terms
 terms_of (Check table) = check_terms table
 terms_of (Serve port count) = serve_terms count
 terms_of (Load count) = load_terms count
+terms_of Audit = audit_terms
 terms_of Record = record_terms
 terms_of Describe = describe_terms
 terms_of Undescribe = undescribe_terms

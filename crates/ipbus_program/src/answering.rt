@@ -2,8 +2,9 @@
 
 ghost use Rattle.std.specs.Prelude.{◌≡◌, ◌≢◌, ◌≤◌, ℕ, Err, IfOk, IsOkAnd, true};
 ghost use Rattle.ipb_outside.specs.Doors.{Listens};
+ghost use Rattle.ipb_outside.specs.Pairs.{GivesBack};
 ghost use Rattle.board_greeting.specs.Links.{Keeps};
-ghost use Rattle.session_serve.specs.Pairs.{GivesBack};
+ghost use Rattle.session_serve.specs.Serving.{AreBack};
 ghost use Rattle.command_words.specs.declared.command.Command.{Command as CommandValue};
 ghost use Rattle.command_words.specs.declared.command.Command.TheVariants.{Load, Serve};
 ghost use Rattle.command_terms.specs.Faults.{RisesOnlyAt};
@@ -15,6 +16,8 @@ ghost use Rattle.ipbus_program.specs.Commands.{terms_of};
 ghost use Rattle.ipbus_program.specs.Steps.{IsFailure, LeavesAlone};
 
 use crate::no_answer::NoAnswer;
+use audit_command::laws::the_terms_of_audit;
+use audit_command::{AuditRefusal, MAX_AUDIT, audit_answer, refused_input};
 use capture_commands::laws::{the_terms_of_describe, the_terms_of_undescribe};
 use capture_commands::{
     MAX_CAPTURE, TextRefusal, describe_answer, refused_text, undescribe_answer,
@@ -51,6 +54,7 @@ pub(crate) fn terms_are_terms()
     the_terms_of_check();
     the_terms_of_serve();
     the_terms_of_load();
+    the_terms_of_audit();
     the_terms_of_record();
     the_terms_of_describe();
     the_terms_of_undescribe();
@@ -67,6 +71,7 @@ pub(crate) fn limit_of(command: &Command) -> Option<usize>
         Command::Check { table: _ } => Some(MAX_DOCUMENT),
         Command::Serve { port: _, count: _ } => Some(MAX_DOCUMENT),
         Command::Load { count: _ } => None,
+        Command::Audit => Some(MAX_AUDIT),
         Command::Record => Some(MAX_DOCUMENT),
         Command::Describe => Some(MAX_CAPTURE),
         Command::Undescribe => Some(MAX_CAPTURE),
@@ -86,6 +91,7 @@ pub(crate) fn too_long(alloc: Global, command: &Command) -> Result<Answer, NoMem
         Command::Check { table: _ } => refused(alloc, &Refusal::TooLong),
         Command::Serve { port: _, count: _ } => refused(alloc, &Refusal::TooLong),
         Command::Load { count: _ } => unreachable!(),
+        Command::Audit => refused_input(alloc, &AuditRefusal::OfSession(Refusal::TooLong)),
         Command::Record => refused(alloc, &Refusal::TooLong),
         Command::Describe => refused_text(alloc, &TextRefusal::LongCapture),
         Command::Undescribe => refused_text(alloc, &TextRefusal::LongDescription),
@@ -108,7 +114,7 @@ pub(crate) fn answer_to<R: Rack, D: Door, T: Threads + Wait + Sync, G: Gate>(
     ensures leaves { Keeps R.L.faults R.L.quiets R.L.gots R.L.held R.L.telling (R.kept rack.old) (R.kept rack.new)
         (λ links. GivesBack D.Incoming.left D.Incoming.faults D.Outgoing.written D.Outgoing.faults D.Outgoing.ended
         (D.coming door.old) (D.coming door.new) (D.kept door.old) (D.kept door.new)
-        (λ came back. Leaves IsFailure NoAnswer.RackFault (terms_of command.now) bytes.now (R.made rack.old)
+        (λ came back. Leaves AreBack IsFailure NoAnswer.RackFault (terms_of command.now) bytes.now (R.made rack.old)
         (R.made rack.new) result (record { links = links; came = came; back = back }))) }
     ensures alone { LeavesAlone (terms_of command.now) result rack.old rack.new door.old door.new }
     ensures none_out { D.out door.new ≡ D.out door.old }
@@ -127,6 +133,7 @@ pub(crate) fn answer_to<R: Rack, D: Door, T: Threads + Wait + Sync, G: Gate>(
             Ok(serve_document(rt, alloc, bytes, *port, *count, rack, door)?)
         }
         Command::Load { count } => Ok(answer_load(rt, alloc, *count, rack, gate)?),
+        Command::Audit => Ok(audit_answer(alloc, bytes)?),
         Command::Record => Ok(record_document(rt, alloc, bytes, rack, gate)?),
         Command::Describe => Ok(describe_answer(alloc, bytes)?),
         Command::Undescribe => Ok(undescribe_answer(alloc, bytes)?),

@@ -3,9 +3,9 @@
 ghost use Rattle.std.specs.Prelude.{◌≡◌, ◌≢◌, ◌⊎◌, ◌≤◌, ℕ, List, length, Some, None, Err, IsOkAnd};
 ghost use Rattle.ipb_base.specs.Faults.{Rose};
 ghost use Rattle.ipb_outside.specs.Doors.{Listens};
+ghost use Rattle.ipb_outside.specs.Pairs.{GivesBack};
 ghost use Rattle.ipb_outside.specs.Told.{TakesCount};
 ghost use Rattle.board_greeting.specs.Links.{Keeps};
-ghost use Rattle.session_serve.specs.Pairs.{GivesBack};
 ghost use Rattle.command_words.specs.declared.command.Command.{Command as Asked};
 ghost use Rattle.command_words.specs.declared.command.Command.TheVariants.{Load, Serve};
 ghost use Rattle.load_run.specs.Generated.{most_operations};

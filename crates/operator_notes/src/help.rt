@@ -4,7 +4,7 @@
 pub const VERSION: &str = "version 2, for IPbus 2.0 and session documents of formats 1 and 2";
 
 /// The lines of the page of help: each command with what it does and an example.
-pub const HELP: [&str; 19] = [
+pub const HELP: [&str; 21] = [
     "ipbus run                runs the scripts of the session document on standard input on its boards",
     "                           bin/ipbus run < examples/start/first.toml",
     "ipbus check TABLE        lists the registers of a table of the document, and which of them overlap",
@@ -13,6 +13,8 @@ pub const HELP: [&str; 19] = [
     "                           bin/ipbus serve 5000 2 < examples/net/over_udp.toml",
     "ipbus load COUNT         runs a session of COUNT additions, 1 to 100000, that it makes itself",
     "                           bin/ipbus load 1000",
+    "ipbus audit              says whether a transcript fits the session document in front of it",
+    "                           bin/ipbus audit < examples/audits/one_read.input",
     "ipbus record             runs the scripts as run does, on one simulated board, and writes the capture of its datagrams",
     "                           bin/ipbus record < examples/start/first.toml",
     "ipbus describe           says what each datagram of a capture is, and up to which packet it proves",

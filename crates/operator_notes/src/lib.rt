@@ -1,8 +1,9 @@
 //! What the program says on standard error at its end: what to look for where words are no command or an input is
-//! refused, what a policy denied, what of a configuration was read and is not as it was given, what was done where the text
-//! could not be written, and a page of help. No contract speaks of these texts.
+//! refused, what a policy denied, what of a configuration was read and is not as it was given, what of a transcript does not
+//! fit its session, what was done where the text could not be written, and a page of help. No contract speaks of these texts.
 #![tactic(auto)]
 
+mod audits;
 mod captures;
 mod configurations;
 mod denials;
@@ -17,7 +18,9 @@ mod sentences;
 mod statuses;
 mod summaries;
 mod usage;
+mod verdicts;
 
+pub use audit_command::MAX_AUDIT;
 pub use capture_commands::MAX_CAPTURE;
 pub use command_words::{Command, command_of};
 pub use denials::denial_notes;
@@ -30,3 +33,4 @@ pub use session_input::Refusal;
 pub use statuses::{door_note, memory_note, rack_note, read_note, write_note};
 pub use summaries::configuration_summary;
 pub use usage::usage_notes;
+pub use verdicts::verdict_notes;

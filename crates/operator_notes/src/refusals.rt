@@ -1,5 +1,6 @@
 //! What to look for in an input that is refused.
 
+use crate::audits::audit_notes;
 use crate::captures::{capture_notes, description_notes};
 use crate::configurations::configuration_notes;
 use crate::escaping::shown;
@@ -26,6 +27,7 @@ pub fn refusal_notes(
     bytes: &[u8],
 ) -> Result<Vec<String>, NoMemory> {
     match command {
+        Command::Audit => audit_notes(alloc, bytes),
         Command::Describe => capture_notes(alloc, bytes),
         Command::Undescribe => description_notes(alloc, bytes),
         Command::Save | Command::Apply => configuration_notes(alloc, command, bytes),

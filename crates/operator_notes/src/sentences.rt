@@ -21,6 +21,15 @@ pub(crate) const NOT_ONE_BOARD: &str =
 pub(crate) const NOT_SIMULATED: &str =
     "it is on a network, and only the traffic of a simulated board is recorded";
 
+pub(crate) const NO_LENGTH: &str =
+    "the first line is no length of a document in 1 to 8 digits, or fewer bytes follow it";
+
+pub(crate) const LONG_AUDIT: &str =
+    "the document has more than 16777216 bytes, or the whole input more than 134217728";
+
+pub(crate) const NOT_AUDITED: &str =
+    "it is on a network, and only runs of simulated boards are audited";
+
 pub(crate) const LONG_CAPTURE: &str = "the capture has more than 134217728 bytes";
 
 pub(crate) const LONG_DESCRIPTION: &str = "the description has more than 134217728 bytes";

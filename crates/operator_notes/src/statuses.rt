@@ -17,6 +17,9 @@ pub fn write_note(command: Option<&Command>, refused: bool) -> &'static str {
         Some(Command::Run) => {
             "the output could not be written: the scripts were executed, and only the text is cut or missing"
         }
+        Some(Command::Audit) => {
+            "the output could not be written: only the answer is cut or missing"
+        }
         Some(Command::Record) => {
             "the output could not be written: the scripts were executed, and only the capture is cut or missing"
         }

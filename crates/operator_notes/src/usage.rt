@@ -53,6 +53,7 @@ fn wrong_word(alloc: Global, words: &[String]) -> Result<String, NoMemory> {
     };
     match first {
         "run" => more_than(alloc, words, 1, "run takes no further word"),
+        "audit" => more_than(alloc, words, 1, "audit takes no further word"),
         "record" => more_than(alloc, words, 1, "record takes no further word"),
         "describe" => more_than(alloc, words, 1, "describe takes no further word"),
         "undescribe" => more_than(alloc, words, 1, "undescribe takes no further word"),
@@ -64,7 +65,7 @@ fn wrong_word(alloc: Global, words: &[String]) -> Result<String, NoMemory> {
         _ => {
             let first = shown(alloc, first)?;
             let text = format!(in alloc;
-                "\"{first}\" is no command; run, check, serve, load, record, describe, undescribe, save and apply are"
+                "\"{first}\" is no command; run, check, serve, load, audit, record, describe, undescribe, save and apply are"
             )?;
             Ok(text)
         }

@@ -1,12 +1,16 @@
 use Rattle.std.proofs.Common.{Ok, [], map, refl, sym, subst, ◌∙◌, ap}
+use Rattle.session_run.specs.Faults.{IsRunFailure}
 use Rattle.session_run.specs.declared.session.RunFault.TheVariants as run
+use Rattle.session_serve.specs.Faults.{IsServeFailure}
+use Rattle.session_serve.specs.Serving.{AreBack}
 use Rattle.session_serve.specs.declared.report.ServeFault.TheVariants as serve
+use Rattle.session_serve.proofs.Standing.{none_served}
 use Rattle.std.specs.Result.{IsOkAnd}
 use Rattle.ipb_outside.specs.Doors.{Listens}
 use Rattle.board_greeting.specs.Boards.{shown_by}
 use Rattle.command_words.specs.declared.command.Command.TheVariants.{Check, Run}
-use Rattle.command_terms.specs.Leaving.{IsRunFailure, IsServeFailure, Leaves}
-use Rattle.command_terms.specs.Outside.{no_pairs}
+use Rattle.command_terms.specs.Leaving.{Leaves}
+use Rattle.command_terms.specs.Outside.{NoneCame, no_pairs}
 use Rattle.command_terms.specs.Terms.{Owes}
 use Rattle.command_terms.proofs.Leaving.{done_as, failed_as, failure_left, nothing_left}
 use Rattle.command_terms.proofs.Pairs.{therefore, without_pairs}
@@ -15,6 +19,7 @@ use Rattle.ipbus_program.specs.declared.no_answer.NoAnswer.TheVariants.{NoMemory
 use Rattle.ipbus_program.specs.Steps.{IsFailure, no_answer_of, no_answer_served}
 use Rattle.serve_command.proofs.Ports.{IsNoRefusal, failed_listens}
 use Rattle.ipbus_program.proofs.Faults.{one_port, run_behind, run_no_door, run_rack, serve_behind, serve_rack}
+use Rattle.ipbus_program.proofs.Served.{none_as_served}
 use Rattle.ipbus_program.proofs.answering.answer_to.Goals as goal
 
 pub returns-in_err-run_document-in-Run-clause-leaves : goal.returns-in_err-run_document-in-Run-clause-leaves
@@ -27,13 +32,14 @@ returns-in_err-run_document-in-Run-clause-leaves g c =
     without_pairs shown g.D.Incoming.Source.left g.D.Incoming.Source.faults
     g.D.Outgoing.Sink.written g.D.Outgoing.Sink.faults g.D.Outgoing.Sink.ended
     _ _ _ _ _ _ refl refl
-    (Leaves IsFailure RackFault (terms_of c.args.command.now) c.args.bytes.now made makes result) (
+    (Leaves AreBack IsFailure RackFault (terms_of c.args.command.now) c.args.bytes.now made makes result) (
       left.0,
       left.1,
-      subst (λ command. Leaves IsFailure RackFault (terms_of command) c.args.bytes.now made makes result
+      subst (λ command. Leaves AreBack IsFailure RackFault (terms_of command) c.args.bytes.now made makes result
           (no_pairs (map shown left.0))) (sym c.in-Run.is)
-          (failed_as IsRunFailure run.Rack IsFailure RackFault (terms_of Run) c.args.bytes.now made makes
-          (no_pairs (map shown left.0)) no_answer_of c.in_err-run_document-in-Run.field-0.0 result (run_behind _) (run_rack _)
+          (failed_as NoneCame AreBack none_as_served IsRunFailure run.Rack IsFailure RackFault (terms_of Run)
+          c.args.bytes.now made makes (no_pairs (map shown left.0)) no_answer_of
+          c.in_err-run_document-in-Run.field-0.0 result (run_behind _) (run_rack _)
           c.from_residual.ensures.0 c.from_residual.ensures.1 left.2),
     )
 
@@ -47,13 +53,13 @@ returns-in_ok-run_document-in-Run-clause-leaves g c =
     without_pairs shown g.D.Incoming.Source.left g.D.Incoming.Source.faults
     g.D.Outgoing.Sink.written g.D.Outgoing.Sink.faults g.D.Outgoing.Sink.ended
     _ _ _ _ _ _ refl refl
-    (Leaves IsFailure RackFault (terms_of c.args.command.now) c.args.bytes.now made makes (Ok answer)) (
+    (Leaves AreBack IsFailure RackFault (terms_of c.args.command.now) c.args.bytes.now made makes (Ok answer)) (
       left.0,
       left.1,
-      subst (λ command. Leaves IsFailure RackFault (terms_of command) c.args.bytes.now made makes (Ok answer)
+      subst (λ command. Leaves AreBack IsFailure RackFault (terms_of command) c.args.bytes.now made makes (Ok answer)
           (no_pairs (map shown left.0))) (sym c.in-Run.is)
-          (done_as IsRunFailure run.Rack IsFailure RackFault (terms_of Run) c.args.bytes.now made makes
-          (no_pairs (map shown left.0)) answer left.2),
+          (done_as NoneCame AreBack none_as_served IsRunFailure run.Rack IsFailure RackFault (terms_of Run)
+          c.args.bytes.now made makes (no_pairs (map shown left.0)) answer left.2),
     )
 
 pub returns-in_err-run_document-in-Run-clause-serves : goal.returns-in_err-run_document-in-Run-clause-serves
@@ -67,9 +73,10 @@ returns-in_err-check_document-in-Check-clause-leaves g c =
     without_pairs shown g.D.Incoming.Source.left g.D.Incoming.Source.faults
     g.D.Outgoing.Sink.written g.D.Outgoing.Sink.faults g.D.Outgoing.Sink.ended
     _ _ _ _ _ _ refl refl
-    (Leaves IsFailure RackFault (terms_of c.args.command.now) c.args.bytes.now made made _)
-    (failure_left IsFailure RackFault shown _ (terms_of c.args.command.now) c.args.bytes.now _ _ NoMemory
-    c.from_residual-in_err-check_document-in-Check.ensures.0 c.from_residual-in_err-check_document-in-Check.ensures.1 (λ failed. failed))
+    (Leaves AreBack IsFailure RackFault (terms_of c.args.command.now) c.args.bytes.now made made _)
+    (failure_left AreBack none_served IsFailure RackFault shown _ (terms_of c.args.command.now) c.args.bytes.now _ _
+    NoMemory c.from_residual-in_err-check_document-in-Check.ensures.0
+    c.from_residual-in_err-check_document-in-Check.ensures.1 (λ failed. failed))
 
 pub returns-in_ok-check_document-in-Check-clause-leaves : goal.returns-in_ok-check_document-in-Check-clause-leaves
 returns-in_ok-check_document-in-Check-clause-leaves g c =
@@ -80,8 +87,8 @@ returns-in_ok-check_document-in-Check-clause-leaves g c =
     without_pairs shown g.D.Incoming.Source.left g.D.Incoming.Source.faults
     g.D.Outgoing.Sink.written g.D.Outgoing.Sink.faults g.D.Outgoing.Sink.ended
     _ _ _ _ _ _ refl refl
-    (Leaves IsFailure RackFault (terms_of c.args.command.now) c.args.bytes.now made made _)
-    (nothing_left IsFailure RackFault shown _ (terms_of c.args.command.now) c.args.bytes.now _ _
+    (Leaves AreBack IsFailure RackFault (terms_of c.args.command.now) c.args.bytes.now made made _)
+    (nothing_left AreBack none_served IsFailure RackFault shown _ (terms_of c.args.command.now) c.args.bytes.now _ _
     (subst (λ command. Owes (terms_of command) c.args.bytes.now (no_pairs []) answer.status answer.text.items) same
     c.in_ok-check_document-in-Check.ensures.owed)
     (λ fault never. absurd cc))
@@ -95,11 +102,12 @@ returns-in_err-serve_document-in-Serve-clause-leaves g c =
     therefore shown g.D.Incoming.Source.left g.D.Incoming.Source.faults
     g.D.Outgoing.Sink.written g.D.Outgoing.Sink.faults g.D.Outgoing.Sink.ended
     _ _ _ _ _ _
-    (Leaves IsServeFailure serve.Rack _ c.args.bytes.now made makes _)
-    (Leaves IsFailure RackFault (terms_of c.args.command.now) c.args.bytes.now made makes result)
-    (λ given leaves. subst (λ command. Leaves IsFailure RackFault (terms_of command) c.args.bytes.now made makes result given)
-    (sym c.in-Serve.is)
-    (failed_as IsServeFailure serve.Rack IsFailure RackFault _ c.args.bytes.now made makes given
+    (Leaves AreBack IsServeFailure serve.Rack _ c.args.bytes.now made makes _)
+    (Leaves AreBack IsFailure RackFault (terms_of c.args.command.now) c.args.bytes.now made makes result)
+    (λ given leaves. subst (λ command. Leaves AreBack IsFailure RackFault (terms_of command) c.args.bytes.now made makes
+    result given) (sym c.in-Serve.is)
+    (failed_as AreBack AreBack (λ came back served. served) IsServeFailure serve.Rack IsFailure RackFault _
+    c.args.bytes.now made makes given
     no_answer_served c.in_err-serve_document-in-Serve.field-0.0 result (serve_behind _) (serve_rack _)
     c.from_residual-in_err-serve_document-in-Serve.ensures.0 c.from_residual-in_err-serve_document-in-Serve.ensures.1 leaves))
     c.in_err-serve_document-in-Serve.ensures.leaves
@@ -113,11 +121,12 @@ returns-in_ok-serve_document-in-Serve-clause-leaves g c =
     therefore shown g.D.Incoming.Source.left g.D.Incoming.Source.faults
     g.D.Outgoing.Sink.written g.D.Outgoing.Sink.faults g.D.Outgoing.Sink.ended
     _ _ _ _ _ _
-    (Leaves IsServeFailure serve.Rack _ c.args.bytes.now made makes (Ok answer))
-    (Leaves IsFailure RackFault (terms_of c.args.command.now) c.args.bytes.now made makes (Ok answer))
-    (λ given leaves. subst (λ command. Leaves IsFailure RackFault (terms_of command) c.args.bytes.now made makes (Ok answer) given)
-    (sym c.in-Serve.is)
-    (done_as IsServeFailure serve.Rack IsFailure RackFault _ c.args.bytes.now made makes given answer leaves))
+    (Leaves AreBack IsServeFailure serve.Rack _ c.args.bytes.now made makes (Ok answer))
+    (Leaves AreBack IsFailure RackFault (terms_of c.args.command.now) c.args.bytes.now made makes (Ok answer))
+    (λ given leaves. subst (λ command. Leaves AreBack IsFailure RackFault (terms_of command) c.args.bytes.now made makes
+    (Ok answer) given) (sym c.in-Serve.is)
+    (done_as AreBack AreBack (λ came back served. served) IsServeFailure serve.Rack IsFailure RackFault _
+    c.args.bytes.now made makes given answer leaves))
     c.in_ok-serve_document-in-Serve.ensures.leaves
 
 pub returns-in_err-answer_load-in-Load-clause-leaves : goal.returns-in_err-answer_load-in-Load-clause-leaves
@@ -130,14 +139,15 @@ returns-in_err-answer_load-in-Load-clause-leaves g c =
     without_pairs shown g.D.Incoming.Source.left g.D.Incoming.Source.faults
     g.D.Outgoing.Sink.written g.D.Outgoing.Sink.faults g.D.Outgoing.Sink.ended
     _ _ _ _ _ _ refl refl
-    (Leaves IsFailure RackFault (terms_of c.args.command.now) c.args.bytes.now made makes result) (
+    (Leaves AreBack IsFailure RackFault (terms_of c.args.command.now) c.args.bytes.now made makes result) (
       left.0,
       left.1,
-      subst (λ command. Leaves IsFailure RackFault (terms_of command) c.args.bytes.now made makes result
+      subst (λ command. Leaves AreBack IsFailure RackFault (terms_of command) c.args.bytes.now made makes result
           (no_pairs (map shown left.0))) (sym c.in-Load.is)
-          (failed_as IsRunFailure run.Rack IsFailure RackFault _ c.args.bytes.now made makes
-          (no_pairs (map shown left.0)) no_answer_of c.in_err-answer_load-in-Load.field-0.0 result (run_behind _)
-          (run_rack _) c.from_residual-in_err-answer_load-in-Load.ensures.0
+          (failed_as NoneCame AreBack none_as_served IsRunFailure run.Rack IsFailure RackFault _
+          c.args.bytes.now made makes (no_pairs (map shown left.0)) no_answer_of
+          c.in_err-answer_load-in-Load.field-0.0 result (run_behind _) (run_rack _)
+          c.from_residual-in_err-answer_load-in-Load.ensures.0
           c.from_residual-in_err-answer_load-in-Load.ensures.1 left.2),
     )
 
@@ -151,14 +161,40 @@ returns-in_ok-answer_load-in-Load-clause-leaves g c =
     without_pairs shown g.D.Incoming.Source.left g.D.Incoming.Source.faults
     g.D.Outgoing.Sink.written g.D.Outgoing.Sink.faults g.D.Outgoing.Sink.ended
     _ _ _ _ _ _ refl refl
-    (Leaves IsFailure RackFault (terms_of c.args.command.now) c.args.bytes.now made makes (Ok answer)) (
+    (Leaves AreBack IsFailure RackFault (terms_of c.args.command.now) c.args.bytes.now made makes (Ok answer)) (
       left.0,
       left.1,
-      subst (λ command. Leaves IsFailure RackFault (terms_of command) c.args.bytes.now made makes (Ok answer)
+      subst (λ command. Leaves AreBack IsFailure RackFault (terms_of command) c.args.bytes.now made makes (Ok answer)
           (no_pairs (map shown left.0))) (sym c.in-Load.is)
-          (done_as IsRunFailure run.Rack IsFailure RackFault _ c.args.bytes.now made makes
-          (no_pairs (map shown left.0)) answer left.2),
+          (done_as NoneCame AreBack none_as_served IsRunFailure run.Rack IsFailure RackFault _
+          c.args.bytes.now made makes (no_pairs (map shown left.0)) answer left.2),
     )
+
+pub returns-in_err-audit_answer-in-Audit-clause-leaves : goal.returns-in_err-audit_answer-in-Audit-clause-leaves
+returns-in_err-audit_answer-in-Audit-clause-leaves g c =
+    let shown = shown_by g.R.L.Link.faults g.R.L.Link.quiets g.R.L.Link.gots g.R.L.Link.held g.R.L.Link.telling in
+    let made = g.R.Rack.made c.args.rack.now in
+    without_pairs shown g.D.Incoming.Source.left g.D.Incoming.Source.faults
+    g.D.Outgoing.Sink.written g.D.Outgoing.Sink.faults g.D.Outgoing.Sink.ended
+    _ _ _ _ _ _ refl refl
+    (Leaves AreBack IsFailure RackFault (terms_of c.args.command.now) c.args.bytes.now made made _)
+    (failure_left AreBack none_served IsFailure RackFault shown _ (terms_of c.args.command.now) c.args.bytes.now _ _ NoMemory
+    c.from_residual-in_err-audit_answer-in-Audit.ensures.0 c.from_residual-in_err-audit_answer-in-Audit.ensures.1
+    (λ failed. failed))
+
+pub returns-in_ok-audit_answer-in-Audit-clause-leaves : goal.returns-in_ok-audit_answer-in-Audit-clause-leaves
+returns-in_ok-audit_answer-in-Audit-clause-leaves g c =
+    let shown = shown_by g.R.L.Link.faults g.R.L.Link.quiets g.R.L.Link.gots g.R.L.Link.held g.R.L.Link.telling in
+    let made = g.R.Rack.made c.args.rack.now in
+    let answer = c.in_ok-audit_answer-in-Audit.field-0 in
+    without_pairs shown g.D.Incoming.Source.left g.D.Incoming.Source.faults
+    g.D.Outgoing.Sink.written g.D.Outgoing.Sink.faults g.D.Outgoing.Sink.ended
+    _ _ _ _ _ _ refl refl
+    (Leaves AreBack IsFailure RackFault (terms_of c.args.command.now) c.args.bytes.now made made _)
+    (nothing_left AreBack none_served IsFailure RackFault shown _ (terms_of c.args.command.now) c.args.bytes.now _ _
+    (subst (λ command. Owes (terms_of command) c.args.bytes.now (no_pairs []) answer.status answer.text.items)
+    (sym c.in-Audit.is) c.in_ok-audit_answer-in-Audit.ensures.owed)
+    (λ fault never. absurd cc))
 
 pub returns-in_err-describe_answer-in-Describe-clause-leaves : goal.returns-in_err-describe_answer-in-Describe-clause-leaves
 returns-in_err-describe_answer-in-Describe-clause-leaves g c =
@@ -167,10 +203,10 @@ returns-in_err-describe_answer-in-Describe-clause-leaves g c =
     without_pairs shown g.D.Incoming.Source.left g.D.Incoming.Source.faults
     g.D.Outgoing.Sink.written g.D.Outgoing.Sink.faults g.D.Outgoing.Sink.ended
     _ _ _ _ _ _ refl refl
-    (Leaves IsFailure RackFault (terms_of c.args.command.now) c.args.bytes.now made made _)
-    (failure_left IsFailure RackFault shown _ (terms_of c.args.command.now) c.args.bytes.now _ _ NoMemory
-    c.from_residual-in_err-describe_answer-in-Describe.ensures.0 c.from_residual-in_err-describe_answer-in-Describe.ensures.1
-    (λ failed. failed))
+    (Leaves AreBack IsFailure RackFault (terms_of c.args.command.now) c.args.bytes.now made made _)
+    (failure_left AreBack none_served IsFailure RackFault shown _ (terms_of c.args.command.now) c.args.bytes.now _ _
+    NoMemory c.from_residual-in_err-describe_answer-in-Describe.ensures.0
+    c.from_residual-in_err-describe_answer-in-Describe.ensures.1 (λ failed. failed))
 
 pub returns-in_ok-describe_answer-in-Describe-clause-leaves : goal.returns-in_ok-describe_answer-in-Describe-clause-leaves
 returns-in_ok-describe_answer-in-Describe-clause-leaves g c =
@@ -180,8 +216,8 @@ returns-in_ok-describe_answer-in-Describe-clause-leaves g c =
     without_pairs shown g.D.Incoming.Source.left g.D.Incoming.Source.faults
     g.D.Outgoing.Sink.written g.D.Outgoing.Sink.faults g.D.Outgoing.Sink.ended
     _ _ _ _ _ _ refl refl
-    (Leaves IsFailure RackFault (terms_of c.args.command.now) c.args.bytes.now made made _)
-    (nothing_left IsFailure RackFault shown _ (terms_of c.args.command.now) c.args.bytes.now _ _
+    (Leaves AreBack IsFailure RackFault (terms_of c.args.command.now) c.args.bytes.now made made _)
+    (nothing_left AreBack none_served IsFailure RackFault shown _ (terms_of c.args.command.now) c.args.bytes.now _ _
     (subst (λ command. Owes (terms_of command) c.args.bytes.now (no_pairs []) answer.status answer.text.items)
     (sym c.in-Describe.is) c.in_ok-describe_answer-in-Describe.ensures.owed)
     (λ fault never. absurd cc))
@@ -193,10 +229,10 @@ returns-in_err-undescribe_answer-in-Undescribe-clause-leaves g c =
     without_pairs shown g.D.Incoming.Source.left g.D.Incoming.Source.faults
     g.D.Outgoing.Sink.written g.D.Outgoing.Sink.faults g.D.Outgoing.Sink.ended
     _ _ _ _ _ _ refl refl
-    (Leaves IsFailure RackFault (terms_of c.args.command.now) c.args.bytes.now made made _)
-    (failure_left IsFailure RackFault shown _ (terms_of c.args.command.now) c.args.bytes.now _ _ NoMemory
-    c.from_residual-in_err-undescribe_answer-in-Undescribe.ensures.0 c.from_residual-in_err-undescribe_answer-in-Undescribe.ensures.1
-    (λ failed. failed))
+    (Leaves AreBack IsFailure RackFault (terms_of c.args.command.now) c.args.bytes.now made made _)
+    (failure_left AreBack none_served IsFailure RackFault shown _ (terms_of c.args.command.now) c.args.bytes.now _ _
+    NoMemory c.from_residual-in_err-undescribe_answer-in-Undescribe.ensures.0
+    c.from_residual-in_err-undescribe_answer-in-Undescribe.ensures.1 (λ failed. failed))
 
 pub returns-in_ok-undescribe_answer-in-Undescribe-clause-leaves : goal.returns-in_ok-undescribe_answer-in-Undescribe-clause-leaves
 returns-in_ok-undescribe_answer-in-Undescribe-clause-leaves g c =
@@ -206,8 +242,8 @@ returns-in_ok-undescribe_answer-in-Undescribe-clause-leaves g c =
     without_pairs shown g.D.Incoming.Source.left g.D.Incoming.Source.faults
     g.D.Outgoing.Sink.written g.D.Outgoing.Sink.faults g.D.Outgoing.Sink.ended
     _ _ _ _ _ _ refl refl
-    (Leaves IsFailure RackFault (terms_of c.args.command.now) c.args.bytes.now made made _)
-    (nothing_left IsFailure RackFault shown _ (terms_of c.args.command.now) c.args.bytes.now _ _
+    (Leaves AreBack IsFailure RackFault (terms_of c.args.command.now) c.args.bytes.now made made _)
+    (nothing_left AreBack none_served IsFailure RackFault shown _ (terms_of c.args.command.now) c.args.bytes.now _ _
     (subst (λ command. Owes (terms_of command) c.args.bytes.now (no_pairs []) answer.status answer.text.items)
     (sym c.in-Undescribe.is) c.in_ok-undescribe_answer-in-Undescribe.ensures.owed)
     (λ fault never. absurd cc))
@@ -222,14 +258,15 @@ returns-in_err-record_document-in-Record-clause-leaves g c =
     without_pairs shown g.D.Incoming.Source.left g.D.Incoming.Source.faults
     g.D.Outgoing.Sink.written g.D.Outgoing.Sink.faults g.D.Outgoing.Sink.ended
     _ _ _ _ _ _ refl refl
-    (Leaves IsFailure RackFault (terms_of c.args.command.now) c.args.bytes.now made makes result) (
+    (Leaves AreBack IsFailure RackFault (terms_of c.args.command.now) c.args.bytes.now made makes result) (
       left.0,
       left.1,
-      subst (λ command. Leaves IsFailure RackFault (terms_of command) c.args.bytes.now made makes result
+      subst (λ command. Leaves AreBack IsFailure RackFault (terms_of command) c.args.bytes.now made makes result
           (no_pairs (map shown left.0))) (sym c.in-Record.is)
-          (failed_as IsRunFailure run.Rack IsFailure RackFault _ c.args.bytes.now made makes
-          (no_pairs (map shown left.0)) no_answer_of c.in_err-record_document-in-Record.field-0.0 result (run_behind _)
-          (run_rack _) c.from_residual-in_err-record_document-in-Record.ensures.0
+          (failed_as NoneCame AreBack none_as_served IsRunFailure run.Rack IsFailure RackFault _
+          c.args.bytes.now made makes (no_pairs (map shown left.0)) no_answer_of
+          c.in_err-record_document-in-Record.field-0.0 result (run_behind _) (run_rack _)
+          c.from_residual-in_err-record_document-in-Record.ensures.0
           c.from_residual-in_err-record_document-in-Record.ensures.1 left.2),
     )
 
@@ -243,13 +280,13 @@ returns-in_ok-record_document-in-Record-clause-leaves g c =
     without_pairs shown g.D.Incoming.Source.left g.D.Incoming.Source.faults
     g.D.Outgoing.Sink.written g.D.Outgoing.Sink.faults g.D.Outgoing.Sink.ended
     _ _ _ _ _ _ refl refl
-    (Leaves IsFailure RackFault (terms_of c.args.command.now) c.args.bytes.now made makes (Ok answer)) (
+    (Leaves AreBack IsFailure RackFault (terms_of c.args.command.now) c.args.bytes.now made makes (Ok answer)) (
       left.0,
       left.1,
-      subst (λ command. Leaves IsFailure RackFault (terms_of command) c.args.bytes.now made makes (Ok answer)
+      subst (λ command. Leaves AreBack IsFailure RackFault (terms_of command) c.args.bytes.now made makes (Ok answer)
           (no_pairs (map shown left.0))) (sym c.in-Record.is)
-          (done_as IsRunFailure run.Rack IsFailure RackFault _ c.args.bytes.now made makes
-          (no_pairs (map shown left.0)) answer left.2),
+          (done_as NoneCame AreBack none_as_served IsRunFailure run.Rack IsFailure RackFault _
+          c.args.bytes.now made makes (no_pairs (map shown left.0)) answer left.2),
     )
 
 pub returns-in_err-save_document-in-Save-clause-leaves : goal.returns-in_err-save_document-in-Save-clause-leaves
@@ -262,14 +299,15 @@ returns-in_err-save_document-in-Save-clause-leaves g c =
     without_pairs shown g.D.Incoming.Source.left g.D.Incoming.Source.faults
     g.D.Outgoing.Sink.written g.D.Outgoing.Sink.faults g.D.Outgoing.Sink.ended
     _ _ _ _ _ _ refl refl
-    (Leaves IsFailure RackFault (terms_of c.args.command.now) c.args.bytes.now made makes result) (
+    (Leaves AreBack IsFailure RackFault (terms_of c.args.command.now) c.args.bytes.now made makes result) (
       left.0,
       left.1,
-      subst (λ command. Leaves IsFailure RackFault (terms_of command) c.args.bytes.now made makes result
+      subst (λ command. Leaves AreBack IsFailure RackFault (terms_of command) c.args.bytes.now made makes result
           (no_pairs (map shown left.0))) (sym c.in-Save.is)
-          (failed_as IsRunFailure run.Rack IsFailure RackFault _ c.args.bytes.now made makes
-          (no_pairs (map shown left.0)) no_answer_of c.in_err-save_document-in-Save.field-0.0 result (run_behind _)
-          (run_rack _) c.from_residual-in_err-save_document-in-Save.ensures.0
+          (failed_as NoneCame AreBack none_as_served IsRunFailure run.Rack IsFailure RackFault _
+          c.args.bytes.now made makes (no_pairs (map shown left.0)) no_answer_of
+          c.in_err-save_document-in-Save.field-0.0 result (run_behind _) (run_rack _)
+          c.from_residual-in_err-save_document-in-Save.ensures.0
           c.from_residual-in_err-save_document-in-Save.ensures.1 left.2),
     )
 
@@ -283,13 +321,13 @@ returns-in_ok-save_document-in-Save-clause-leaves g c =
     without_pairs shown g.D.Incoming.Source.left g.D.Incoming.Source.faults
     g.D.Outgoing.Sink.written g.D.Outgoing.Sink.faults g.D.Outgoing.Sink.ended
     _ _ _ _ _ _ refl refl
-    (Leaves IsFailure RackFault (terms_of c.args.command.now) c.args.bytes.now made makes (Ok answer)) (
+    (Leaves AreBack IsFailure RackFault (terms_of c.args.command.now) c.args.bytes.now made makes (Ok answer)) (
       left.0,
       left.1,
-      subst (λ command. Leaves IsFailure RackFault (terms_of command) c.args.bytes.now made makes (Ok answer)
+      subst (λ command. Leaves AreBack IsFailure RackFault (terms_of command) c.args.bytes.now made makes (Ok answer)
           (no_pairs (map shown left.0))) (sym c.in-Save.is)
-          (done_as IsRunFailure run.Rack IsFailure RackFault _ c.args.bytes.now made makes
-          (no_pairs (map shown left.0)) answer left.2),
+          (done_as NoneCame AreBack none_as_served IsRunFailure run.Rack IsFailure RackFault _
+          c.args.bytes.now made makes (no_pairs (map shown left.0)) answer left.2),
     )
 
 pub returns-in_err-apply_document-in-Apply-clause-leaves : goal.returns-in_err-apply_document-in-Apply-clause-leaves
@@ -302,14 +340,15 @@ returns-in_err-apply_document-in-Apply-clause-leaves g c =
     without_pairs shown g.D.Incoming.Source.left g.D.Incoming.Source.faults
     g.D.Outgoing.Sink.written g.D.Outgoing.Sink.faults g.D.Outgoing.Sink.ended
     _ _ _ _ _ _ refl refl
-    (Leaves IsFailure RackFault (terms_of c.args.command.now) c.args.bytes.now made makes result) (
+    (Leaves AreBack IsFailure RackFault (terms_of c.args.command.now) c.args.bytes.now made makes result) (
       left.0,
       left.1,
-      subst (λ command. Leaves IsFailure RackFault (terms_of command) c.args.bytes.now made makes result
+      subst (λ command. Leaves AreBack IsFailure RackFault (terms_of command) c.args.bytes.now made makes result
           (no_pairs (map shown left.0))) (sym c.in-Apply.is)
-          (failed_as IsRunFailure run.Rack IsFailure RackFault _ c.args.bytes.now made makes
-          (no_pairs (map shown left.0)) no_answer_of c.in_err-apply_document-in-Apply.field-0.0 result (run_behind _)
-          (run_rack _) c.from_residual-in_err-apply_document-in-Apply.ensures.0
+          (failed_as NoneCame AreBack none_as_served IsRunFailure run.Rack IsFailure RackFault _
+          c.args.bytes.now made makes (no_pairs (map shown left.0)) no_answer_of
+          c.in_err-apply_document-in-Apply.field-0.0 result (run_behind _) (run_rack _)
+          c.from_residual-in_err-apply_document-in-Apply.ensures.0
           c.from_residual-in_err-apply_document-in-Apply.ensures.1 left.2),
     )
 
@@ -323,13 +362,13 @@ returns-in_ok-apply_document-in-Apply-clause-leaves g c =
     without_pairs shown g.D.Incoming.Source.left g.D.Incoming.Source.faults
     g.D.Outgoing.Sink.written g.D.Outgoing.Sink.faults g.D.Outgoing.Sink.ended
     _ _ _ _ _ _ refl refl
-    (Leaves IsFailure RackFault (terms_of c.args.command.now) c.args.bytes.now made makes (Ok answer)) (
+    (Leaves AreBack IsFailure RackFault (terms_of c.args.command.now) c.args.bytes.now made makes (Ok answer)) (
       left.0,
       left.1,
-      subst (λ command. Leaves IsFailure RackFault (terms_of command) c.args.bytes.now made makes (Ok answer)
+      subst (λ command. Leaves AreBack IsFailure RackFault (terms_of command) c.args.bytes.now made makes (Ok answer)
           (no_pairs (map shown left.0))) (sym c.in-Apply.is)
-          (done_as IsRunFailure run.Rack IsFailure RackFault _ c.args.bytes.now made makes
-          (no_pairs (map shown left.0)) answer left.2),
+          (done_as NoneCame AreBack none_as_served IsRunFailure run.Rack IsFailure RackFault _
+          c.args.bytes.now made makes (no_pairs (map shown left.0)) answer left.2),
     )
 
 pub returns-in_err-serve_document-in-Serve-clause-listens : goal.returns-in_err-serve_document-in-Serve-clause-listens

@@ -1,5 +1,6 @@
 use Rattle.std.proofs.Common.{[], sym, ◌∙◌}
 use Rattle.board_greeting.specs.Boards.{shown_by}
+use Rattle.session_serve.specs.Serving.{AreBack}
 use Rattle.command_terms.specs.Leaving.{Leaves}
 use Rattle.command_terms.proofs.Pairs.{therefore}
 use Rattle.ipbus_program.specs.Commands.{terms_of}
@@ -18,7 +19,7 @@ returns-in-None-clause-leaves g c =
     therefore shown g.D.Incoming.Source.left g.D.Incoming.Source.faults
     g.D.Outgoing.Sink.written g.D.Outgoing.Sink.faults g.D.Outgoing.Sink.ended
     _ _ _ _ _ _
-    (Leaves IsFailure RackFault terms [] made makes c.answer_to.result)
+    (Leaves AreBack IsFailure RackFault terms [] made makes c.answer_to.result)
     (InputLeaves terms before before made makes c.answer_to.result)
     (λ given leaves. unread_left terms (c.terms_are_terms.ensures c.args.command.now)
     (sym c.limit_of.ensures ∙ c.in-None.is) before made makes given c.answer_to.result

@@ -1,6 +1,7 @@
 use Rattle.std.proofs.Common.{◌≡◌, ◌+◌, ◌≤◌, ◌∙◌, inl, refl, sym, ap, length, vec_len, arith, subst, [], Ok, Err, rules}
 use Rattle.ipb_outside.specs.Told.{TakesAtMost, TakesCount}
 use Rattle.board_greeting.specs.Boards.{shown_by}
+use Rattle.session_serve.specs.Serving.{AreBack}
 use Rattle.command_terms.specs.Leaving.{Leaves}
 use Rattle.command_terms.specs.Outside.{no_pairs}
 use Rattle.command_terms.proofs.Pairs.{therefore, without_pairs}
@@ -25,13 +26,13 @@ returns-in-Ok-clause-leaves g c =
     therefore shown g.D.Incoming.Source.left g.D.Incoming.Source.faults
     g.D.Outgoing.Sink.written g.D.Outgoing.Sink.faults g.D.Outgoing.Sink.ended
     _ _ _ _ _ _
-    (Leaves IsFailure RackFault (terms_of c.args.command.now) c.deref.result.now made makes c.answer_to.result)
+    (Leaves AreBack IsFailure RackFault (terms_of c.args.command.now) c.deref.result.now made makes c.answer_to.result)
     (InputLeaves (terms_of c.args.command.now) before now made makes c.answer_to.result)
     (λ given leaves. input_left (terms_of c.args.command.now) c.args.limit c.requires.reads before now
     c.in-Ok.bytes.items (record { all = c.in-Ok.ensures.whole; at_end = c.in-Ok.ensures.at_end }) made makes
     given c.answer_to.result within c.answer_to.ensures.serves
-    (subst (λ bytes. Leaves IsFailure RackFault (terms_of c.args.command.now) bytes made makes c.answer_to.result given)
-    c.deref.ensures.value leaves))
+    (subst (λ bytes. Leaves AreBack IsFailure RackFault (terms_of c.args.command.now) bytes made makes
+    c.answer_to.result given) c.deref.ensures.value leaves))
     c.answer_to.ensures.leaves
 
 pub returns-in_ok-too_long-in-Err-TooLong-clause-leaves : goal.returns-in_ok-too_long-in-Err-TooLong-clause-leaves
