@@ -1,7 +1,7 @@
 """What the program says on standard error at its end."""
 import pathlib
 import re
-from collections import Counter
+from collections import Counter, defaultdict
 
 TOP = pathlib.Path(__file__).resolve().parent.parent.parent
 
@@ -24,6 +24,7 @@ UNWRITTEN = {
     "load": CUT.format("the session was run, and only the text is cut or missing"),
     "record": CUT.format("the scripts were executed, and only the capture is cut or missing"),
     "check": CUT.format("only the listing is cut or missing"),
+    "audit": CUT.format("only the answer is cut or missing"),
     "save": CUT.format("the registers were read, and only the text is cut or missing"),
     "apply": CUT.format("the values were written and the registers read, and only the text is cut or missing"),
     "describe": CUT.format("only the description is cut or missing"),
@@ -132,11 +133,15 @@ def operations(count):
 
 
 def sentences():
-    """The refusals of `docs/FORMATS.md` and what each means, by the second word and the last one of its line."""
+    """The refusals of `docs/FORMATS.md` and what each means, by the second word and the last one of its line. Where it
+    depends on the command there are several sentences."""
     page = (TOP / "docs" / "FORMATS.md").read_text()
     kinds = "document|table|policy|compile|board|state|script|capture|description"
     rows = re.findall(rf"^\| `({kinds})` \| `(\w+)` \| (.+) \|$", page, re.MULTILINE)
-    return {(kind, name): sentence for kind, name, sentence in rows}
+    found = defaultdict(list)
+    for kind, name, sentence in rows:
+        found[kind, name].append(sentence)
+    return found
 
 
 SENTENCES = sentences()
@@ -146,5 +151,5 @@ def is_note_of(refusal, note):
     """Whether a note has the sentence of a refusal, which stands in its first line."""
     _, kind, *_, name = refusal.decode().split()
     lines = note.decode().removesuffix("\n").split("\n")
-    is_told = lines[0].endswith(SENTENCES.get((kind, name), "no such refusal"))
+    is_told = any(lines[0].endswith(sentence) for sentence in SENTENCES[kind, name])
     return is_told and all(line.startswith("ipbus: ") and not CONTROL.search(line) for line in lines)

@@ -3,7 +3,8 @@ import itertools
 import re
 
 LIVE = re.compile(r"board (\S+) places (\d+) replied (\d+) timeout (\d+) lost (\d+)")
-NUMBER = r"(?:0|[1-9][0-9]*)"
+# no number of a transcript has more digits
+NUMBER = r"(?:0|[1-9][0-9]{0,19})"
 PLACES = re.compile(rf"(.*) @({NUMBER}\.{NUMBER}(?:,{NUMBER}\.{NUMBER})*)")
 WORDS = re.compile(r"(=|was)((?: 0x[0-9a-f]{8})+)")
 GOOD = {"read": "=", "readblock": "=", "rmwbits": "was", "rmwsum": "was", "write": "done", "writeblock": "done"}
@@ -22,9 +23,20 @@ def begin_of(operation, board):
     return f"{operation.number} {operation.verb} {board.name}:{operation.name} "
 
 
+def denied_line(operation, board):
+    """The line of an operation that the policy denies: it tells the rule, and has no place."""
+    return f"{begin_of(operation, board)}denied by rule {operation.denied_by}"
+
+
+def parted(text):
+    """What a line shows behind its register: the result, and the places with the positions there."""
+    found = PLACES.fullmatch(text)
+    result, places = found.groups() if found else (text, "")
+    return result, [tuple(map(int, place.split("."))) for place in places.split(",") if place]
+
+
 def check_denied(text, client, operation, board):
-    """The line of an operation that the policy denies tells the rule, and has no place."""
-    wanted = f"{begin_of(operation, board)}denied by rule {operation.denied_by}"
+    wanted = denied_line(operation, board)
     check(text == wanted, f"client {client}: {text[:80]!r} in place of {wanted!r}")
 
 
@@ -39,9 +51,7 @@ class Line:
         self.told = f"client {client} line {operation.number}"
         self.client = client
         self.operation = operation
-        found = PLACES.fullmatch(text[len(begin) :])
-        self.result, places = found.groups() if found else (text[len(begin) :], "")
-        pairs = [tuple(map(int, place.split("."))) for place in places.split(",") if place]
+        self.result, pairs = parted(text[len(begin) :])
         self.places = grouped(pairs)
         self.bodies = grouped((body, index + 1) for body, index in operation.pieces)
         begin = f"timeout after {rounds} rounds, "
