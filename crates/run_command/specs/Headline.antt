@@ -2,11 +2,11 @@
 --
 -- Take any session, any way in which the threads of its clients take turns, and any losses, repeats, delays and changes
 -- of order on the links. An operation that the policy of the session denies is sent nowhere, and is printed so. Each
--- board has one order of packets, those of a client in the order of its script. Of a board
--- whose link tells, as that of every simulated board does: what is printed as the reply to an operation is what a bus
--- with a single thread answers at the printed places of that order, and each packet that the board executed stands
--- there once. `timeout` is printed only after as many rounds as the line says, and where the link tells, of a packet
--- that was executed once or never.
+-- board has one order of packets, those of a client in the order of its script. Of a board whose link tells, as that of
+-- every simulated board does: what is printed as the reply to an operation, in time or late, is what a bus with a single
+-- thread answers at the printed places of that order, and each packet that the board executed stands there once.
+-- `timeout` is printed only after as many rounds as the line says, and where the link tells, of a packet that was
+-- executed once or never, and once where a late answer stands behind it.
 --
 -- It is one record, `IsTranscriptOf`, whose parts are these words. What it says of the lines is said of the steps of
 -- any run, by `IsSessionRun` of run_laws/specs/Runs. Profile.
@@ -19,6 +19,8 @@
 --   executed once                IsExecutedOnce                          board_history/specs/Parts
 --   each reply                   AreRepliesOf, IsUngarbledWhereTold      board_history/specs/Parts,
 --                                                                        lane_history/specs/Runs
+--   late answers                 ShowsLates, AreLateExactly,             lane_history/specs/Runs, Lates,
+--                                AreLateRepliesOf                        board_history/specs/Parts
 --   timeouts                     GaveUpOnlyAfter, TimeOutsWaited,        board_history/specs/GiveUps,
 --                                IsLineOfRounds                          lane_history/specs/Runs
 --   replies over any link        RepliesCame                             lane_history/specs/Runs

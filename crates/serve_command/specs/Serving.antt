@@ -55,7 +55,8 @@
 --   no lane beyond its limits    AreServed.limits: KeepLimits            client_history/specs/Planned
 --   over a faithful link         IsFaithful, NoneIsGivenUpOrLost         lane_history/specs/Links,
 --                                                                        server_summary/specs/Frames
---   the pairs, at every status   GivesBack, AreBack                      session_serve/specs/Pairs, Serving
+--   the pairs, at every status   GivesBack, AreBack                      ipb_outside/specs/Pairs,
+--                                                                        session_serve/specs/Serving
 --   the links, at every status   IsLinkedTo, below                       session_serve/specs/Boards
 use Rattle.std.specs.Prelude.{◌≡◌, ℕ, ◌≤◌, List, [], ◌∷◌, length, None, IfSome}
 use Rattle.std.specs.List.{AllByRecursion}
