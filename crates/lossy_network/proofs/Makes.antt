@@ -20,14 +20,14 @@ pub no_failure : {A : Type 0} (fails : Bool) (result : Result A RackFault) → f
 no_failure fails result none other = (λ e. absurd (other e), λ t. absurd cc)
 
 -- the faults rise
-pub faults_rise : (result : Result Network RackFault) (rack : RackState) → rack.faults < 2 ^ 64
-    → rack.faults ≤ (after_make result rack).faults
-faults_rise (Ok link) rack small = omega arith
-faults_rise (Err Failed) rack small = omega arith
-faults_rise (Err NoMemory) rack small = omega arith
+pub faults_rise : (result : Result Network RackFault) (spec : LinkSpec) (rack : RackState) → rack.faults < 2 ^ 64
+    → rack.faults ≤ (after_make result spec rack).faults
+faults_rise (Ok link) spec rack small = omega arith
+faults_rise (Err Failed) spec rack small = omega arith
+faults_rise (Err NoMemory) spec rack small = omega arith
 
-pub faults_stay : (result : Result Network RackFault) (rack : RackState) → (result ≡ Err Failed → ⊥)
-    → (after_make result rack).faults ≡ rack.faults
-faults_stay (Ok link) rack other = refl
-faults_stay (Err Failed) rack other = absurd (other refl)
-faults_stay (Err NoMemory) rack other = refl
+pub faults_stay : (result : Result Network RackFault) (spec : LinkSpec) (rack : RackState) → (result ≡ Err Failed → ⊥)
+    → (after_make result spec rack).faults ≡ rack.faults
+faults_stay (Ok link) spec rack other = refl
+faults_stay (Err Failed) spec rack other = absurd (other refl)
+faults_stay (Err NoMemory) spec rack other = refl

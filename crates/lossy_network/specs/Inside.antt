@@ -88,5 +88,5 @@ rack_of r = record {
 
 -- no more links are kept than were made, and there is room for all that were made
 pub record IsRack (r : RackInside) : Type 0 where
-  pub within : length r.kept.items ≤ r.made
-  pub places : r.made ≤ vec_capacity r.kept
+  pub within : length r.kept.items ≤ length r.made
+  pub places : length r.made ≤ vec_capacity r.kept

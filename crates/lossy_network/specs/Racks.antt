@@ -1,5 +1,5 @@
 -- A rack: what makes links and keeps them. Profile.
-use Rattle.std.specs.Prelude.{◌≡◌, ℕ, ◌+◌, ◌==◌, ◌||◌, Bool, List, [], ◌∷◌, ◌++◌, Option, Some}
+use Rattle.std.specs.Prelude.{◌≡◌, ℕ, ◌==◌, ◌||◌, Bool, List, [], ◌∷◌, ◌++◌, Option, Some}
 use Rattle.std.specs.Prelude.{None, is_none, Result, Ok, Err}
 use Rattle.std.specs.List.{list_any}
 use Rattle.ipb_base.specs.Faults.{one_more}
@@ -38,24 +38,24 @@ telling_for (Sim mtu buffers first ranges fates) = Some (record {
 })
 telling_for (Udp address port wait) = None
 
--- the number of links made, after a make
-abbrev pub made_after : {L E : Type 0} → Result L E → ℕ → ℕ
-made_after (Ok link) made = made + 1
-made_after (Err fault) made = made
+-- what links were made of, after a make by this spec
+abbrev pub made_after : {L E : Type 0} → Result L E → LinkSpec → List LinkSpec → List LinkSpec
+made_after (Ok link) spec made = made ++ spec ∷ []
+made_after (Err fault) spec made = made
 
 -- A rack of simulated links: the numbers, from 1, of the makes that fail, and of the calls that fail on each link; the
--- makes so far, the links made, the faults, and the links given back, in order.
+-- makes so far, the specs that links were made of, in order, the faults, and the links given back, in order.
 pub record RackState : Type 0 where
   pub fail_makes : List ℕ
   pub fail_calls : List ℕ
   pub makes : ℕ
-  pub made : ℕ
+  pub made : List LinkSpec
   pub faults : ℕ
   pub kept : List Network
 
 abbrev pub new_rack : List ℕ → List ℕ → RackState
 new_rack fail_makes fail_calls =
-    record { fail_makes = fail_makes; fail_calls = fail_calls; makes = 0; made = 0; faults = 0; kept = [] }
+    record { fail_makes = fail_makes; fail_calls = fail_calls; makes = 0; made = []; faults = 0; kept = [] }
 
 -- the link that is made for a simulated board; none is made here for one on a network
 abbrev pub link_for : List ℕ → LinkSpec → Option Network
@@ -70,11 +70,11 @@ is_named rack = list_any (λ number. number == one_more rack.makes) rack.fail_ma
 abbrev pub fails_to_make : RackState → LinkSpec → Bool
 fails_to_make rack spec = is_named rack || is_none (link_for rack.fail_calls spec)
 
--- a make is counted, and a link made or a fault
-abbrev pub after_make : Result Network RackFault → RackState → RackState
-after_make (Ok link) rack = record rack { makes = one_more rack.makes; made = rack.made + 1 }
-after_make (Err Failed) rack = record rack { makes = one_more rack.makes; faults = one_more rack.faults }
-after_make (Err NoMemory) rack = record rack { makes = one_more rack.makes }
+-- a make is counted, and its spec put down where a link was made, or a fault counted
+abbrev pub after_make : Result Network RackFault → LinkSpec → RackState → RackState
+after_make (Ok link) spec rack = record rack { makes = one_more rack.makes; made = rack.made ++ spec ∷ [] }
+after_make (Err Failed) spec rack = record rack { makes = one_more rack.makes; faults = one_more rack.faults }
+after_make (Err NoMemory) spec rack = record rack { makes = one_more rack.makes }
 
 -- a link given back stands behind the others
 abbrev pub after_keep : Network → RackState → RackState

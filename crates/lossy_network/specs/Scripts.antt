@@ -1,6 +1,6 @@
 -- Links whose answers are given beforehand, as those of a board that answers anything, and a rack of them. Profile
 -- throughout.
-use Rattle.std.specs.Prelude.{ℕ, ◌+◌, ◌≤◌, ◌==◌, Bool, true, false, List, [], ◌∷◌, ◌++◌, map, Result, Ok, Err}
+use Rattle.std.specs.Prelude.{ℕ, ◌≤◌, ◌==◌, Bool, true, false, List, [], ◌∷◌, ◌++◌, map, Result, Ok, Err}
 use Rattle.std.specs.Prelude.{vec_len}
 use Rattle.std.specs.List.{All, list_any}
 use Rattle.std.specs.Global.{Vec}
@@ -72,16 +72,16 @@ received link = receipt_of (called link) link.left
 
 -- ---- a rack
 
--- The lists of answers for the links that are still to be made, in order; how many were made; the faults; and the links
--- given back, in order.
+-- The lists of answers for the links that are still to be made, in order; the specs that links were made of, in order;
+-- the faults; and the links given back, in order.
 pub record ScriptRackState : Type 0 where
   pub left : List (List (List ℕ))
-  pub made : ℕ
+  pub made : List LinkSpec
   pub faults : ℕ
   pub kept : List ScriptState
 
 abbrev pub new_rack : List (List (List ℕ)) → ScriptRackState
-new_rack lists = record { left = lists; made = 0; faults = 0; kept = [] }
+new_rack lists = record { left = lists; made = []; faults = 0; kept = [] }
 
 -- the answers of the next link: the first list that is left, or none
 abbrev pub next_answers : List (List (List ℕ)) → List (List ℕ)
@@ -98,10 +98,10 @@ is_simulated (Sim mtu buffers first ranges fates) = true
 is_simulated (Udp address port wait) = false
 
 -- a link that is made uses up a list, and a make that fails uses up none
-abbrev pub after_make : Result ScriptState RackFault → ScriptRackState → ScriptRackState
-after_make (Ok link) rack = record rack { left = lists_after rack.left; made = rack.made + 1 }
-after_make (Err Failed) rack = record rack { faults = one_more rack.faults }
-after_make (Err NoMemory) rack = rack
+abbrev pub after_make : Result ScriptState RackFault → LinkSpec → ScriptRackState → ScriptRackState
+after_make (Ok link) spec rack = record rack { left = lists_after rack.left; made = rack.made ++ spec ∷ [] }
+after_make (Err Failed) spec rack = record rack { faults = one_more rack.faults }
+after_make (Err NoMemory) spec rack = rack
 
 -- a link given back stands behind the others
 abbrev pub after_keep : ScriptState → ScriptRackState → ScriptRackState

@@ -33,5 +33,5 @@ scripts_of r = record {
 -- No more links are kept than were made, and there is room for all that were made.
 pub record IsScriptRack (r : RackInside) : Type 0 where
   pub short : All (λ answers. AreDatagrams answers.items) r.lists.items
-  pub within : length r.kept.items ≤ r.made
-  pub places : r.made ≤ vec_capacity r.kept
+  pub within : length r.kept.items ≤ length r.made
+  pub places : length r.made ≤ vec_capacity r.kept

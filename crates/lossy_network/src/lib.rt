@@ -13,6 +13,7 @@ mod room;
 mod script_link;
 mod script_rack;
 mod sim_rack;
+mod spec_log;
 mod telling;
 mod under_way;
 
@@ -24,4 +25,5 @@ pub use rack::{Rack, RackFault};
 pub use script_link::{ScriptLink, are_datagrams};
 pub use script_rack::ScriptRack;
 pub use sim_rack::SimRack;
+pub use spec_log::SpecLog;
 pub use world_core::{Link, LinkFault, Received};

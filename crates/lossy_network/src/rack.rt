@@ -2,6 +2,7 @@
 
 ghost use Rattle.std.specs.Prelude.{◌≡◌, ◌≢◌, ◌≤◌, ◌<◌, ◌++◌, ◌∷◌, ℕ, List, [], length, Err};
 ghost use Rattle.std.specs.Prelude.{IfOk};
+ghost use Rattle.board_node.specs.declared.spec.LinkSpec.{LinkSpec};
 ghost use Rattle.ipb_base.specs.Faults.{Rose};
 ghost use Rattle.lossy_network.specs.Racks.{IsMakeable, made_after, telling_for};
 
@@ -32,8 +33,8 @@ impl From<NoMemory> for RackFault {
 
 /// What makes links to boards and keeps those that are given back (profile).
 ///
-/// Contracts see the links kept, in order, how many were made, and how often one could not be made, which counts up to
-/// 2^64 - 1.
+/// Contracts see the links kept, in order, the specs that links were made of, in order, and how often one could not be
+/// made, which counts up to 2^64 - 1.
 pub trait Rack {
     /// The links that it makes.
     type L: Link + Send + Drop;
@@ -41,16 +42,16 @@ pub trait Rack {
     /// The links that were given back, in order.
     ghost kept: { Self → List Self.L };
 
-    /// How many links were made.
-    ghost made: { Self → ℕ };
+    /// The specs that links were made of, in order.
+    ghost made: { Self → List LinkSpec };
 
     /// How often a link could not be made.
     ghost faults: { Self → ℕ };
 
     /// Makes a link for a board, with counts of 0. For a simulated one its ranges are those of a bus, its MTU is 92 to
     /// 9000 bytes and it has 1 to 64 buffers; the link tells a fresh board and an empty air. One for a board on a
-    /// network does not tell. It takes the room that keeping the link needs. No more links are ever kept than were
-    /// made.
+    /// network does not tell. What it was made of stands behind the specs of the links before. It takes the room
+    /// that keeping the link needs. No more links are ever kept than were made.
     fn make(&mut self, spec: &BoardSpec) -> Result<Self::L, RackFault>
         requires { IsMakeable spec.now.link }
         ensures told { IfOk result (λ link. Self.L.telling link ≡ telling_for spec.now.link) }
@@ -62,12 +63,12 @@ pub trait Rack {
         ensures faults { faults self.old ≤ faults self.new }
         ensures unfaulted { result ≢ Err RackFault.Failed → faults self.new ≡ faults self.old }
         ensures kept { kept self.new ≡ kept self.old }
-        ensures made { made self.new ≡ made_after result (made self.old) }
-        ensures within { length (kept self.old) ≤ made self.old };
+        ensures made { made self.new ≡ made_after result spec.now.link (made self.old) }
+        ensures within { length (kept self.old) ≤ length (made self.old) };
 
     /// Takes a link back, behind those that were kept before. It takes no memory.
     fn keep(&mut self, link: Self::L)
-        requires { length (kept self.old) < made self.old }
+        requires { length (kept self.old) < length (made self.old) }
         ensures kept { kept self.new ≡ kept self.old ++ link ∷ [] }
         ensures made { made self.new ≡ made self.old }
         ensures faults { faults self.new ≡ faults self.old };

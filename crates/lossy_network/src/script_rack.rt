@@ -10,6 +10,7 @@ use crate::link::fits;
 use crate::rack::{Rack, RackFault};
 use crate::room::make_room;
 use crate::script_link::ScriptLink;
+use crate::spec_log::SpecLog;
 use board_node::{BoardSpec, LinkSpec};
 use std::alloc::Global;
 use std::marker::Model;
@@ -22,7 +23,7 @@ pub struct ScriptRack {
     // the last is that of the next link
     lists: Vec<Vec<Vec<u8>>>,
     kept: Vec<ScriptLink>,
-    made: usize,
+    made: SpecLog,
     faults: u64,
 }
 
@@ -51,7 +52,7 @@ impl ScriptRack {
             alloc,
             lists,
             kept: Vec::new(alloc),
-            made: 0,
+            made: SpecLog::new(alloc),
             faults: 0,
         }
     }
@@ -66,14 +67,14 @@ impl ScriptRack {
 
     /// How many links were made.
     pub fn made(&self) -> usize
-        ensures { result ≡ self.now.made }
+        ensures { result ≡ length self.now.made }
     {
-        self.made
+        self.made.count()
     }
 
     /// No more links are kept than were made, and the count of faults is one of 64 bits. It does nothing when it runs.
     pub fn counts_fit(&self)
-        ensures within { length self.now.kept ≤ self.now.made }
+        ensures within { length self.now.kept ≤ length self.now.made }
         ensures faults { self.now.faults < 2 ^ 64 }
     {
         fits(self.faults);
@@ -86,21 +87,21 @@ impl ScriptRack {
     pub fn make(&mut self, spec: &BoardSpec) -> Result<ScriptLink, RackFault>
         ensures made { IfOk result (λ link. link ≡ new_script (next_answers self.old.left) []) }
         ensures fails { (result ≡ Err Failed) ↔ (is_simulated spec.now.link ≡ true) }
-        ensures rack { self.new ≡ after_make result self.old }
+        ensures rack { self.new ≡ after_make result spec.now.link self.old }
     {
         if is_for_simulation(&spec.link) {
             self.faults = self.faults.saturating_add(1);
             return Err(RackFault::Failed);
         }
-        make_room(&mut self.kept, self.made)?;
+        make_room(&mut self.kept, self.made.count())?;
+        self.made.add(&spec.link)?;
         let answers = next_list(self.alloc, &mut self.lists);
-        self.made += 1;
         Ok(ScriptLink::new(answers, Vec::new(self.alloc)))
     }
 
     /// Takes a link back, behind those that were kept before. It takes no memory.
     pub fn keep(&mut self, link: ScriptLink)
-        requires { length self.old.kept < self.old.made }
+        requires { length self.old.kept < length self.old.made }
         ensures { self.new ≡ after_keep link self.old }
     {
         self.kept.push_reserved(link);

@@ -7,11 +7,12 @@ ghost use Rattle.world_model.specs.Board.{executed};
 ghost use Rattle.lossy_network.specs.declared.rack.RackFault.TheVariants.{Failed};
 ghost use Rattle.lossy_network.specs.Network.{new_network};
 ghost use Rattle.lossy_network.specs.Racks.{after_keep, after_make, fails_to_make, fresh_board, is_named, IsMakeable};
-ghost use Rattle.lossy_network.specs.Racks.{IsSimulable, link_for, new_rack};
+ghost use Rattle.lossy_network.specs.Racks.{IsSimulable, link_for, made_after, new_rack};
 
 use crate::link::{SimLink, fits};
 use crate::rack::{Rack, RackFault};
 use crate::room::make_room;
+use crate::spec_log::SpecLog;
 use board_bus::{Bus, BusRefusal};
 use board_node::{Board, BoardSpec, Fates, Id, LinkSpec, Ranges};
 use ipb_base::{NoMemory, Text};
@@ -26,7 +27,7 @@ pub struct SimRack {
     fail_calls: Vec<u64>,
     kept: Vec<SimLink>,
     makes: u64,
-    made: usize,
+    made: SpecLog,
     faults: u64,
 }
 
@@ -54,7 +55,7 @@ impl SimRack {
             fail_calls,
             kept: Vec::new(alloc),
             makes: 0,
-            made: 0,
+            made: SpecLog::new(alloc),
             faults: 0,
         }
     }
@@ -69,14 +70,14 @@ impl SimRack {
 
     /// How many links were made.
     pub fn made(&self) -> usize
-        ensures { result ≡ self.now.made }
+        ensures { result ≡ length self.now.made }
     {
-        self.made
+        self.made.count()
     }
 
     /// No more links are kept than were made, and the count of faults is one of 64 bits. It does nothing when it runs.
     pub fn counts_fit(&self)
-        ensures within { length self.now.kept ≤ self.now.made }
+        ensures within { length self.now.kept ≤ length self.now.made }
         ensures faults { self.now.faults < 2 ^ 64 }
     {
         fits(self.faults);
@@ -89,7 +90,7 @@ impl SimRack {
         requires { IsMakeable spec.now.link }
         ensures made { IfOk result (λ link. link_for self.old.fail_calls spec.now.link ≡ Some link) }
         ensures fails { (result ≡ Err Failed) ↔ (fails_to_make self.old spec.now.link ≡ true) }
-        ensures rack { self.new ≡ after_make result self.old }
+        ensures rack { self.new ≡ after_make result spec.now.link self.old }
     {
         let is_named = self.is_next_named();
         self.makes = self.makes.saturating_add(1);
@@ -108,14 +109,13 @@ impl SimRack {
         }
         let board = fresh_board(self.alloc, *mtu, *buffers, *first, ranges)?;
         let link = new_link(self.alloc, board, fates, &self.fail_calls)?;
-        make_room(&mut self.kept, self.made)?;
-        self.made += 1;
+        self.put_down(&spec.link)?;
         Ok(link)
     }
 
     /// Takes a link back, behind those that were kept before. It takes no memory.
     pub fn keep(&mut self, link: SimLink)
-        requires { length self.old.kept < self.old.made }
+        requires { length self.old.kept < length self.old.made }
         ensures { self.new ≡ after_keep link self.old }
     {
         self.kept.push_reserved(link);
@@ -128,6 +128,14 @@ impl SimRack {
         ensures { result ≡ is_named self.now }
     {
         self.fail_makes.contains(&self.makes.saturating_add(1))
+    }
+
+    /// Takes the room that keeping one more link needs, and puts down the spec that it was made of.
+    fn put_down(&mut self, spec: &LinkSpec) -> Result<(), NoMemory>
+        ensures { self.new ≡ record self.old { made = made_after result spec.now self.old.made } }
+    {
+        make_room(&mut self.kept, self.made.count())?;
+        self.made.add(spec)
     }
 
     /// Counts a fault.

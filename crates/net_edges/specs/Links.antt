@@ -1,10 +1,13 @@
 -- A link that is simulated, which tells, or goes over UDP, which does not. Profile.
-use Rattle.std.specs.Prelude.{ℕ, List, [], Option, Some, None}
+use Rattle.std.specs.Prelude.{ℕ, List, [], ◌∷◌, ◌++◌, Option, Some, None, Result, Ok, Err}
+use Rattle.ipb_base.specs.Faults.{one_more}
 use Rattle.board_node.specs.declared.spec.LinkSpec.{LinkSpec}
 use Rattle.board_node.specs.declared.spec.LinkSpec.TheVariants.{Sim as SimBoard, Udp as UdpBoard}
 use Rattle.world_core.specs.Telling.{Telling}
 use Rattle.lossy_network.specs.Network.{new_network, telling_of as network_telling}
 use Rattle.lossy_network.specs.Racks.{fresh_board}
+use Rattle.lossy_network.specs.declared.rack.RackFault.{RackFault}
+use Rattle.lossy_network.specs.declared.rack.RackFault.TheVariants.{Failed, NoMemory}
 use Rattle.net_edges.specs.Numbers.{wait_nanos}
 use Rattle.net_edges.specs.declared.any_link.AnyLink.{AnyLink}
 use Rattle.net_edges.specs.declared.any_link.AnyLink.TheVariants.{Sim, Udp}
@@ -48,8 +51,15 @@ abbrev pub IsOnNetwork : LinkSpec → Type 0
 IsOnNetwork (SimBoard mtu buffers first ranges fates) = ⊥
 IsOnNetwork (UdpBoard address port wait) = Unit {0}
 
--- a rack of such links: those that were given back, in order, how many it made, and how often it could make none
+-- a rack of such links: those that were given back, in order, the specs that it made links of, in order, and how often
+-- it could make none
 pub record RealRackState : Type 0 where
   pub kept : List AnyLink
-  pub made : ℕ
+  pub made : List LinkSpec
   pub faults : ℕ
+
+-- a make puts down the spec that a link was made of, or counts that none could be made
+abbrev pub after_make : Result AnyLink RackFault → LinkSpec → RealRackState → RealRackState
+after_make (Ok link) spec rack = record rack { made = rack.made ++ spec ∷ [] }
+after_make (Err Failed) spec rack = record rack { faults = one_more rack.faults }
+after_make (Err NoMemory) spec rack = rack

@@ -1,15 +1,15 @@
 //! A rack whose links are simulated or go over UDP, as the session document says.
 
-ghost use Rattle.std.specs.Prelude.{◌≡◌, [], IfOk, Err};
+ghost use Rattle.std.specs.Prelude.{◌≡◌, ◌≤◌, [], length, IfOk, Err};
 ghost use Rattle.lossy_network.specs.Racks.{IsMakeable};
-ghost use Rattle.net_edges.specs.Links.{new_link, IsOnNetwork};
+ghost use Rattle.net_edges.specs.Links.{IsOnNetwork, after_make, new_link};
 
 use crate::any_link::AnyLink;
 use crate::counting::incremented;
 use crate::udp_link::UdpLink;
 use board_node::{BoardSpec, LinkSpec};
 use ipb_outside::Failed;
-use lossy_network::{Rack, RackFault, SimRack};
+use lossy_network::{Rack, RackFault, SimRack, SpecLog};
 use std::alloc::Global;
 use std::io::Stderr;
 use std::marker::Model;
@@ -22,7 +22,7 @@ pub struct RealRack<R: Net + AllocGlobal + Drop> {
     rt: R,
     to: Option<Stderr>,
     kept: Vec<AnyLink>,
-    made: usize,
+    made: SpecLog,
     faults: u64,
 }
 
@@ -35,35 +35,62 @@ impl<R: Net + AllocGlobal + Drop> Model for RealRack<R> {
     ghost view = { λ rack. record { kept = rack.kept.items; made = rack.made; faults = rack.faults } };
 
     // The room to keep a link is taken when it is made.
-    ghost invariant = { λ rack. (length rack.kept.items ≤ rack.made) × (rack.made ≤ vec_capacity rack.kept) };
+    ghost invariant = { λ rack.
+        (length rack.kept.items ≤ length rack.made) × (length rack.made ≤ vec_capacity rack.kept) };
 }
 
 impl<R: Net + AllocGlobal + Drop> RealRack<R> {
     /// A rack that has made no link.
     pub fn new(rt: R) -> RealRack<R>
-        ensures { result ≡ record { kept = []; made = 0; faults = 0 } }
+        ensures { result ≡ record { kept = []; made = []; faults = 0 } }
     {
         RealRack::made(rt, None)
     }
 
     /// A rack that has made no link, and whose links over UDP say on standard error what befalls them.
     pub fn with_notes(rt: R, to: Stderr) -> RealRack<R>
-        ensures { result ≡ record { kept = []; made = 0; faults = 0 } }
+        ensures { result ≡ record { kept = []; made = []; faults = 0 } }
     {
         RealRack::made(rt, Some(to))
     }
 
     fn made(rt: R, to: Option<Stderr>) -> RealRack<R>
-        ensures { result ≡ record { kept = []; made = 0; faults = 0 } }
+        ensures { result ≡ record { kept = []; made = []; faults = 0 } }
     {
-        let kept = Vec::new(rt.alloc());
+        let alloc: Global = rt.alloc();
         RealRack {
             rt,
             to,
-            kept,
-            made: 0,
+            kept: Vec::new(alloc),
+            made: SpecLog::new(alloc),
             faults: 0,
         }
+    }
+}
+
+impl<R: Net + AllocGlobal + Drop> RealRack<R> {
+    /// Makes a link for a board: a simulated one, with its fates and no call that fails, or one over UDP to the address
+    /// and the port of the board, which waits as long as its spec says. `Failed` comes only for a board on a network,
+    /// where the machine refuses the socket: the rack counts it. It takes the room that keeping the link needs.
+    pub fn make(&mut self, spec: &BoardSpec) -> Result<AnyLink, RackFault>
+        requires { IsMakeable spec.now.link }
+        ensures made { IfOk result (λ link. link ≡ new_link spec.now.link) }
+        ensures failed { result ≡ Err RackFault.Failed → IsOnNetwork spec.now.link }
+        ensures rack { self.new ≡ after_make result spec.now.link self.old }
+        ensures later { self.old.faults ≤ self.new.faults }
+        ensures within { length self.old.kept ≤ length self.old.made }
+    {
+        let places = self.made.count() - self.kept.len() + 1;
+        if self.kept.reserve(places).is_err() {
+            return Err(RackFault::NoMemory);
+        }
+        let made = make_link(&self.rt, spec, self.to);
+        match &made {
+            Ok(_) => self.made.add(&spec.link)?,
+            Err(RackFault::Failed) => self.faults = incremented(self.faults),
+            Err(RackFault::NoMemory) => {}
+        }
+        made
     }
 }
 
@@ -76,19 +103,8 @@ impl<R: Net + AllocGlobal + Drop> Rack for RealRack<R> {
 
     ghost faults = { λ rack. rack.faults };
 
-    /// `Failed` comes only for a board on the network, where the machine refuses the socket.
     fn make(&mut self, spec: &BoardSpec) -> Result<AnyLink, RackFault> {
-        let places = self.made - self.kept.len() + 1;
-        if self.kept.reserve(places).is_err() {
-            return Err(RackFault::NoMemory);
-        }
-        let made = make_link(&self.rt, spec, self.to);
-        match &made {
-            Ok(_) => self.made += 1,
-            Err(RackFault::Failed) => self.faults = incremented(self.faults),
-            Err(RackFault::NoMemory) => {}
-        }
-        made
+        RealRack::make(self, spec)
     }
 
     fn keep(&mut self, link: AnyLink) {

@@ -18,10 +18,10 @@ returns-in_err-link-clause-fails c =
     (none_fails c.args.self.now c.args.spec.now.link _ _ _ _ _ c.in-Sim.is
     (sym c.is_next_named-is_named.ensures ∙ c.if-is_named.false)) (λ e. cc)
 
-pub returns-in_err-make_room-clause-fails : goal.returns-in_err-make_room-clause-fails
-returns-in_err-make_room-clause-fails c =
-    let p = err_from_is_err_and c.from_residual-in_err-make_room.result c.from_residual-in_err-make_room.ensures.1 in
-    no_failure (fails_to_make c.args.self.now c.args.spec.now.link) c.from_residual-in_err-make_room.result
+pub returns-in_err-put_down-clause-fails : goal.returns-in_err-put_down-clause-fails
+returns-in_err-put_down-clause-fails c =
+    let p = err_from_is_err_and c.from_residual-in_err-put_down.result c.from_residual-in_err-put_down.ensures.1 in
+    no_failure (fails_to_make c.args.self.now c.args.spec.now.link) c.from_residual-in_err-put_down.result
     (none_fails c.args.self.now c.args.spec.now.link _ _ _ _ _ c.in-Sim.is
     (sym c.is_next_named-is_named.ensures ∙ c.if-is_named.false)) (λ e. cc)
 

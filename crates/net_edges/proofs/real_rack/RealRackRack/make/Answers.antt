@@ -1,0 +1,25 @@
+use Rattle.std.proofs.Common.{◌∙◌, ap, subst, sym}
+use Rattle.ipb_base.specs.Faults.{Rose}
+use Rattle.net_edges.specs.Links.{RealRackState}
+use Rattle.net_edges.proofs.Makes.{faults_rise, faults_stay, kept_still, put_down}
+use Rattle.net_edges.proofs.real_rack.RealRackRack.make.Goals as goal
+
+pub returns-clause-kept : goal.returns-clause-kept
+returns-clause-kept g c =
+    ap (λ (rack : RealRackState). rack.kept) c.make.ensures.rack
+    ∙ kept_still c.make.result c.args.spec.now.link c.args.self.now
+
+pub returns-clause-made : goal.returns-clause-made
+returns-clause-made g c =
+    ap (λ (rack : RealRackState). rack.made) c.make.ensures.rack
+    ∙ put_down c.make.result c.args.spec.now.link c.args.self.now
+
+pub returns-clause-failed : goal.returns-clause-failed
+returns-clause-failed g c = λ failed.
+    subst (λ (rack : RealRackState). Rose c.args.self.now.faults rack.faults) (sym c.make.ensures.rack)
+    (faults_rise c.make.result c.args.spec.now.link c.args.self.now failed)
+
+pub returns-clause-unfaulted : goal.returns-clause-unfaulted
+returns-clause-unfaulted g c = λ other.
+    ap (λ (rack : RealRackState). rack.faults) c.make.ensures.rack
+    ∙ faults_stay c.make.result c.args.spec.now.link c.args.self.now other
