@@ -1,9 +1,11 @@
 -- Boards at their greeting.
 use Rattle.std.proofs.Common.{◌≡◌, ℕ, ◌+◌, ◌*◌, ◌≤◌, List, [], ◌∷◌, ◌++◌, length, map, suc}
-use Rattle.std.proofs.Common.{Option, Some, None, refl, sym, ap, ◌∙◌, subst, arith, inl, inr, append_assoc}
+use Rattle.std.proofs.Common.{Option, Some, None, refl, sym, ap, ◌∙◌, subst, arith, inl, inr, append_assoc, append-nil}
+use Rattle.std.proofs.Common.{length-append}
 use Rattle.std.specs.Prelude.{IfSome}
 use Rattle.std.specs.List.{AllByRecursion, slice_get}
 use Rattle.ipb_base.specs.Faults.{Rose}
+use Rattle.ipb_base.specs.Lists.{IsPrefix}
 use Rattle.ipb_base.specs.Word.{AreWords}
 use Rattle.board_bus.specs.declared.range.Range.{Range}
 use Rattle.board_bus.specs.Cells.{HoldsWords}
@@ -22,6 +24,7 @@ use Rattle.hub_lane.specs.Greeting.{CanBegin, IfDown, IfReady, IfSilent, StaysFr
 use Rattle.hub_lane.specs.Lanes.{IsGreeted, opened}
 use Rattle.lane_history.specs.Links.{IsBoardOf, IsUntouched, LinkReport, board_there}
 use Rattle.board_greeting.specs.Boards.{AreFreshLinks, AreReached, HasRoom, IsGreetedAs, IsReached, shown_by}
+use Rattle.board_greeting.specs.Links.{AreMadeFor, link_specs}
 use Rattle.lane_history.specs.Links.{CanBeMade}
 
 abbrev pub WordsLaw : Type 0
@@ -165,6 +168,53 @@ reached_more shows settings (s ∷ specs) [] spec board at are is =
     )
 reached_more shows settings (s ∷ specs) (b ∷ boards) spec board at are is =
     (are.0, reached_more shows settings specs boards spec board at are.1 is)
+
+-- ---- what links were made of
+
+pub none_made : (boards : List BoardSpec) (before : List LinkSpec) → AreMadeFor boards 0 before before
+none_made boards before =
+    record { specs = []; grown = sym (append-nil before); many = refl; first = (link_specs boards, refl) }
+
+first_more : (boards : List BoardSpec) (front : List LinkSpec) (board : BoardSpec)
+    → slice_get boards (length front) ≡ Some board → IsPrefix front (link_specs boards)
+    → IsPrefix (front ++ board.link ∷ []) (link_specs boards)
+first_more [] [] board at is = absurd cc
+first_more [] (s ∷ front) board at is = let same = is.1 in absurd cc
+first_more (b ∷ boards) [] board at is =
+    let same : b ≡ board = cc in (link_specs boards, ap (λ (x : BoardSpec). x.link ∷ link_specs boards) same)
+first_more (b ∷ boards) (s ∷ front) board at is =
+    let whole = is.1 in
+    let head : b.link ≡ s = cc in
+    let tail : link_specs boards ≡ front ++ is.0 = cc in
+    let more = first_more boards front board at (is.0, tail) in
+    (more.0, ap (λ (x : LinkSpec). x ∷ link_specs boards) head ∙ ap (λ (l : List LinkSpec). s ∷ l) more.1)
+
+pub made_more : (boards : List BoardSpec) (count : ℕ) (board : BoardSpec) (before old new : List LinkSpec)
+    → slice_get boards count ≡ Some board → AreMadeFor boards count before old → new ≡ old ++ board.link ∷ []
+    → AreMadeFor boards (count + 1) before new
+made_more boards count board before old new at are one = record {
+  specs = are.specs ++ board.link ∷ [];
+  grown = one ∙ (ap (λ (l : List LinkSpec). l ++ board.link ∷ []) are.grown
+      ∙ append_assoc before are.specs (board.link ∷ []));
+  many = length-append are.specs (board.link ∷ []) ∙ ap (λ (n : ℕ). n + 1) are.many;
+  first = first_more boards are.specs board (ap (slice_get boards) are.many ∙ at) are.first;
+}
+
+pub one_made : (boards : List BoardSpec) (board : BoardSpec) (before new : List LinkSpec) → boards ≡ board ∷ []
+    → new ≡ before ++ board.link ∷ [] → AreMadeFor boards 1 before new
+one_made boards board before new same one =
+    made_more boards 0 board before before new (ap (λ (bs : List BoardSpec). slice_get bs 0) same)
+    (none_made boards before) one
+
+pub made_still : (boards : List BoardSpec) (count count_now : ℕ) (before old new : List LinkSpec)
+    → AreMadeFor boards count before old → count_now ≡ count → new ≡ old → AreMadeFor boards count_now before new
+made_still boards count count_now before old new are same_count same =
+    subst (λ (n : ℕ). AreMadeFor boards n before new) (sym same_count)
+    (subst (AreMadeFor boards count before) (sym same) are)
+
+pub one_more_made : (old new : List LinkSpec) (spec : LinkSpec) → new ≡ old ++ spec ∷ []
+    → length new ≡ length old + 1
+one_more_made old new spec one = ap (λ (l : List LinkSpec). length l) one ∙ length-append old (spec ∷ [])
 
 pub room_for_more : (kept kept_now made made_now count : ℕ) → kept ≤ made → kept_now ≡ kept → made_now ≡ made + 1
     → HasRoom kept made count → HasRoom kept_now made_now (count + 1)

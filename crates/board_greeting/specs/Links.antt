@@ -1,8 +1,10 @@
 -- The links of boards, made by a rack and given back to it. Profile.
-use Rattle.std.specs.Prelude.{◌≡◌, ℕ, List, ◌++◌, map, Option}
+use Rattle.std.specs.Prelude.{◌≡◌, ℕ, List, ◌++◌, length, map, Option}
+use Rattle.ipb_base.specs.Lists.{IsPrefix}
 use Rattle.world_core.specs.Telling.{Telling}
 use Rattle.board_greeting.specs.Reports.{report_of}
 use Rattle.board_node.specs.declared.spec.BoardSpec.{BoardSpec}
+use Rattle.board_node.specs.declared.spec.LinkSpec.{LinkSpec}
 use Rattle.board_node.specs.OpeningWords.{OpensOnWords}
 use Rattle.lane_history.specs.Links.{CanBeMade, LinkReport}
 
@@ -13,6 +15,17 @@ abbrev pub Keeps : {L : Type 0} → (L → ℕ) → (L → ℕ) → (L → ℕ) 
 Keeps {L} faults quiets gots held telling old new holds =
     (links : List L) × (new ≡ old ++ links)
     × holds (map (λ link. report_of (faults link) (quiets link) (gots link) (held link) (telling link)) links)
+
+-- the specs of the links of boards
+abbrev pub link_specs : List BoardSpec → List LinkSpec
+link_specs boards = map (λ board. board.link) boards
+
+-- A rack made so many links of the specs of the first boards, in order: what it had made links of before and has now.
+pub record AreMadeFor (boards : List BoardSpec) (count : ℕ) (before now : List LinkSpec) : Type 0 where
+  pub specs : List LinkSpec
+  pub grown : now ≡ before ++ specs
+  pub many : length specs ≡ count
+  pub first : IsPrefix specs (link_specs boards)
 
 -- the link of the board can be made, and its ranges open a bus of words of 32 bits
 pub record CanBeReached (spec : BoardSpec) : Type 0 where

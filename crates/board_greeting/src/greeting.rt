@@ -7,7 +7,7 @@ ghost use Rattle.ipb_base.specs.Faults.{Rose};
 ghost use Rattle.lossy_network.specs.Racks.{made_after};
 ghost use Rattle.hub_lane.specs.Greeting.{link_of};
 ghost use Rattle.board_greeting.specs.Boards.{AreFreshLinks, AreReached, HasMemory, HasRoom, IsReached, shown_by};
-ghost use Rattle.board_greeting.specs.Links.{CanBeReached, Keeps};
+ghost use Rattle.board_greeting.specs.Links.{AreMadeFor, CanBeReached, Keeps};
 
 use board_bus::laws::words_stay_words;
 use board_node::BoardSpec;
@@ -31,7 +31,7 @@ pub fn into_link<L: Link>(board: Greeted<L>) -> L
 
 /// Gives all links back to the rack, in order.
 pub fn keep_all<R: Rack>(rack: &mut R, boards: Vec<Greeted<R::L>>)
-    requires room { HasRoom (length (R.kept rack.old)) (R.made rack.old) (length boards.items) }
+    requires room { HasRoom (length (R.kept rack.old)) (length (R.made rack.old)) (length boards.items) }
     ensures kept { R.kept rack.new ≡ R.kept rack.old ++ map (λ board. link_of board) boards.items }
     ensures made { R.made rack.new ≡ R.made rack.old }
     ensures faults { R.faults rack.new ≡ R.faults rack.old }
@@ -55,8 +55,8 @@ fn greet_board<R: Rack>(
     ensures faults { R.faults rack.old ≤ R.faults rack.new }
     ensures unfaulted { result ≢ Err RackFault.Failed → R.faults rack.new ≡ R.faults rack.old }
     ensures kept { R.kept rack.new ≡ R.kept rack.old }
-    ensures made { R.made rack.new ≡ made_after result (R.made rack.old) }
-    ensures within { length (R.kept rack.old) ≤ R.made rack.old }
+    ensures made { R.made rack.new ≡ made_after result spec.now.link (R.made rack.old) }
+    ensures within { length (R.kept rack.old) ≤ length (R.made rack.old) }
 {
     words_stay_words();
     let _window = settings.window();
@@ -91,8 +91,8 @@ fn greet_into<R: Rack>(
     ensures faults { R.faults rack.old ≤ R.faults rack.new }
     ensures unfaulted { result ≢ Err RackFault.Failed → R.faults rack.new ≡ R.faults rack.old }
     ensures kept { R.kept rack.new ≡ R.kept rack.old }
-    ensures made { R.made rack.new ≡ R.made rack.old + length boards.new.items }
-    ensures room { HasRoom (length (R.kept rack.new)) (R.made rack.new) (length boards.new.items) }
+    ensures made { AreMadeFor specs.now (length boards.new.items) (R.made rack.old) (R.made rack.new) }
+    ensures room { HasRoom (length (R.kept rack.new)) (length (R.made rack.new)) (length boards.new.items) }
 {
     for spec in specs {
         let board = greet_board(alloc, settings, spec, rack)?;
@@ -119,11 +119,11 @@ pub fn greet_boards<R: Rack>(
     ensures all { IfOk result (λ boards. length boards.items ≡ length specs.now) }
     ensures memory { IfOk result (λ boards. AllByRecursion HasMemory boards.items) }
     ensures kept { OnOk result (R.kept rack.new ≡ R.kept rack.old) }
-    ensures made { OnOk result (R.made rack.new ≡ R.made rack.old + length specs.now) }
-    ensures room { OnOk result (HasRoom (length (R.kept rack.new)) (R.made rack.new) (length specs.now)) }
+    ensures made { OnOk result (AreMadeFor specs.now (length specs.now) (R.made rack.old) (R.made rack.new)) }
+    ensures room { OnOk result (HasRoom (length (R.kept rack.new)) (length (R.made rack.new)) (length specs.now)) }
     ensures left { OnErr result (Keeps R.L.faults R.L.quiets R.L.gots R.L.held R.L.telling (R.kept rack.old)
         (R.kept rack.new) (λ links. AreFreshLinks settings specs.now links
-        × (R.made rack.new ≡ R.made rack.old + length links))) }
+        × AreMadeFor specs.now (length links) (R.made rack.old) (R.made rack.new))) }
     ensures failed { result ≡ Err RackFault.Failed → Rose (R.faults rack.old) (R.faults rack.new) }
     ensures faults { R.faults rack.old ≤ R.faults rack.new }
     ensures unfaulted { result ≢ Err RackFault.Failed → R.faults rack.new ≡ R.faults rack.old }

@@ -10,7 +10,7 @@ use Rattle.script_steps.specs.declared.operation.Step.{Step}
 use Rattle.hub_lane.specs.Standing.{IsStanding}
 use Rattle.lane_history.specs.Links.{IsBoardOf, LinkReport, board_there}
 use Rattle.lane_history.specs.Runs.{IsMergeOfAsked}
-pub use Rattle.board_greeting.specs.Links.{Keeps, CanBeReached}
+pub use Rattle.board_greeting.specs.Links.{AreMadeFor, CanBeReached, Keeps, link_specs}
 
 -- How a hub stood to a link that tells this when the session let go of it: both are a state of a run of the world, also
 -- where the hub had stopped, and what the hub sent is a merge of bodies that the scripts ask of the board at this

@@ -154,7 +154,7 @@ pub(crate) fn finish_boards<R: Rack>(
     requires few { AllByRecursion HaveFewPieces scripts.now }
     requires came { AreCameOf (shown_by R.L.faults R.L.quiets R.L.gots R.L.held R.L.telling) settings
         scripts.now 0 specs.now boards }
-    requires room { HasRoom (length (R.kept rack.old)) (R.made rack.old) (length specs.now) }
+    requires room { HasRoom (length (R.kept rack.old)) (length (R.made rack.old)) (length specs.now) }
     ensures ran { IfOk result (λ runs. Keeps R.L.faults R.L.quiets R.L.gots R.L.held R.L.telling (R.kept rack.old)
         (R.kept rack.new) (AreRunsOver settings 0 specs.now scripts.now runs.items)) }
     ensures left { Keeps R.L.faults R.L.quiets R.L.gots R.L.held R.L.telling (R.kept rack.old) (R.kept rack.new)

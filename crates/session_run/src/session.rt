@@ -1,6 +1,6 @@
 //! A whole session over the links of a rack.
 
-ghost use Rattle.std.specs.Prelude.{◌≡◌, ◌≢◌, ◌^◌, ◌<◌, ◌≤◌, ◌+◌, [], length, Err, IfOk, OnErr};
+ghost use Rattle.std.specs.Prelude.{◌≡◌, ◌≢◌, ◌^◌, ◌<◌, ◌≤◌, [], length, Err, IfOk, OnErr};
 ghost use Rattle.std.specs.List.{AllByRecursion};
 ghost use Rattle.ipb_base.specs.Faults.{Rose};
 ghost use Rattle.script_steps.specs.Executable.{AreExecutable};
@@ -9,7 +9,7 @@ ghost use Rattle.lane_history.specs.Links.{IsUntouched};
 ghost use Rattle.lane_history.specs.Runs.{AreRunsOver};
 ghost use Rattle.board_greeting.specs.Boards.{AreReached, HasMemory, HasRoom, shown_by};
 ghost use Rattle.board_greeting.specs.Places.{IsSplitOf};
-ghost use Rattle.session_run.specs.Links.{AreLeft, CanBeReached, Keeps};
+ghost use Rattle.session_run.specs.Links.{AreLeft, AreMadeFor, CanBeReached, Keeps};
 
 use crate::finish::finish_boards;
 use crate::lanes::run_lanes;
@@ -92,7 +92,7 @@ fn run_split<R: Rack, T: Threads + Wait + Sync, G: Gate>(
     requires limits { AreWithinLimits scripts.now }
     requires reached { IsSplitOf (shown_by R.L.faults R.L.quiets R.L.gots R.L.held R.L.telling) settings
         specs.now split }
-    requires room { HasRoom (length (R.kept rack.old)) (R.made rack.old) (length specs.now) }
+    requires room { HasRoom (length (R.kept rack.old)) (length (R.made rack.old)) (length specs.now) }
     ensures ran { IfOk result (λ runs. Keeps R.L.faults R.L.quiets R.L.gots R.L.held R.L.telling (R.kept rack.old)
         (R.kept rack.new) (AreRunsOver settings 0 specs.now scripts.now runs.items)) }
     ensures left { Keeps R.L.faults R.L.quiets R.L.gots R.L.held R.L.telling (R.kept rack.old) (R.kept rack.new)
@@ -131,7 +131,7 @@ pub fn run_greeted<R: Rack, T: Threads + Wait + Sync, G: Gate>(
     requires memory { AllByRecursion HasMemory boards.items }
     requires reached { AreReached (shown_by R.L.faults R.L.quiets R.L.gots R.L.held R.L.telling) settings
         specs.now boards.items }
-    requires room { HasRoom (length (R.kept rack.old)) (R.made rack.old) (length specs.now) }
+    requires room { HasRoom (length (R.kept rack.old)) (length (R.made rack.old)) (length specs.now) }
     ensures ran { IfOk result (λ runs. Keeps R.L.faults R.L.quiets R.L.gots R.L.held R.L.telling (R.kept rack.old)
         (R.kept rack.new) (AreRunsOver settings 0 specs.now scripts.now runs.items)) }
     ensures left { Keeps R.L.faults R.L.quiets R.L.gots R.L.held R.L.telling (R.kept rack.old) (R.kept rack.new)
@@ -170,12 +170,12 @@ pub fn run_session<R: Rack, T: Threads + Wait + Sync, G: Gate>(
     // What the runs show of each board is what its link bears out.
     ensures ran { IfOk result (λ runs. Keeps R.L.faults R.L.quiets R.L.gots R.L.held R.L.telling (R.kept rack.old)
         (R.kept rack.new) (AreRunsOver settings 0 specs.now scripts.now runs.items)) }
-    // Whatever came of it, the links are given back board by board, and what was sent to each board is what the scripts
-    // ask of it.
+    // Whatever came of it, links were made of the specs of the first boards, and they are given back board by board; what
+    // was sent to each board is what the scripts ask of it.
     ensures left { Keeps R.L.faults R.L.quiets R.L.gots R.L.held R.L.telling (R.kept rack.old) (R.kept rack.new)
         (AreLeft 0 specs.now scripts.now) }
     ensures made { Keeps R.L.faults R.L.quiets R.L.gots R.L.held R.L.telling (R.kept rack.old) (R.kept rack.new)
-        (λ links. R.made rack.new ≡ R.made rack.old + length links) }
+        (λ links. AreMadeFor specs.now (length links) (R.made rack.old) (R.made rack.new)) }
     ensures rack_fault { result ≡ Err RunFault.Rack → Rose (R.faults rack.old) (R.faults rack.new) }
     ensures untouched { result ≡ Err RunFault.Rack → Keeps R.L.faults R.L.quiets R.L.gots R.L.held R.L.telling
         (R.kept rack.old) (R.kept rack.new) (AllByRecursion IsUntouched) }

@@ -1,13 +1,13 @@
 //! Connections of a door served at the boards of a document.
 
-ghost use Rattle.std.specs.Prelude.{◌≡◌, ◌≢◌, ◌^◌, ◌<◌, ◌≤◌, ◌+◌, length, Err, IfOk, IsOk};
+ghost use Rattle.std.specs.Prelude.{◌≡◌, ◌≢◌, ◌^◌, ◌<◌, ◌≤◌, length, Err, IfOk, IsOk};
 ghost use Rattle.std.specs.List.{AllByRecursion};
 ghost use Rattle.ipb_base.specs.Faults.{Rose};
 ghost use Rattle.ipb_outside.specs.Doors.{Listens};
 ghost use Rattle.ipb_outside.specs.Pairs.{GivesBack};
 ghost use Rattle.lane_history.specs.Links.{IsUntouched};
 ghost use Rattle.board_greeting.specs.Boards.{AreReached, HasMemory, HasRoom, shown_by};
-ghost use Rattle.board_greeting.specs.Links.{CanBeReached, Keeps};
+ghost use Rattle.board_greeting.specs.Links.{AreMadeFor, CanBeReached, Keeps};
 ghost use Rattle.session_serve.specs.Boards.{AreLinksTo};
 ghost use Rattle.session_serve.specs.Prepared.{IsReady};
 ghost use Rattle.session_serve.specs.Serving.{AreBack, AreServed, HadMemory};
@@ -46,7 +46,7 @@ fn serve_split<R: Rack, D: Door, T: Threads + Wait + Sync>(
 ) -> Result<ServeReport, ServeFault>
     requires ready { IsReady (shown_by R.L.faults R.L.quiets R.L.gots R.L.held R.L.telling) settings
         specs.now split prepared }
-    requires room { HasRoom (length (R.kept rack.old)) (R.made rack.old) (length specs.now) }
+    requires room { HasRoom (length (R.kept rack.old)) (length (R.made rack.old)) (length specs.now) }
     ensures served { IfOk result (λ report. Keeps R.L.faults R.L.quiets R.L.gots R.L.held R.L.telling
         (R.kept rack.old) (R.kept rack.new) (λ links. GivesBack D.Incoming.left D.Incoming.faults D.Outgoing.written
         D.Outgoing.faults D.Outgoing.ended (D.coming door.old) (D.coming door.new) (D.kept door.old) (D.kept door.new)
@@ -108,7 +108,7 @@ fn serve_greeted<R: Rack, D: Door, T: Threads + Wait + Sync>(
     requires memory { AllByRecursion HasMemory boards.items }
     requires reached { AreReached (shown_by R.L.faults R.L.quiets R.L.gots R.L.held R.L.telling) settings
         specs.now boards.items }
-    requires room { HasRoom (length (R.kept rack.old)) (R.made rack.old) (length specs.now) }
+    requires room { HasRoom (length (R.kept rack.old)) (length (R.made rack.old)) (length specs.now) }
     ensures served { IfOk result (λ report. Keeps R.L.faults R.L.quiets R.L.gots R.L.held R.L.telling
         (R.kept rack.old) (R.kept rack.new) (λ links. GivesBack D.Incoming.left D.Incoming.faults D.Outgoing.written
         D.Outgoing.faults D.Outgoing.ended (D.coming door.old) (D.coming door.new) (D.kept door.old) (D.kept door.new)
@@ -174,10 +174,11 @@ pub fn serve_session<R: Rack, D: Door, T: Threads + Wait + Sync>(
     ensures all { IfOk result (λ report. length report.connections.items ≡ count) }
     ensures had_memory { IfOk result (λ report. AllByRecursion HadMemory report.connections.items) }
 
-    // Whatever came of it, each link that was made is given back once, in board order, and each connection that was let
-    // in once, in the order of acceptance.
+    // Whatever came of it, links were made of the specs of the first boards, and each is given back once, in board
+    // order, and each connection that was let in once, in the order of acceptance.
     ensures links { Keeps R.L.faults R.L.quiets R.L.gots R.L.held R.L.telling (R.kept rack.old) (R.kept rack.new)
-        (λ links. AreLinksTo specs.now links × (R.made rack.new ≡ R.made rack.old + length links)) }
+        (λ links. AreLinksTo specs.now links
+        × AreMadeFor specs.now (length links) (R.made rack.old) (R.made rack.new)) }
     ensures pairs { GivesBack D.Incoming.left D.Incoming.faults D.Outgoing.written D.Outgoing.faults D.Outgoing.ended
         (D.coming door.old) (D.coming door.new) (D.kept door.old) (D.kept door.new) AreBack }
     ensures none_out { D.out door.new ≡ D.out door.old }

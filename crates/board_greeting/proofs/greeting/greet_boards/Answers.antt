@@ -1,9 +1,16 @@
-use Rattle.std.proofs.Common.{◌∙◌, ◌++◌, ◌+◌, ℕ, ap, map, sym}
+use Rattle.std.proofs.Common.{◌∙◌, ◌++◌, [], ap, append-nil, length, map, refl, sym}
 use Rattle.std.proofs.lemmas.List.{length-map}
 use Rattle.hub_lane.specs.Greeting.{link_of}
 use Rattle.board_greeting.specs.Boards.{shown_by}
-use Rattle.board_greeting.proofs.Boards.{fresh_links}
+use Rattle.board_greeting.proofs.Boards.{fresh_links, made_still, none_made}
 use Rattle.board_greeting.proofs.greeting.greet_boards.Goals as goal
+
+pub returns-in_default-clause-left : goal.returns-in_default-clause-left
+returns-in_default-clause-left g c = (
+  [],
+  sym (append-nil (g.R.Rack.kept c.args.rack.now)),
+  (tt, none_made c.args.specs.now (g.R.Rack.made c.args.rack.now)),
+)
 
 pub returns-in-Err-clause-left : goal.returns-in-Err-clause-left
 returns-in-Err-clause-left g c =
@@ -14,7 +21,8 @@ returns-in-Err-clause-left g c =
       c.keep_all.ensures.kept ∙ ap (λ kept. kept ++ links) c.greet_into.ensures.kept,
       (
         fresh_links shows c.args.settings c.args.specs.now boards c.greet_into.ensures.reached,
-        c.keep_all.ensures.made ∙ (c.greet_into.ensures.made ∙ ap (λ (n : ℕ). g.R.Rack.made c.args.rack.now + n)
-            (sym (length-map links shows ∙ length-map boards (λ board. link_of board)))),
+        made_still c.args.specs.now (length boards) (length (map shows links)) (g.R.Rack.made c.args.rack.now)
+            (g.R.Rack.made c.greet_into.new.rack) (g.R.Rack.made c.keep_all.new.rack) c.greet_into.ensures.made
+            (length-map links shows ∙ length-map boards (λ board. link_of board)) c.keep_all.ensures.made,
       ),
     )

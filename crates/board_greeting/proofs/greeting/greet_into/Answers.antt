@@ -1,10 +1,10 @@
-use Rattle.std.proofs.Common.{◌≡◌, ◌∙◌, ◌∷◌, ◌+◌, ℕ, [], Some, ap, length, length-append, subst, sym, arith}
+use Rattle.std.proofs.Common.{◌≡◌, ◌∙◌, ◌∷◌, ◌+◌, ℕ, [], Some, ap, length, length-append, refl, subst, sym, arith}
 use Rattle.std.specs.List.{AllByRecursion, slice_get}
 use Rattle.std.proofs.lemmas.Option.{slice_get-get_or}
 use Rattle.board_node.specs.declared.spec.BoardSpec.{BoardSpec}
 use Rattle.ipb_base.proofs.AllLemmas.{AllByRecursion-append}
 use Rattle.board_greeting.specs.Boards.{AreReached, HasMemory, HasRoom, shown_by}
-use Rattle.board_greeting.proofs.Boards.{reached_more, room_for_more}
+use Rattle.board_greeting.proofs.Boards.{made_more, made_still, one_more_made, reached_more, room_for_more}
 use Rattle.board_greeting.proofs.greeting.greet_into.Goals as goal
 
 pub returns-then-is_last-clause-reached : goal.returns-then-is_last-clause-reached
@@ -18,6 +18,41 @@ returns-then-is_last-clause-reached g c =
     subst (AreReached shows c.args.settings c.args.specs.now) (sym c.push_reserved.ensures.items)
     (reached_more shows c.args.settings c.args.specs.now c.loop-spec.boards.items c.spec-item.result
     c.in_ok-board.board there c.loop-spec.invariant.reached c.in_ok-board.ensures.reached)
+
+pub returns-then-is_last-clause-made : goal.returns-then-is_last-clause-made
+returns-then-is_last-clause-made g c =
+    let boards = c.loop-spec.boards.items in
+    let before = g.R.Rack.made c.args.rack.now in
+    let new = g.R.Rack.made c.greet_board.new.rack in
+    let longer : length c.push_reserved.new.self.items ≡ length boards + 1 =
+    ap length c.push_reserved.ensures.items ∙ length-append boards (c.in_ok-board.board ∷ []) in
+    let there : slice_get c.args.specs.now (length boards) ≡ Some c.spec-item.result =
+    ap (slice_get c.args.specs.now) c.loop-spec.invariant.many
+    ∙ (slice_get-get_or c.args.specs.now c.loop-spec.spec-index c.spec-item.result (let test = c.loop-spec-test.true in
+    let end = c.loop-spec.auto.spec-index-end in omega (arith, test, end))
+    ∙ ap (λ (x : BoardSpec). Some x) (sym c.spec-item.is)) in
+    made_still c.args.specs.now (length boards + 1) (length c.push_reserved.new.self.items) before new new
+    (made_more c.args.specs.now (length boards) c.spec-item.result before (g.R.Rack.made c.loop-spec.rack) new there
+    c.loop-spec.invariant.made c.in_ok-board.ensures.made) longer refl
+
+pub returns-then-is_last-clause-room : goal.returns-then-is_last-clause-room
+returns-then-is_last-clause-room g c =
+    let boards = c.loop-spec.boards.items in
+    let old = g.R.Rack.made c.loop-spec.rack in
+    let new = g.R.Rack.made c.greet_board.new.rack in
+    let longer : length c.push_reserved.new.self.items ≡ length boards + 1 =
+    ap length c.push_reserved.ensures.items ∙ length-append boards (c.in_ok-board.board ∷ []) in
+    subst (HasRoom (length (g.R.Rack.kept c.greet_board.new.rack)) (length new)) (sym longer)
+    (room_for_more (length (g.R.Rack.kept c.loop-spec.rack)) (length (g.R.Rack.kept c.greet_board.new.rack))
+    (length old) (length new) (length boards) c.greet_board.ensures.within (ap length c.greet_board.ensures.kept)
+    (one_more_made old new c.spec-item.result.link c.in_ok-board.ensures.made) c.loop-spec.invariant.room)
+
+pub returns-in_err-board-clause-made : goal.returns-in_err-board-clause-made
+returns-in_err-board-clause-made g c =
+    let boards = c.loop-spec.boards.items in
+    made_still c.args.specs.now (length boards) (length boards) (g.R.Rack.made c.args.rack.now)
+    (g.R.Rack.made c.loop-spec.rack) (g.R.Rack.made c.greet_board.new.rack) c.loop-spec.invariant.made refl
+    c.in_err-board.ensures.made
 
 pub loop-spec-preserved : goal.loop-spec-preserved
 loop-spec-preserved g c =
@@ -34,6 +69,8 @@ loop-spec-preserved g c =
     let end = c.loop-spec.auto.spec-index-end in omega (arith, test, end))
     ∙ ap (λ (x : BoardSpec). Some x) (sym c.spec-item.is)) in
     let made = c.in_ok-board.ensures.made in
+    let old = g.R.Rack.made c.loop-spec.rack in
+    let new = g.R.Rack.made c.greet_board.new.rack in
     record {
       many = longer ∙ ap (λ (n : ℕ). n + 1) many;
       reached = subst (AreReached shows c.args.settings c.args.specs.now) (sym pushed)
@@ -44,12 +81,14 @@ loop-spec-preserved g c =
           (c.is_out_of_memory-is_last.ensures c.if-is_last.false, tt));
       faults = c.in_ok-board.ensures.unfaulted (λ e. cc) ∙ c.loop-spec.invariant.faults;
       kept = c.greet_board.ensures.kept ∙ c.loop-spec.invariant.kept;
-      made = (let before = c.loop-spec.invariant.made in omega (arith, made, before, longer));
-      room = subst (HasRoom (length (g.R.Rack.kept c.greet_board.new.rack)) (g.R.Rack.made c.greet_board.new.rack))
-          (sym longer) (room_for_more (length (g.R.Rack.kept c.loop-spec.rack))
-          (length (g.R.Rack.kept c.greet_board.new.rack)) (g.R.Rack.made c.loop-spec.rack)
-          (g.R.Rack.made c.greet_board.new.rack) (length boards) c.greet_board.ensures.within
-          (ap length c.greet_board.ensures.kept) made c.loop-spec.invariant.room);
+      made = made_still c.args.specs.now (length boards + 1) (length c.push_reserved.new.self.items)
+          (g.R.Rack.made c.args.rack.now) new new (made_more c.args.specs.now (length boards) c.spec-item.result
+          (g.R.Rack.made c.args.rack.now) old new there c.loop-spec.invariant.made made) longer refl;
+      room = subst (HasRoom (length (g.R.Rack.kept c.greet_board.new.rack)) (length new)) (sym longer)
+          (room_for_more (length (g.R.Rack.kept c.loop-spec.rack)) (length (g.R.Rack.kept c.greet_board.new.rack))
+          (length old) (length new) (length boards) c.greet_board.ensures.within
+          (ap length c.greet_board.ensures.kept) (one_more_made old new c.spec-item.result.link made)
+          c.loop-spec.invariant.room);
       place = (let len = c.push_reserved.ensures.len in let cap = c.push_reserved.ensures.capacity in
           let before = c.loop-spec.invariant.place in let test = c.loop-spec-test.true in
           omega (arith, len, cap, before, test));

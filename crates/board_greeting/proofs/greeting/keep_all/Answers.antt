@@ -10,7 +10,7 @@ use Rattle.board_greeting.proofs.greeting.keep_all.Goals as goal
 pub keep-requires : goal.keep-requires
 keep-requires g c =
     let kept = length (g.R.Rack.kept c.loop-board.rack) in
-    let made = g.R.Rack.made c.loop-board.rack in
+    let made = length (g.R.Rack.made c.loop-board.rack) in
     let room = subst (λ (n : ℕ). HasRoom kept made n) (ap length c.in-Some.ensures.steps.0)
     c.loop-board.invariant.room in
     let one = room_for_one kept made (length (into_iter_items c.next.new.self)) room in
@@ -20,7 +20,7 @@ pub loop-board-preserved : goal.loop-board-preserved
 loop-board-preserved g c =
     let kept = g.R.Rack.kept c.loop-board.rack in
     let now = g.R.Rack.kept c.keep.new.self in
-    let made = g.R.Rack.made c.loop-board.rack in
+    let made = length (g.R.Rack.made c.loop-board.rack) in
     let rest = into_iter_items c.next.new.self in
     let room = subst (λ (n : ℕ). HasRoom (length kept) made n) (ap length c.in-Some.ensures.steps.0)
     c.loop-board.invariant.room in
@@ -34,8 +34,8 @@ loop-board-preserved g c =
           ∙ c.loop-board.invariant.split);
       made = c.keep.ensures.made ∙ c.loop-board.invariant.made;
       faults = c.keep.ensures.faults ∙ c.loop-board.invariant.faults;
-      room = room_for_less (length kept) (length now) made (g.R.Rack.made c.keep.new.self) (length rest) one
-          c.keep.ensures.made room;
+      room = room_for_less (length kept) (length now) made (length (g.R.Rack.made c.keep.new.self)) (length rest) one
+          (ap length c.keep.ensures.made) room;
     }
 
 pub loop-board-init : goal.loop-board-init
@@ -47,5 +47,5 @@ loop-board-init g c =
       made = refl;
       faults = refl;
       room = subst (λ (bs : List (Greeted _)). HasRoom (length (g.R.Rack.kept c.args.rack.now))
-          (g.R.Rack.made c.args.rack.now) (length bs)) (sym same) c.requires.room;
+          (length (g.R.Rack.made c.args.rack.now)) (length bs)) (sym same) c.requires.room;
     }

@@ -11,5 +11,6 @@ invariant-loop-board g l = record {
       ≡ g.R.Rack.kept l.initial.rack ++ map (λ board. link_of board) l.fn.boards.items;
   made : g.R.Rack.made l.rack ≡ g.R.Rack.made l.initial.rack;
   faults : g.R.Rack.faults l.rack ≡ g.R.Rack.faults l.initial.rack;
-  room : HasRoom (length (g.R.Rack.kept l.rack)) (g.R.Rack.made l.rack) (length (into_iter_items l.board-iterator));
+  room : HasRoom (length (g.R.Rack.kept l.rack)) (length (g.R.Rack.made l.rack))
+      (length (into_iter_items l.board-iterator));
 }

@@ -1,6 +1,7 @@
-use Rattle.std.proofs.Common.{◌∙◌, List, map, refl, subst, arith}
+use Rattle.std.proofs.Common.{◌∙◌, List, ap, length, map, refl, subst, arith}
 use Rattle.std.proofs.lemmas.List.{take_all}
 use Rattle.board_node.specs.declared.spec.BoardSpec.{BoardSpec}
+use Rattle.board_node.specs.declared.spec.LinkSpec.{LinkSpec}
 use Rattle.lane_history.specs.Runs.{AreRunsOver}
 use Rattle.board_greeting.specs.Boards.{shown_by}
 use Rattle.session_run.proofs.Sessions.{board_more, next_board, none_ran, room_for_one, some_left}
@@ -29,10 +30,10 @@ pub keep-requires : goal.keep-requires
 keep-requires g c =
     let link = g.R.L.Link in
     let shows = shown_by link.faults link.quiets link.gots link.held link.telling in
-    let made = c.loop-position.invariant.made in
+    let made = ap (λ (l : List LinkSpec). length l) c.loop-position.invariant.made in
     let less = room_for_one shows c.args.settings c.loop-position.position c.args.specs.now c.args.scripts.now
     c.loop-position.runs.items c.loop-position.is_whole (g.R.Rack.kept c.args.rack.now)
-    (g.R.Rack.kept c.loop-position.rack) (g.R.Rack.made c.args.rack.now) c.loop-position.invariant.so_far
+    (g.R.Rack.kept c.loop-position.rack) (length (g.R.Rack.made c.args.rack.now)) c.loop-position.invariant.so_far
     c.requires.room c.loop-position-test.true in
     omega (arith, made, less)
 

@@ -18,7 +18,7 @@ run_split-requires-clause-reached g c κs within = record {
 
 pub keep_all-requires-clause-room : goal.keep_all-requires-clause-room
 keep_all-requires-clause-room g c κs within =
-    subst (λ (n : ℕ). HasRoom (length (g.R.Rack.kept c.args.rack.now)) (g.R.Rack.made c.args.rack.now) n)
+    subst (λ (n : ℕ). HasRoom (length (g.R.Rack.kept c.args.rack.now)) (length (g.R.Rack.made c.args.rack.now)) n)
     (sym (ap (λ (v : Vec (Greeted _) _). length v.items) c.in-Err.ensures.given_back ∙ c.requires.all)) c.requires.room
 
 pub returns-in-Err-clause-left : goal.returns-in-Err-clause-left

@@ -1,5 +1,6 @@
-use Rattle.std.proofs.Common.{◌∙◌, ◌+◌, ◌++◌, ap, map, sym}
+use Rattle.std.proofs.Common.{◌∙◌, ◌++◌, ap, length, map}
 use Rattle.board_greeting.specs.Boards.{shown_by}
+use Rattle.board_greeting.proofs.Boards.{made_still}
 use Rattle.session_run.proofs.Sessions.{fresh_are_left, untouched_all}
 use Rattle.session_run.proofs.session.run_session.Goals as goal
 
@@ -21,6 +22,10 @@ returns-in_err-boards-clause-untouched g c =
     let left = c.in_err-boards.ensures.left in
     λ fault. (left.0, left.1, untouched_all c.args.settings c.args.specs.now (map shows left.0) left.2.0)
 
+pub returns-in_err-boards-clause-made : goal.returns-in_err-boards-clause-made
+returns-in_err-boards-clause-made g c =
+    let left = c.in_err-boards.ensures.left in (left.0, left.1, left.2.1)
+
 pub returns-clause-left : goal.returns-clause-left
 returns-clause-left g c =
     let left = c.run_greeted.ensures.left in
@@ -28,9 +33,12 @@ returns-clause-left g c =
 
 pub returns-clause-made : goal.returns-clause-made
 returns-clause-made g c =
+    let link = g.R.L.Link in
+    let shows = shown_by link.faults link.quiets link.gots link.held link.telling in
     let left = c.run_greeted.ensures.left in (
       left.0,
       left.1 ∙ ap (λ kept. kept ++ left.0) c.in_ok-boards.ensures.kept,
-      c.run_greeted.ensures.made ∙ (c.in_ok-boards.ensures.made
-          ∙ ap (λ n. g.R.Rack.made c.args.rack.now + n) (sym left.2.1)),
+      made_still c.args.specs.now (length c.args.specs.now) (length (map shows left.0))
+          (g.R.Rack.made c.args.rack.now) (g.R.Rack.made c.greet_boards.new.rack)
+          (g.R.Rack.made c.run_greeted.new.rack) c.in_ok-boards.ensures.made left.2.1 c.run_greeted.ensures.made,
     )

@@ -36,7 +36,7 @@ next-board-requires g c =
 pub keep-requires : goal.keep-requires
 keep-requires g c =
     let kept = length (g.R.Rack.kept c.loop-name.rack) in
-    let made = g.R.Rack.made c.loop-name.rack in
+    let made = length (g.R.Rack.made c.loop-name.rack) in
     let one = room_for_one kept made (length c.next-board.new.self)
     (subst (λ (n : ℕ). HasRoom kept made n) (ap (λ l. length l) c.next-board.ensures) c.loop-name.invariant.room) in
     omega (arith, one)
@@ -45,7 +45,7 @@ pub loop-name-preserved : goal.loop-name-preserved
 loop-name-preserved g c =
     let link = g.R.L.Link in
     let kept = g.R.Rack.kept c.loop-name.rack in
-    let made = g.R.Rack.made c.loop-name.rack in
+    let made = length (g.R.Rack.made c.loop-name.rack) in
     let board = c.next-board.result in
     let given = c.keep.ensures.kept ∙ ap (λ l. kept ++ l ∷ []) c.finish_board-link.ensures.link in
     let pushed = c.push_reserved.ensures.items ∙ ap (λ l. c.loop-name.lines.items ++ l ∷ [])
@@ -59,8 +59,9 @@ loop-name-preserved g c =
           c.loop-name.boards c.next-board.new.self board c.loop-name.lines.items c.push_reserved.new.self.items
           (g.R.Rack.kept c.args.rack.now) kept (g.R.Rack.kept c.keep.new.self) c.loop-name.invariant.so_far
           c.in-Some.ensures.steps.0 c.next-board.ensures pushed given c.finish_board-link.ensures.sound;
-      room = room_for_less (length kept) (length (g.R.Rack.kept c.keep.new.self)) made (g.R.Rack.made c.keep.new.self)
-          (length c.next-board.new.self) one c.keep.ensures.made
+      room = room_for_less (length kept) (length (g.R.Rack.kept c.keep.new.self)) made
+          (length (g.R.Rack.made c.keep.new.self)) (length c.next-board.new.self) one
+          (ap (λ l. length l) c.keep.ensures.made)
           (subst (λ (n : ℕ). HasRoom (length kept) made n) (ap (λ l. length l) c.next-board.ensures)
           c.loop-name.invariant.room);
       place = (let len = c.push_reserved.ensures.len in let cap = c.push_reserved.ensures.capacity in

@@ -10,7 +10,7 @@ use Rattle.session_serve.proofs.session.serve_greeted.Goals as goal
 
 pub keep_all-requires-clause-room : goal.keep_all-requires-clause-room
 keep_all-requires-clause-room g c κs within =
-    subst (λ (n : ℕ). HasRoom (length (g.R.Rack.kept c.args.rack.now)) (g.R.Rack.made c.args.rack.now) n)
+    subst (λ (n : ℕ). HasRoom (length (g.R.Rack.kept c.args.rack.now)) (length (g.R.Rack.made c.args.rack.now)) n)
     (sym c.requires.all) c.requires.room
 
 pub returns-in_default-clause-links : goal.returns-in_default-clause-links
@@ -51,7 +51,7 @@ serve_split-requires-clause-ready g c κs within = record {
 
 pub keep_all-requires-in-Err-clause-room : goal.keep_all-requires-in-Err-clause-room
 keep_all-requires-in-Err-clause-room g c κs within =
-    subst (λ (n : ℕ). HasRoom (length (g.R.Rack.kept c.args.rack.now)) (g.R.Rack.made c.args.rack.now) n)
+    subst (λ (n : ℕ). HasRoom (length (g.R.Rack.kept c.args.rack.now)) (length (g.R.Rack.made c.args.rack.now)) n)
     (sym (ap (λ (v : Vec (Greeted _) _). length v.items) c.in-Err.ensures.given_back ∙ c.requires.all)) c.requires.room
 
 pub returns-in-Err-clause-links : goal.returns-in-Err-clause-links

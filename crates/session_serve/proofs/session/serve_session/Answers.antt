@@ -1,8 +1,9 @@
-use Rattle.std.proofs.Common.{◌∙◌, [], map, subst}
+use Rattle.std.proofs.Common.{◌∙◌, ◌++◌, [], ap, length, map, subst}
 use Rattle.std.specs.Prelude.{IfOk}
 use Rattle.ipb_outside.specs.Pairs.{GivesBack}
 use Rattle.board_greeting.specs.Boards.{shown_by}
 use Rattle.board_greeting.specs.Links.{Keeps}
+use Rattle.board_greeting.proofs.Boards.{made_still}
 use Rattle.session_serve.specs.Serving.{AreServed}
 use Rattle.session_serve.proofs.Lists.{came_none, went_none}
 use Rattle.session_serve.proofs.Reporting.{untouched_links}
@@ -41,6 +42,22 @@ returns-clause-served g c =
     (g.D.Door.coming c.serve_greeted.new.door) (g.D.Door.kept c.args.door.now) (g.D.Door.kept c.serve_greeted.new.door)
     (λ came back. AreServed c.args.settings c.args.specs.now links came back report.connections.items
     report.boards.items)))) c.in_ok-boards.ensures.kept c.serve_greeted.ensures.served
+
+pub returns-clause-links : goal.returns-clause-links
+returns-clause-links g c =
+    let link = g.R.L.Link in
+    let shows = shown_by link.faults link.quiets link.gots link.held link.telling in
+    let left = c.serve_greeted.ensures.links in (
+      left.0,
+      left.1 ∙ ap (λ kept. kept ++ left.0) c.in_ok-boards.ensures.kept,
+      (
+        left.2.0,
+        made_still c.args.specs.now (length c.args.specs.now) (length (map shows left.0))
+            (g.R.Rack.made c.args.rack.now) (g.R.Rack.made c.greet_boards.new.rack)
+            (g.R.Rack.made c.serve_greeted.new.rack) c.in_ok-boards.ensures.made left.2.1
+            c.serve_greeted.ensures.made,
+      ),
+    )
 
 pub returns-clause-rack_unfaulted : goal.returns-clause-rack_unfaulted
 returns-clause-rack_unfaulted g c =

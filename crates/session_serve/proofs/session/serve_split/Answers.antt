@@ -85,7 +85,7 @@ finish_boards-requires-clause-room g c κs within =
     c.serve_at_hub-lanes.ensures.heads in
     let is = c.of-boards.ensures ∙ (ap (λ p. rejoined p news c.new.result.items) apart.apart.places'
     ∙ ap (λ l. rejoined (map place_of boards) news l) c.new.ensures.items) in
-    subst (HasRoom (length (g.R.Rack.kept c.args.rack.now)) (g.R.Rack.made c.args.rack.now))
+    subst (HasRoom (length (g.R.Rack.kept c.args.rack.now)) (length (g.R.Rack.made c.args.rack.now)))
     (sym (ap (λ l. length l) is ∙ (rejoined_long _ _ boards news heads.long ∙ apart.all))) c.requires.room
 
 pub returns-in-Err-clause-links : goal.returns-in-Err-clause-links
