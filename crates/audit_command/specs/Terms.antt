@@ -1,19 +1,14 @@
 -- What `audit` owes to its input. It makes no link and lets no client in. Profile.
 use Rattle.std.specs.Prelude.{ℕ, false, List, Some}
-use Rattle.lane_history.specs.Links.{LinkReport}
 use Rattle.script_steps.specs.declared.operation.Step.{Step}
 use Rattle.script_lang.specs.declared.session.Session.{Session}
 use Rattle.session_input.specs.declared.refusal.Refusal.TheVariants.{TooLong}
-use Rattle.command_terms.specs.Terms.{Terms}
+use Rattle.command_terms.specs.Terms.{Terms, uses_none}
 use Rattle.audit_command.specs.declared.refusal.AuditRefusal.TheVariants.{OfSession}
 use Rattle.audit_command.specs.Headline.{IsAuditOf, IsRefused}
 use Rattle.audit_command.specs.Input.{IsInput}
 use Rattle.audit_command.specs.Lines.{refusal_line}
 use Rattle.audit_command.specs.Numbers.{audit_bytes}
-
--- no boards are used
-abbrev pub uses_none : List ℕ → List LinkReport → Type 0
-uses_none bytes links = ⊥
 
 -- a session and a transcript in, the verdict out
 abbrev pub audit_terms : Terms

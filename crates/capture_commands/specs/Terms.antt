@@ -1,17 +1,12 @@
 -- What `describe` and `undescribe` owe to their input. Neither makes a link or lets a client in. Profile.
 use Rattle.std.specs.Prelude.{ℕ, false, List, Some}
-use Rattle.lane_history.specs.Links.{LinkReport}
 use Rattle.capture_reader.specs.declared.capture.Capture.{Capture}
-use Rattle.command_terms.specs.Terms.{Terms}
+use Rattle.command_terms.specs.Terms.{Terms, uses_none}
 use Rattle.capture_commands.specs.declared.refusal.TextRefusal.TheVariants.{LongCapture, LongDescription}
 use Rattle.capture_commands.specs.Lines.{refusal_line}
 use Rattle.capture_commands.specs.Numbers.{capture_bytes}
 use Rattle.capture_commands.specs.Texts.{DeservesAsCapture, DeservesAsDescription, IsDescribed, IsUndescribed}
 use Rattle.capture_commands.specs.Texts.{IsDescriptionOf, IsRefused, IsTextOf}
-
--- no boards are used
-abbrev pub uses_none : List ℕ → List LinkReport → Type 0
-uses_none bytes links = ⊥
 
 -- the text of a capture in, its description out
 abbrev pub describe_terms : Terms

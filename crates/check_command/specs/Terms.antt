@@ -8,7 +8,7 @@ use Rattle.session_input.specs.Numbers.{document_bytes}
 use Rattle.transcript.specs.Listing.{listing_text}
 use Rattle.command_terms.specs.Documents.{IsRefusedDocument, long_document_line}
 use Rattle.command_terms.specs.Numbers.{told_status}
-use Rattle.command_terms.specs.Terms.{Terms}
+use Rattle.command_terms.specs.Terms.{Terms, uses_none}
 
 -- 0 where no registers overlap
 abbrev pub listing_status : RegisterMap → ℕ
@@ -32,5 +32,5 @@ check_terms root = record {
   Right = λ bytes. (registers : RegisterMap) × IsListed bytes root registers;
   Refuses = IsRefusedDocument (BreaksInCheck root);
   Done = λ bytes given status text. IsListingOf bytes root status text;
-  Uses = λ bytes links. ⊥;
+  Uses = uses_none;
 }

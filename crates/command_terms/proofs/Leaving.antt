@@ -4,6 +4,7 @@ use Rattle.std.proofs.Common.{refl, sym, ap, ◌∙◌, subst, append-nil, arith
 use Rattle.std.proofs.lemmas.List.{append_cancel_left}
 use Rattle.std.specs.Result.{IsErr, IsErrAnd}
 use Rattle.ipb_outside.specs.Pairs.{PairReport}
+use Rattle.board_node.specs.declared.spec.LinkSpec.{LinkSpec}
 use Rattle.lane_history.specs.Links.{LinkReport}
 use Rattle.command_terms.specs.declared.answer.Answer.{Answer}
 use Rattle.command_terms.specs.Leaving.{Leaves}
@@ -30,13 +31,15 @@ none_came = (refl, refl)
 
 module _ {E : Type 0} (Served : List PairReport → List PairReport → Type 0) (none : Served [] []) (Fails : E → Type 0)
     (rack_failed : E) where
-  nothing_used : (terms : Terms) (bytes : List ℕ) (made : ℕ) (result : Result Answer E)
+  nothing_used : (terms : Terms) (bytes : List ℕ) (made : List LinkSpec) (result : Result Answer E)
       → IfOk result (λ answer. Owes terms bytes (no_pairs []) answer.status answer.text.items)
       → ((fault : E) → result ≡ Err fault → Fails fault → ⊥)
       → Leaves Served Fails rack_failed terms bytes made made result (no_pairs [])
   nothing_used terms bytes made result owed calm = record {
+    specs = [];
+    grown = sym (append-nil made);
+    counted = refl;
     used = inl refl;
-    counted = omega arith;
     back = none;
     owed = owed;
     behind = λ fault is failed. absurd (calm fault is failed);
@@ -44,7 +47,7 @@ module _ {E : Type 0} (Served : List PairReport → List PairReport → Type 0) 
   }
 
   pub nothing_left : {L : Type 0} (shown : L → LinkReport) (kept : List L) (terms : Terms) (bytes : List ℕ)
-      (made : ℕ) (result : Result Answer E)
+      (made : List LinkSpec) (result : Result Answer E)
       → IfOk result (λ answer. Owes terms bytes (no_pairs []) answer.status answer.text.items)
       → ((fault : E) → result ≡ Err fault → Fails fault → ⊥)
       → Told shown kept kept (λ links. Leaves Served Fails rack_failed terms bytes made made result (no_pairs links))
@@ -57,7 +60,7 @@ module _ {E : Type 0} (Served : List PairReport → List PairReport → Type 0) 
   same_error (Err why) fault other is same = sym (same_Err why other same) ∙ is
 
   pub failure_left : {L : Type 0} (shown : L → LinkReport) (kept : List L) (terms : Terms) (bytes : List ℕ)
-      (made : ℕ) (result : Result Answer E) (fault : E)
+      (made : List LinkSpec) (result : Result Answer E) (fault : E)
       → IsErr result → IsErrAnd result (λ why. why ≡ fault) → (Fails fault → ⊥)
       → Told shown kept kept (λ links. Leaves Served Fails rack_failed terms bytes made made result (no_pairs links))
   failure_left shown kept terms bytes made (Ok answer) fault fails is calm = absurd cc
@@ -65,15 +68,15 @@ module _ {E : Type 0} (Served : List PairReport → List PairReport → Type 0) 
       nothing_left shown kept terms bytes made (Err why) tt
       (λ other same failed. calm (subst Fails (same_error (Err why) fault other is same) failed))
 
-  pub error_left : {L : Type 0} (shown : L → LinkReport) (kept : List L) (terms : Terms) (bytes : List ℕ) (made : ℕ)
-      (why : E) → (Fails why → ⊥)
+  pub error_left : {L : Type 0} (shown : L → LinkReport) (kept : List L) (terms : Terms) (bytes : List ℕ)
+      (made : List LinkSpec) (why : E) → (Fails why → ⊥)
       → Told shown kept kept (λ links. Leaves Served Fails rack_failed terms bytes made made (Err why) (no_pairs links))
   error_left shown kept terms bytes made why calm =
       nothing_left shown kept terms bytes made (Err why) tt
       (λ other same failed. calm (subst Fails (sym (same_Err why other same)) failed))
 
   pub refusal_left : {L : Type 0} (shown : L → LinkReport) (kept : List L) (terms : Terms) (bytes : List ℕ)
-      (made : ℕ) (answer : Answer) → terms.Refuses bytes answer.text.items → answer.status ≡ refused_status
+      (made : List LinkSpec) (answer : Answer) → terms.Refuses bytes answer.text.items → answer.status ≡ refused_status
       → Told shown kept kept
       (λ links. Leaves Served Fails rack_failed terms bytes made made (Ok answer) (no_pairs links))
   refusal_left shown kept terms bytes made answer deserved status =
@@ -83,13 +86,15 @@ module _ {E : Type 0} (Served : List PairReport → List PairReport → Type 0) 
 
 module _ {E F : Type 0} (Served Served_now : List PairReport → List PairReport → Type 0)
     (served_as : (came back : List PairReport) → Served came back → Served_now came back) (Fails : E → Type 0)
-    (rack : E) (Failed : F → Type 0) (rack_now : F) (terms : Terms) (bytes : List ℕ) (made makes : ℕ)
+    (rack : E) (Failed : F → Type 0) (rack_now : F) (terms : Terms) (bytes : List ℕ) (made makes : List LinkSpec)
     (given : GivenBack) where
   pub done_as : (answer : Answer) → Leaves Served Fails rack terms bytes made makes (Ok answer) given
       → Leaves Served_now Failed rack_now terms bytes made makes (Ok answer) given
   done_as answer leaves = record {
-    used = leaves.used;
+    specs = leaves.specs;
+    grown = leaves.grown;
     counted = leaves.counted;
+    used = leaves.used;
     back = served_as given.came given.back leaves.back;
     owed = leaves.owed;
     behind = λ fault is failed. absurd cc;
@@ -103,8 +108,10 @@ module _ {E F : Type 0} (Served Served_now : List PairReport → List PairReport
       → Leaves Served_now Failed rack_now terms bytes made makes result given
   failed_as convert fault (Ok answer) behind is_rack fails is leaves = absurd cc
   failed_as convert fault (Err why) behind is_rack fails is leaves = record {
-    used = leaves.used;
+    specs = leaves.specs;
+    grown = leaves.grown;
     counted = leaves.counted;
+    used = leaves.used;
     back = served_as given.came given.back leaves.back;
     owed = tt;
     behind = λ other same failed.

@@ -1,6 +1,7 @@
 -- WHAT A COMMAND OWES to its input. Each command says it in one record, and what the program promises is said of that
 -- record, so that a reader of a command reads its record alone. Profile.
 use Rattle.std.specs.Prelude.{◌≡◌, ◌⊎◌, ℕ, ◌+◌, ◌<◌, Bool, false, List, length, Option, Some, None}
+use Rattle.board_node.specs.declared.spec.LinkSpec.{LinkSpec}
 use Rattle.lane_history.specs.Links.{LinkReport}
 use Rattle.command_terms.specs.Numbers.{IsDoneStatus, refused_status}
 use Rattle.command_terms.specs.Outside.{GivenBack}
@@ -19,8 +20,13 @@ pub record Terms : Type 1 where
   pub Refuses : List ℕ → List ℕ → Type 0
   -- what it makes of bytes that break none, where these links and pairs were given back: a status and a text
   pub Done : List ℕ → GivenBack → ℕ → List ℕ → Type 0
-  -- at every status: the links are those of the first boards that it uses for the bytes, in order
-  pub Uses : List ℕ → List LinkReport → Type 0
+  -- at every status: links were made of these specs, those of the first boards that it uses for the bytes, in order,
+  -- and these are the links of these boards, in order
+  pub Uses : List ℕ → List LinkSpec → List LinkReport → Type 0
+
+-- no boards are used
+abbrev pub uses_none : List ℕ → List LinkSpec → List LinkReport → Type 0
+uses_none bytes specs links = ⊥
 
 -- What it owes to bytes: what it makes of them, or the line of the refusal that they deserve.
 abbrev pub Owes : Terms → List ℕ → GivenBack → ℕ → List ℕ → Type 0
@@ -50,11 +56,12 @@ pub record AreTerms (terms : Terms) : Type 0 where
   pub right_apart : (bytes line : List ℕ) → terms.Right bytes → ¬ terms.Refuses bytes line
   pub done_apart : (bytes line : List ℕ) (given : GivenBack) (status : ℕ) (text : List ℕ)
       → terms.Done bytes given status text → ¬ terms.Refuses bytes line
-  pub uses_apart : (bytes line : List ℕ) (links : List LinkReport) → terms.Uses bytes links
-      → ¬ terms.Refuses bytes line
+  pub uses_apart : (bytes line : List ℕ) (specs : List LinkSpec) (links : List LinkReport)
+      → terms.Uses bytes specs links → ¬ terms.Refuses bytes line
   -- bytes that are too many deserve the line that says so
   pub long : (limit : ℕ) (bytes : List ℕ) → terms.limit ≡ Some limit → limit < length bytes
       → terms.Refuses bytes terms.long_line
   -- where no input is read, nothing is refused, and where no links are made, none are used
   pub unrefused : terms.limit ≡ None → (bytes line : List ℕ) → ¬ terms.Refuses bytes line
-  pub unlinked : terms.makes_links ≡ false → (bytes : List ℕ) (links : List LinkReport) → ¬ terms.Uses bytes links
+  pub unlinked : terms.makes_links ≡ false → (bytes : List ℕ) (specs : List LinkSpec) (links : List LinkReport)
+      → ¬ terms.Uses bytes specs links

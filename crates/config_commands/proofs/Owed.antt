@@ -1,6 +1,7 @@
 -- What `save` and `apply` leave by bytes that break none of their rules.
 use Rattle.std.proofs.Common.{◌≡◌, inl, inr, ℕ, List, [], ◌∷◌, length, Result, Ok, Err, IfOk}
 use Rattle.std.proofs.Common.{sym, subst, ◌∙◌, arith}
+use Rattle.board_node.specs.declared.spec.LinkSpec.{LinkSpec}
 use Rattle.lane_history.specs.Links.{LinkReport}
 use Rattle.lane_history.specs.Runs.{AreRunsOver}
 use Rattle.script_steps.specs.declared.operation.Step.{Step}
@@ -43,20 +44,24 @@ written_by law session steps links status text can writes = record {
 }
 
 leaves_by : (command : ConfigCommand) (terms : Terms) (bytes : List ℕ)
-    → ((links : List LinkReport) → RanSomeFor command bytes links → terms.Uses bytes links)
-    → (session : Session) (steps : List (List Step)) (made makes : ℕ)
+    → ((specs : List LinkSpec) (links : List LinkReport) → RanSomeFor command bytes specs links
+    → terms.Uses bytes specs links)
+    → (session : Session) (steps : List (List Step)) (made makes : List LinkSpec)
     (result : Result Answer RunFault) (links : List LinkReport) → IsReadFor command bytes session steps
     → RunLeaves session steps made makes result links
     → IfOk result (λ answer. Owes terms bytes (no_pairs links) answer.status answer.text.items)
     → Leaves NoneCame IsRunFailure Rack terms bytes made makes result (no_pairs links)
 leaves_by command terms bytes uses session steps made makes result links read leaves owed =
-    let ran : RanSomeFor command bytes links =
-    record { session = session; steps = steps; read = read; left = leaves.left } in record {
-      used = inr (uses links ran);
-      counted = leaves.counted;
+    let made' = leaves.links_made in
+    let ran : RanSomeFor command bytes made'.specs links =
+    record { session = session; steps = steps; read = read; first = made'.first; left = leaves.left } in record {
+      specs = made'.specs;
+      grown = made'.grown;
+      counted = made'.many;
+      used = inr (uses made'.specs links ran);
       back = none_came;
       owed = owed;
-      behind = λ fault is failed. uses links ran;
+      behind = λ fault is failed. uses made'.specs links ran;
       untouched = leaves.untouched;
     }
 
@@ -88,11 +93,12 @@ save_owed runs law bytes session (steps ∷ []) links (Ok answer) is alone can w
     })
 
 pub save_leaves : RunsLaw → SavedLaw → (bytes : List ℕ) (session : Session) (steps : List (List Step))
-    (made makes : ℕ) (result : Result Answer RunFault) (links : List LinkReport) → IsSavable bytes session steps
+    (made makes : List LinkSpec) (result : Result Answer RunFault) (links : List LinkReport)
+    → IsSavable bytes session steps
     → length steps ≡ 1 → CanRunSteps session steps → RunLeaves session steps made makes result links
     → Leaves NoneCame IsRunFailure Rack save_terms bytes made makes result (no_pairs links)
 save_leaves runs law bytes session steps made makes result links is alone can leaves =
-    leaves_by save_command save_terms bytes (λ links ran. ran) session steps made makes result links is leaves
+    leaves_by save_command save_terms bytes (λ specs links ran. ran) session steps made makes result links is leaves
     (save_owed runs law bytes session steps links result is alone can leaves.writes)
 
 -- ---- apply
@@ -124,9 +130,10 @@ apply_owed runs law bytes session (steps ∷ []) links (Ok answer) is alone can 
     })
 
 pub apply_leaves : RunsLaw → AppliedLaw → (bytes : List ℕ) (session : Session) (steps : List (List Step))
-    (made makes : ℕ) (result : Result Answer RunFault) (links : List LinkReport) → IsApplicable bytes session steps
+    (made makes : List LinkSpec) (result : Result Answer RunFault) (links : List LinkReport)
+    → IsApplicable bytes session steps
     → length steps ≡ 1 → CanRunSteps session steps → RunLeaves session steps made makes result links
     → Leaves NoneCame IsRunFailure Rack apply_terms bytes made makes result (no_pairs links)
 apply_leaves runs law bytes session steps made makes result links is alone can leaves =
-    leaves_by apply_command apply_terms bytes (λ links ran. ran) session steps made makes result links is leaves
+    leaves_by apply_command apply_terms bytes (λ specs links ran. ran) session steps made makes result links is leaves
     (apply_owed runs law bytes session steps links result is alone can leaves.writes)

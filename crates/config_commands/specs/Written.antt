@@ -1,13 +1,15 @@
 -- The text of the configuration of boards that a run wrote. Profile.
 use Rattle.std.specs.Prelude.{◌≡◌, ℕ, List, [], ◌∷◌, is_some, true}
 use Rattle.std.specs.List.{AllByRecursion}
+use Rattle.ipb_base.specs.Lists.{IsPrefix}
+use Rattle.board_node.specs.declared.spec.LinkSpec.{LinkSpec}
 use Rattle.lane_history.specs.Links.{LinkReport}
 use Rattle.script_steps.specs.declared.operation.Step.{Step}
 use Rattle.script_lang.specs.declared.session.Session.{Session}
 use Rattle.script_plans.specs.declared.board_run.BoardRun.{BoardRun}
 use Rattle.transcript.specs.Lines.{client_lines, run_status, transcript_of}
 use Rattle.run_laws.specs.Runs.{IsSessionRun}
-use Rattle.session_run.specs.Links.{AreLeft}
+use Rattle.session_run.specs.Links.{AreLeft, link_specs}
 use Rattle.config_store.specs.Text.{state_text}
 use Rattle.config_input.specs.Deserved.{IsReadFor}
 use Rattle.config_input.specs.Work.{ConfigCommand}
@@ -29,11 +31,13 @@ pub record IsWritten (session : Session) (steps : List Step) (links : List LinkR
   -- the status is 0 exactly where every line, of a write too, is a value or `done`
   pub told : status ≡ run_status (transcript_of (steps ∷ []) runs).clients
 
--- At every status: the bytes stand for a session by which the command runs these steps, and the links are those of its
--- first boards, in order, each given back once; what was sent to each board, and so what it executed, is a merge of
--- bodies that the steps ask of it, in their order.
-pub record RanSomeFor (command : ConfigCommand) (bytes : List ℕ) (links : List LinkReport) : Type 0 where
+-- At every status: the bytes stand for a session by which the command runs these steps, links were made of the specs of
+-- its first boards, in order, and the links are those of these boards, in order, each given back once; what was sent to
+-- each board, and so what it executed, is a merge of bodies that the steps ask of it, in their order.
+pub record RanSomeFor (command : ConfigCommand) (bytes : List ℕ) (specs : List LinkSpec) (links : List LinkReport)
+    : Type 0 where
   pub session : Session
   pub steps : List (List Step)
   pub read : IsReadFor command bytes session steps
+  pub first : IsPrefix specs (link_specs session.boards)
   pub left : AreLeft 0 session.boards steps links

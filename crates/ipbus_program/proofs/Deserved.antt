@@ -7,6 +7,7 @@ use Rattle.std.specs.Io.KnownBytes.{prepend_known, append_known, IsAtEnd}
 use Rattle.std.proofs.lemmas.Option.{none-some, same_Some}
 use Rattle.ipb_base.specs.Faults.{Rose}
 use Rattle.ipb_outside.specs.Told.{TakesCount}
+use Rattle.board_node.specs.declared.spec.LinkSpec.{LinkSpec}
 use Rattle.lane_history.specs.Links.{LinkReport}
 use Rattle.command_words.specs.declared.command.Command.{Command}
 use Rattle.command_terms.specs.Faults.{RisesOnlyAt}
@@ -101,11 +102,11 @@ module _ (terms : Terms) (laws : AreTerms terms) where
         subst (λ bs. terms.Done bs given status text) (all_read done.bytes done.read) done.done
 
     -- bytes for which boards were used deserve no refusal
-    pub used_undeserved : (links : List LinkReport) (line : List ℕ) → UsedFrom terms before now links
-        → terms.Refuses bytes line → ⊥
-    used_undeserved links line used refused =
-        laws.uses_apart bytes line links (subst (λ bs. terms.Uses bs links) (all_read used.bytes used.read) used.uses)
-        refused
+    pub used_undeserved : (specs : List LinkSpec) (links : List LinkReport) (line : List ℕ)
+        → UsedFrom terms before now specs links → terms.Refuses bytes line → ⊥
+    used_undeserved specs links line used refused =
+        laws.uses_apart bytes line specs links
+        (subst (λ bs. terms.Uses bs specs links) (all_read used.bytes used.read) used.uses) refused
 
     pub deserved_refused : (given : GivenBack) (status : ℕ) (text handed : List ℕ) → handed ≡ text
         → (old new : Option (List ℕ)) (met meets result : ℕ) (line : List ℕ) → terms.Refuses bytes line
@@ -163,15 +164,16 @@ module _ (terms : Terms) (laws : AreTerms terms) where
 -- ---- where there is no answer
 
 no_rack : (makes : Bool) (terms : Terms) → AreTerms terms → terms.makes_links ≡ makes
-    → (left left_now : Option (List ℕ)) (links : List LinkReport) (rack rack_now : ℕ)
-    → (terms.makes_links ≡ true → ¬ Rose rack rack_now) → UsedFrom terms left left_now links → Rose rack rack_now → ⊥
-no_rack true terms laws is left left_now links rack rack_now calm used rose = calm is rose
-no_rack false terms laws is left left_now links rack rack_now calm used rose =
-    laws.unlinked is used.bytes links used.uses
+    → (left left_now : Option (List ℕ)) (specs : List LinkSpec) (links : List LinkReport) (rack rack_now : ℕ)
+    → (terms.makes_links ≡ true → ¬ Rose rack rack_now) → UsedFrom terms left left_now specs links
+    → Rose rack rack_now → ⊥
+no_rack true terms laws is left left_now specs links rack rack_now calm used rose = calm is rose
+no_rack false terms laws is left left_now specs links rack rack_now calm used rose =
+    laws.unlinked is used.bytes specs links used.uses
 
 -- nothing of what the command uses failed
 pub no_failure : (asked command : Command) → asked ≡ command → AreTerms (terms_of command)
-    → (left left_now : Option (List ℕ)) (made makes : ℕ) (given : GivenBack)
+    → (left left_now : Option (List ℕ)) (made makes : List LinkSpec) (given : GivenBack)
     (input input_now rack rack_now door door_now : ℕ) (result : Result Answer NoAnswer)
     → IsCalm (terms_of asked) input input_now rack rack_now door door_now
     → InputLeaves (terms_of command) left left_now made makes result given
@@ -183,7 +185,7 @@ no_failure asked command same laws left left_now made makes given input input_no
     let terms = terms_of command in
     let calm = subst (λ c. IsCalm (terms_of c) input input_now rack rack_now door door_now) same quiet in (
       λ is. calm.0 (leaves.reads is) (inputs.0 is),
-      λ is. no_rack terms.makes_links terms laws refl left left_now given.links rack rack_now calm.1
+      λ is. no_rack terms.makes_links terms laws refl left left_now leaves.specs given.links rack rack_now calm.1
           (leaves.behind RackFault is tt) (racks.0 is),
       λ is. calm.2 (leaves.serves is) (doors.0 is),
     )

@@ -1,8 +1,9 @@
 -- How a call ends, put together from what its command answered and what was written of it.
 use Rattle.std.proofs.Common.{◌≡◌, ◌≢◌, ◌⊎◌, inl, inr, ℕ, ◌≤◌, List, [], Option, false}
-use Rattle.std.proofs.Common.{Ok, Err, String, Global, refl, sym, ◌∙◌, subst, arith}
+use Rattle.std.proofs.Common.{Ok, Err, String, Global, refl, sym, ◌∙◌, append-nil, subst, arith}
 use Rattle.std.proofs.KnownBytes.{prepend_known-nil}
 use Rattle.ipb_outside.specs.Doors.{Listens}
+use Rattle.board_node.specs.declared.spec.LinkSpec.{LinkSpec}
 use Rattle.ipb_outside.specs.Told.{AppendsPart, TakesAtMost}
 use Rattle.command_words.specs.declared.command.Command.{Command}
 use Rattle.command_words.specs.Commands.{usage_text}
@@ -100,7 +101,7 @@ listened_at_most Done status port ports ports_now large told =
 
 -- ---- the words are no command
 
-module _ (words : List (String Global)) (left : Option (List ℕ)) (made : ℕ) where
+module _ (words : List (String Global)) (left : Option (List ℕ)) (made : List LinkSpec) where
   -- what is so where nothing was read and no link was made
   abbrev pub untouched : Option (List ℕ) → Option (List ℕ) → Outside
   untouched written written_now = record {
@@ -122,7 +123,9 @@ module _ (words : List (String Global)) (left : Option (List ℕ)) (made : ℕ) 
       → Ended words (untouched written written_now) result
   usage_ended none handed same written written_now met meets result (inl (is, wrote)) = record {
     known = inr (inr (inl is));
-    counted = omega arith;
+    specs = [];
+    grown = sym (append-nil made);
+    counted = refl;
     used = inl refl;
     served = none_served;
     taken = λ command asked. none_taken command;
@@ -140,7 +143,9 @@ module _ (words : List (String Global)) (left : Option (List ℕ)) (made : ℕ) 
   }
   usage_ended none handed same written written_now met meets result (inr (is, (rose, part))) = record {
     known = inr (inr (inr (inr (inr (inl is)))));
-    counted = omega arith;
+    specs = [];
+    grown = sym (append-nil made);
+    counted = refl;
     used = inl refl;
     served = none_served;
     taken = λ command asked. none_taken command;
@@ -161,7 +166,9 @@ module _ (words : List (String Global)) (left : Option (List ℕ)) (made : ℕ) 
   pub unread_ended : (written written_now : Option (List ℕ)) → Ended words (untouched written written_now) no_memory_status
   unread_ended written written_now = record {
     known = inr (inr (inr (inr (inr (inr (inl refl))))));
-    counted = omega arith;
+    specs = [];
+    grown = sym (append-nil made);
+    counted = refl;
     used = inl refl;
     served = none_served;
     taken = λ command asked. none_taken command;
@@ -191,7 +198,8 @@ module _ (words : List (String Global)) (command : Command) (laws : AreTerms (te
   shut_by P status shut sessionless unreached (inr (inl none)) = sessionless none
   shut_by P status shut sessionless unreached (inr (inr fault)) = unreached fault
 
-  module _ (left left_now : Option (List ℕ)) (made made_now : ℕ) (written written_now : Option (List ℕ))
+  module _ (left left_now : Option (List ℕ)) (made made_now : List LinkSpec)
+      (written written_now : Option (List ℕ))
       (given : GivenBack) where
     abbrev pub outside : Outside
     outside = record {
@@ -204,13 +212,15 @@ module _ (words : List (String Global)) (command : Command) (laws : AreTerms (te
       given_back = given;
     }
 
-    some : UsedFrom (terms_of command) left left_now given.links → UsedSome words left left_now given.links
-    some used = (command, are, used)
+    some : (specs : List LinkSpec) → UsedFrom (terms_of command) left left_now specs given.links
+        → UsedSome words left left_now specs given.links
+    some specs used = (command, are, used)
 
-    none_or_some : (given.links ≡ []) ⊎ UsedFrom (terms_of command) left left_now given.links
-        → (given.links ≡ []) ⊎ UsedSome words left left_now given.links
-    none_or_some (inl none) = inl none
-    none_or_some (inr used) = inr (some used)
+    none_or_some : (specs : List LinkSpec)
+        → (given.links ≡ []) ⊎ UsedFrom (terms_of command) left left_now specs given.links
+        → (given.links ≡ []) ⊎ UsedSome words left left_now specs given.links
+    none_or_some specs (inl none) = inl none
+    none_or_some specs (inr used) = inr (some specs used)
 
     taken_by : TakesAtMost (most_bytes (terms_of command)) left left_now → (other : Command) → AreCommand words other
         → TakesAtMost (most_bytes (terms_of other)) left left_now
@@ -222,8 +232,10 @@ module _ (words : List (String Global)) (command : Command) (laws : AreTerms (te
         → Ended words outside (status_of why)
     failed ReadFault leaves = record {
       known = inr (inr (inr (inr (inl refl))));
+      specs = leaves.specs;
+      grown = leaves.grown;
       counted = leaves.counted;
-      used = none_or_some leaves.used;
+      used = none_or_some leaves.specs leaves.used;
       served = leaves.back;
       taken = taken_by leaves.taken;
       done = λ done. let small = done_small_status read_fault_status done in absurd (omega (arith, small));
@@ -236,8 +248,10 @@ module _ (words : List (String Global)) (command : Command) (laws : AreTerms (te
     }
     failed RackFault leaves = record {
       known = inr (inr (inr (inr (inr (inr (inr (inl refl)))))));
+      specs = leaves.specs;
+      grown = leaves.grown;
       counted = leaves.counted;
-      used = none_or_some leaves.used;
+      used = none_or_some leaves.specs leaves.used;
       served = leaves.back;
       taken = taken_by leaves.taken;
       done = λ done. let small = done_small_status rack_fault_status done in absurd (omega (arith, small));
@@ -245,13 +259,15 @@ module _ (words : List (String Global)) (command : Command) (laws : AreTerms (te
       refused = λ told. absurd (omega (arith, told));
       reads = λ told. absurd (omega (arith, told));
       cut = λ told. absurd (omega (arith, told));
-      unreached = λ told. (some (leaves.behind RackFault refl tt), leaves.untouched refl);
+      unreached = λ told. (some leaves.specs (leaves.behind RackFault refl tt), leaves.untouched refl);
       unserved = λ told. absurd (omega (arith, told));
     }
     failed DoorFault leaves = record {
       known = inr (inr (inr (inr (inr (inr (inr (inr refl)))))));
+      specs = leaves.specs;
+      grown = leaves.grown;
       counted = leaves.counted;
-      used = none_or_some leaves.used;
+      used = none_or_some leaves.specs leaves.used;
       served = leaves.back;
       taken = taken_by leaves.taken;
       done = λ done. let small = done_small_status door_fault_status done in absurd (omega (arith, small));
@@ -264,8 +280,10 @@ module _ (words : List (String Global)) (command : Command) (laws : AreTerms (te
     }
     failed NoMemory leaves = record {
       known = inr (inr (inr (inr (inr (inr (inl refl))))));
+      specs = leaves.specs;
+      grown = leaves.grown;
       counted = leaves.counted;
-      used = none_or_some leaves.used;
+      used = none_or_some leaves.specs leaves.used;
       served = leaves.back;
       taken = taken_by leaves.taken;
       done = λ done. let small = done_small_status no_memory_status done in absurd (omega (arith, small));
@@ -292,8 +310,10 @@ module _ (words : List (String Global)) (command : Command) (laws : AreTerms (te
           in record {
             known = some_status words command laws are left left_now given answer.status answer.text.items handed same
                 written written_now met meets result leaves.owed delivers;
+            specs = leaves.specs;
+            grown = leaves.grown;
             counted = leaves.counted;
-            used = none_or_some leaves.used;
+            used = none_or_some leaves.specs leaves.used;
             served = leaves.back;
             taken = taken_by leaves.taken;
             done = λ done. done_whole words command laws are left left_now given answer.status answer.text.items handed same

@@ -5,6 +5,7 @@ use Rattle.std.specs.Io.KnownBytes.{prepend_known}
 use Rattle.std.specs.Result.{IsErr, IsErrAnd}
 use Rattle.std.proofs.KnownBytes.{prepend_known-nil}
 use Rattle.ipb_outside.specs.Told.{TakesAtMost}
+use Rattle.board_node.specs.declared.spec.LinkSpec.{LinkSpec}
 use Rattle.lane_history.specs.Links.{LinkReport}
 use Rattle.session_serve.specs.Serving.{AreBack}
 use Rattle.session_serve.proofs.Standing.{none_served}
@@ -25,11 +26,11 @@ at_most : (before now : Option (List ℕ)) (bytes : List ℕ) (most : ℕ) → l
 at_most before now bytes most fits took = (bytes, fits, took)
 
 module _ (terms : Terms) (before now : Option (List ℕ)) (bytes : List ℕ) (read : IsReadBy terms.limit before now bytes)
-    (links : List LinkReport) where
-  from_input : terms.Uses bytes links → UsedFrom terms before now links
+    (specs : List LinkSpec) (links : List LinkReport) where
+  from_input : terms.Uses bytes specs links → UsedFrom terms before now specs links
   from_input uses = record { bytes = bytes; read = read; uses = uses }
 
-  used_from : (links ≡ []) ⊎ terms.Uses bytes links → (links ≡ []) ⊎ UsedFrom terms before now links
+  used_from : (links ≡ []) ⊎ terms.Uses bytes specs links → (links ≡ []) ⊎ UsedFrom terms before now specs links
   used_from (inl none) = inl none
   used_from (inr uses) = inr (from_input uses)
 
@@ -40,7 +41,7 @@ module _ (terms : Terms) (limit : ℕ) (is : terms.limit ≡ Some limit) (before
   pub taken_by_reader : TakesAtMost (limit + 1) before now → TakesAtMost (most_bytes terms) before now
   taken_by_reader took = subst (λ n. TakesAtMost n before now) (sym (most_is terms limit is)) took
 
-  module _ (bytes : List ℕ) (read : IsReadToEnd before now bytes) (made makes : ℕ) (given : GivenBack) where
+  module _ (bytes : List ℕ) (read : IsReadToEnd before now bytes) (made makes : List LinkSpec) (given : GivenBack) where
     answered_from : (result : Result Answer NoAnswer) → length bytes ≤ limit
         → IfOk result (λ answer. Owes terms bytes given answer.status answer.text.items)
         → IfOk result (λ answer. AnswersInput terms before now given answer.status answer.text.items)
@@ -54,20 +55,23 @@ module _ (terms : Terms) (limit : ℕ) (is : terms.limit ≡ Some limit) (before
         → InputLeaves terms before now made makes result given
     input_left result within serves leaves =
         let by = read_by terms limit is before now bytes read in record {
-          used = used_from terms before now bytes by given.links leaves.used;
+          specs = leaves.specs;
+          grown = leaves.grown;
           counted = leaves.counted;
+          used = used_from terms before now bytes by leaves.specs given.links leaves.used;
           back = leaves.back;
           taken = taken_by_reader (at_most before now bytes (limit + 1) (omega (arith, within)) read.all);
           owed = answered_from result within leaves.owed;
           reads = λ failed. (limit, is);
-          behind = λ fault same failed. from_input terms before now bytes by given.links (leaves.behind fault same failed);
+          behind = λ fault same failed. from_input terms before now bytes by leaves.specs given.links
+              (leaves.behind fault same failed);
           untouched = leaves.untouched;
           serves = serves;
         }
 
   -- nothing was made
   pub input_untouched : {L : Type 0} (shown : L → LinkReport) (kept : List L)
-      (made : ℕ) (result : Result Answer NoAnswer)
+      (made : List LinkSpec) (result : Result Answer NoAnswer)
       → TakesAtMost (limit + 1) before now
       → IfOk result (λ answer. AnswersInput terms before now (no_pairs []) answer.status answer.text.items)
       → ((fault : NoAnswer) → result ≡ Err fault → IsFailure fault → ⊥)
@@ -76,8 +80,10 @@ module _ (terms : Terms) (limit : ℕ) (is : terms.limit ≡ Some limit) (before
     [],
     sym (append-nil kept),
     record {
+      specs = [];
+      grown = sym (append-nil made);
+      counted = refl;
       used = inl refl;
-      counted = omega arith;
       back = none_served;
       taken = taken_by_reader took;
       owed = owed;
@@ -91,14 +97,14 @@ module _ (terms : Terms) (limit : ℕ) (is : terms.limit ≡ Some limit) (before
   no_failure : (why fault : NoAnswer) → why ≡ fault → (IsFailure why → ⊥) → IsFailure fault → ⊥
   no_failure why fault same calm failed = calm (subst IsFailure (sym same) failed)
 
-  pub error_untouched : {L : Type 0} (shown : L → LinkReport) (kept : List L) (made : ℕ) (why : NoAnswer)
+  pub error_untouched : {L : Type 0} (shown : L → LinkReport) (kept : List L) (made : List LinkSpec) (why : NoAnswer)
       → (IsFailure why → ⊥) → TakesAtMost (limit + 1) before now
       → Told shown kept kept (λ links. InputLeaves terms before now made made (Err why) (no_pairs links))
   error_untouched shown kept made why calm took =
       input_untouched shown kept made (Err why) took tt
       (λ fault same. no_failure why fault (same_Err why fault same) calm)
 
-  pub failure_untouched : {L : Type 0} (shown : L → LinkReport) (kept : List L) (made : ℕ)
+  pub failure_untouched : {L : Type 0} (shown : L → LinkReport) (kept : List L) (made : List LinkSpec)
       (result : Result Answer NoAnswer)
       → IsErr result → IsErrAnd result (λ why. why ≡ of_memory) → TakesAtMost (limit + 1) before now
       → Told shown kept kept (λ links. InputLeaves terms before now made made result (no_pairs links))
@@ -123,19 +129,22 @@ module _ (terms : Terms) (laws : AreTerms terms) (is : terms.limit ≡ None) (le
   all_answered given (Ok answer) owed = answered given answer.status answer.text.items owed
   all_answered given (Err why) owed = tt
 
-  pub unread_left : (made makes : ℕ) (given : GivenBack) (result : Result Answer NoAnswer)
+  pub unread_left : (made makes : List LinkSpec) (given : GivenBack) (result : Result Answer NoAnswer)
       → (result ≡ Err ReadFault → ⊥) → (result ≡ Err DoorFault → terms.lets_in ≡ true)
       → Leaves AreBack IsFailure RackFault terms [] made makes result given
       → InputLeaves terms left left made makes result given
   unread_left made makes given result no_read serves leaves = record {
-    used = used_from terms left left [] unread given.links leaves.used;
+    specs = leaves.specs;
+    grown = leaves.grown;
     counted = leaves.counted;
+    used = used_from terms left left [] unread leaves.specs given.links leaves.used;
     back = leaves.back;
     taken = subst (λ n. TakesAtMost n left left) (sym (ap most_of is))
         (at_most left left [] 0 (omega arith) (sym (prepend_known-nil left)));
     owed = all_answered given result leaves.owed;
     reads = λ failed. absurd (no_read failed);
-    behind = λ fault same failed. from_input terms left left [] unread given.links (leaves.behind fault same failed);
+    behind = λ fault same failed. from_input terms left left [] unread leaves.specs given.links
+        (leaves.behind fault same failed);
     untouched = leaves.untouched;
     serves = serves;
   }

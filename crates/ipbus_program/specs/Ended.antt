@@ -1,10 +1,11 @@
 -- THE END OF A CALL: what holds of everything outside when the program ends, at every status, and what more by the
 -- status; and which words and inputs end in which. It is one record, `Ended`. Profile.
-use Rattle.std.specs.Prelude.{◌≡◌, ◌⊎◌, ℕ, ◌+◌, List, [], length, Option, None, true, false, String}
+use Rattle.std.specs.Prelude.{◌≡◌, ◌⊎◌, ℕ, List, [], ◌++◌, length, Option, None, true, false, String}
 use Rattle.std.specs.declared.alloc.Global.{Global}
 use Rattle.std.specs.List.{AllByRecursion}
 use Rattle.ipb_base.specs.Faults.{Rose}
 use Rattle.ipb_outside.specs.Told.{TakesAtMost}
+use Rattle.board_node.specs.declared.spec.LinkSpec.{LinkSpec}
 use Rattle.lane_history.specs.Links.{IsUntouched}
 use Rattle.session_serve.specs.Serving.{AreBack}
 use Rattle.command_words.specs.declared.command.Command.{Command}
@@ -28,13 +29,15 @@ IsStatus status =
 pub record Ended (words : List (String Global)) (outside : Outside) (status : ℕ) : Type 0 where
   -- it is one of these nine
   pub known : IsStatus status
-  -- the rack was given back each link that it made in this call
-  pub counted : outside.made_now ≡ outside.made + length outside.given_back.links
-  -- they are those of the first boards of a session that the command uses, board by board, and where its scripts were
-  -- run, what was sent to each board, and so what it executed, is a merge of bodies that they ask of it; or there are
-  -- none
+  -- the rack made links of these specs in this call, and was given back each
+  pub specs : List LinkSpec
+  pub grown : outside.made_now ≡ outside.made ++ specs
+  pub counted : length specs ≡ length outside.given_back.links
+  -- the specs and the links are those of the first boards of a session that the command uses, board by board, and where
+  -- its scripts were run, what was sent to each board, and so what it executed, is a merge of bodies that they ask of
+  -- it; or there are none
   pub used : (outside.given_back.links ≡ [])
-      ⊎ UsedSome words outside.left outside.left_now outside.given_back.links
+      ⊎ UsedSome words outside.left outside.left_now specs outside.given_back.links
   -- each pair that came was served and went back
   pub served : AreBack outside.given_back.came outside.given_back.back
   -- no more was taken of the input than the command reads
@@ -58,11 +61,11 @@ pub record Ended (words : List (String Global)) (outside : Outside) (status : �
       outside.written outside.written_now
   -- 7: these are links of such a session, and their boards executed nothing
   pub unreached : status ≡ rack_fault_status
-      → UsedSome words outside.left outside.left_now outside.given_back.links
+      → UsedSome words outside.left outside.left_now specs outside.given_back.links
       × AllByRecursion IsUntouched outside.given_back.links
   -- 8: the words are a command that lets clients in, and these are the links of its boards
   pub unserved : status ≡ door_fault_status
-      → ServedSome words outside.left outside.left_now outside.given_back.links
+      → ServedSome words outside.left outside.left_now specs outside.given_back.links
 
 -- ---- what is left alone
 

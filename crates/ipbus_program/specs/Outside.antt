@@ -1,5 +1,6 @@
 -- What a call finds outside of the program and what it leaves there, as contracts see it. Profile.
 use Rattle.std.specs.Prelude.{ℕ, List, Option}
+use Rattle.board_node.specs.declared.spec.LinkSpec.{LinkSpec}
 use Rattle.command_terms.specs.Outside.{GivenBack}
 
 -- The outside before a call and after it.
@@ -10,8 +11,8 @@ pub record Outside : Type 0 where
   -- the bytes that the output was given, where it tells them
   pub written : Option (List ℕ)
   pub written_now : Option (List ℕ)
-  -- how many links the rack has made
-  pub made : ℕ
-  pub made_now : ℕ
+  -- the specs that the rack has made links of, in order
+  pub made : List LinkSpec
+  pub made_now : List LinkSpec
   -- the links and the pairs that came into the program by this call and went back
   pub given_back : GivenBack

@@ -5,6 +5,7 @@ use Rattle.std.specs.Prelude.{string_bytes, String}
 use Rattle.std.specs.declared.alloc.Global.{Global}
 use Rattle.std.specs.Io.KnownBytes.{prepend_known, append_known, IsAtEnd}
 use Rattle.ipb_outside.specs.Told.{AppendsPart}
+use Rattle.board_node.specs.declared.spec.LinkSpec.{LinkSpec}
 use Rattle.lane_history.specs.Links.{LinkReport}
 use Rattle.command_words.specs.declared.command.Command.{Command}
 use Rattle.command_words.specs.Commands.{command_of, usage_text}
@@ -91,22 +92,26 @@ OwesText words before now given text = (status : ℕ) × OwesWords words before 
 
 -- ---- the links
 
--- a command uses boards for the bytes that it read, and these are the links of the first of them, in order
-pub record UsedFrom (terms : Terms) (before now : Option (List ℕ)) (links : List LinkReport) : Type 0 where
+-- a command uses boards for the bytes that it read, and the specs and the links are those of the first of them, in
+-- order
+pub record UsedFrom (terms : Terms) (before now : Option (List ℕ)) (specs : List LinkSpec) (links : List LinkReport)
+    : Type 0 where
   pub bytes : List ℕ
   pub read : IsReadBy terms.limit before now bytes
-  pub uses : terms.Uses bytes links
+  pub uses : terms.Uses bytes specs links
 
 -- so does the command that the words are
-abbrev pub UsedSome : List (String Global) → Option (List ℕ) → Option (List ℕ) → List LinkReport → Type 0
-UsedSome words before now links =
-    (command : Command) × AreCommand words command × UsedFrom (terms_of command) before now links
+abbrev pub UsedSome : List (String Global) → Option (List ℕ) → Option (List ℕ) → List LinkSpec → List LinkReport
+    → Type 0
+UsedSome words before now specs links =
+    (command : Command) × AreCommand words command × UsedFrom (terms_of command) before now specs links
 
 -- and it is one that lets clients in
-abbrev pub ServedSome : List (String Global) → Option (List ℕ) → Option (List ℕ) → List LinkReport → Type 0
-ServedSome words before now links =
+abbrev pub ServedSome : List (String Global) → Option (List ℕ) → Option (List ℕ) → List LinkSpec → List LinkReport
+    → Type 0
+ServedSome words before now specs links =
     (command : Command) × AreCommand words command × ((terms_of command).lets_in ≡ true)
-    × UsedFrom (terms_of command) before now links
+    × UsedFrom (terms_of command) before now specs links
 
 -- ---- the output
 

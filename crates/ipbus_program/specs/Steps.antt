@@ -1,8 +1,9 @@
 -- How the steps of the call work together: what its private functions promise one another. No public clause speaks of
 -- these.
-use Rattle.std.specs.Prelude.{◌≡◌, ◌⊎◌, ℕ, ◌+◌, List, [], length, Option, Result, Err, IfOk, true, false}
+use Rattle.std.specs.Prelude.{◌≡◌, ◌⊎◌, ℕ, List, [], ◌++◌, length, Option, Result, Err, IfOk, true, false}
 use Rattle.std.specs.List.{AllByRecursion}
 use Rattle.ipb_outside.specs.Told.{TakesAtMost}
+use Rattle.board_node.specs.declared.spec.LinkSpec.{LinkSpec}
 use Rattle.lane_history.specs.Links.{IsUntouched}
 use Rattle.session_run.specs.declared.session.RunFault.{RunFault}
 use Rattle.session_run.specs.declared.session.RunFault.TheVariants as run
@@ -35,15 +36,17 @@ no_answer_served serve.Door = DoorFault
 no_answer_served serve.NoMemory = NoMemory
 
 -- What a command left by an input.
-pub record InputLeaves (terms : Terms) (before now : Option (List ℕ)) (made makes : ℕ)
+pub record InputLeaves (terms : Terms) (before now : Option (List ℕ)) (made makes : List LinkSpec)
     (result : Result Answer NoAnswer) (given : GivenBack) : Type 0 where
-  pub used : (given.links ≡ []) ⊎ UsedFrom terms before now given.links
-  pub counted : makes ≡ made + length given.links
+  pub specs : List LinkSpec
+  pub grown : makes ≡ made ++ specs
+  pub counted : length specs ≡ length given.links
+  pub used : (given.links ≡ []) ⊎ UsedFrom terms before now specs given.links
   pub back : AreBack given.came given.back
   pub taken : TakesAtMost (most_bytes terms) before now
   pub owed : IfOk result (λ answer. AnswersInput terms before now given answer.status answer.text.items)
   pub reads : result ≡ Err ReadFault → Reads terms
-  pub behind : (fault : NoAnswer) → result ≡ Err fault → IsFailure fault → UsedFrom terms before now given.links
+  pub behind : (fault : NoAnswer) → result ≡ Err fault → IsFailure fault → UsedFrom terms before now specs given.links
   pub untouched : result ≡ Err RackFault → AllByRecursion IsUntouched given.links
   pub serves : result ≡ Err DoorFault → terms.lets_in ≡ true
 

@@ -139,8 +139,9 @@ pub fn control<S: Source, O: Sink, R: Rack, D: Door, T: Threads + Wait + Sync, G
     door: &mut D,
     gate: &G,
 ) -> u8
-    // Whatever the status, each link that was made was given back, board by board, and each pair that came was served
-    // and given back, in order. What was written is tied by the status to the words, the input, these links and pairs.
+    // Whatever the status, links were made of the specs of the first boards of the session, each link was given back,
+    // board by board, and each pair that came was served and given back, in order. What was written is tied by the
+    // status to the words, the input, these links and pairs.
     ensures ended { Keeps R.L.faults R.L.quiets R.L.gots R.L.held R.L.telling (R.kept rack.old) (R.kept rack.new)
         (λ links. GivesBack D.Incoming.left D.Incoming.faults D.Outgoing.written D.Outgoing.faults D.Outgoing.ended
         (D.coming door.old) (D.coming door.new) (D.kept door.old) (D.kept door.new)

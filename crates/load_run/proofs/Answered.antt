@@ -3,6 +3,7 @@ use Rattle.std.proofs.Common.{◌≡◌, inl, inr, ℕ, List, Result}
 use Rattle.std.proofs.Common.{Ok, Err}
 use Rattle.std.proofs.Common.{sym, ap, ◌∙◌}
 use Rattle.std.specs.Result.{IsErr, IsErrAnd}
+use Rattle.board_node.specs.declared.spec.LinkSpec.{LinkSpec}
 use Rattle.lane_history.specs.Links.{LinkReport}
 use Rattle.session_run.specs.declared.session.RunFault.{RunFault}
 use Rattle.session_run.specs.declared.session.RunFault.TheVariants.{Rack}
@@ -16,18 +17,20 @@ use Rattle.load_run.specs.declared.run.Load.{Load}
 use Rattle.load_run.specs.Loading.{IsLoadOf, LoadLeaves}
 use Rattle.load_run.specs.Terms.{load_terms}
 
-module _ (count : ℕ) (bytes : List ℕ) (made makes : ℕ) (links : List LinkReport) where
+module _ (count : ℕ) (bytes : List ℕ) (made makes : List LinkSpec) (links : List LinkReport) where
   pub load_stopped : (fault : RunFault) (result : Result Answer RunFault) → IsErr result
       → IsErrAnd result (λ why. why ≡ fault)
       → LoadLeaves IsLoadOf count made makes (Err fault) links
       → Leaves NoneCame IsRunFailure Rack (load_terms count) bytes made makes result (no_pairs links)
   load_stopped fault (Ok answer) fails is leaves = absurd cc
   load_stopped fault (Err why) fails is leaves = record {
-    used = inr leaves.left;
-    counted = leaves.counted;
+    specs = leaves.links_made.specs;
+    grown = leaves.links_made.grown;
+    counted = leaves.links_made.many;
+    used = inr (record { first = leaves.links_made.first; left = leaves.left });
     back = none_came;
     owed = tt;
-    behind = λ other same failed. leaves.left;
+    behind = λ other same failed. record { first = leaves.links_made.first; left = leaves.left };
     untouched = λ rack. leaves.untouched (ap Err (sym is ∙ same_Err why Rack rack));
   }
 
@@ -36,8 +39,10 @@ module _ (count : ℕ) (bytes : List ℕ) (made makes : ℕ) (links : List LinkR
       → Leaves NoneCame IsRunFailure Rack (load_terms count) bytes made makes
       (Ok (record { status = status; text = load.text })) (no_pairs links)
   load_done load status told leaves = record {
-    used = inr leaves.left;
-    counted = leaves.counted;
+    specs = leaves.links_made.specs;
+    grown = leaves.links_made.grown;
+    counted = leaves.links_made.many;
+    used = inr (record { first = leaves.links_made.first; left = leaves.left });
     back = none_came;
     owed = inl (record { done = load.done; load = leaves.tells; told = told });
     behind = λ fault is failed. absurd cc;

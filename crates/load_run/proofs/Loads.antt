@@ -1,5 +1,5 @@
 -- What a load leaves, put together from what its steps say.
-use Rattle.std.proofs.Common.{◌≡◌, ◌≤◌, ℕ, ◌+◌, Bool, List, [], ◌∷◌, length, Result, Ok, Err, IfOk}
+use Rattle.std.proofs.Common.{◌≡◌, ◌≤◌, ℕ, Bool, List, [], ◌∷◌, length, Result, Ok, Err, IfOk}
 use Rattle.std.proofs.Common.{sym, ap, ◌∙◌, append-nil, arith}
 use Rattle.std.specs.List.{AllByRecursion}
 use Rattle.std.specs.Result.{IsErr, IsErrAnd}
@@ -13,7 +13,8 @@ use Rattle.script_plans.specs.Runs.{HaveOwnNames}
 use Rattle.lane_history.specs.Links.{CanBeMade, IsUntouched, LinkReport}
 use Rattle.command_terms.proofs.Leaving.{Told}
 use Rattle.load_run.specs.Generated.{boards, most_operations, steps}
-use Rattle.session_run.specs.Links.{AreLeft, CanBeReached}
+use Rattle.board_greeting.proofs.Boards.{none_made}
+use Rattle.session_run.specs.Links.{AreLeft, AreMadeFor, CanBeReached}
 use Rattle.session_run.specs.declared.session.RunFault.{RunFault}
 use Rattle.session_run.specs.declared.session.RunFault.TheVariants.{NoMemory, Rack}
 use Rattle.load_run.specs.declared.run.Load.{Load}
@@ -28,39 +29,40 @@ failure : Result Load RunFault → RunFault
 failure (Ok load) = NoMemory
 failure (Err fault) = fault
 
-module _ (Tells : ℕ → List LinkReport → Bool → List ℕ → Type 0) (count made makes : ℕ) where
+module _ (Tells : ℕ → List LinkReport → Bool → List ℕ → Type 0) (count : ℕ) (made makes : List LinkSpec) where
   pub load_failed : (result : Result Load RunFault) (fault : RunFault) (links : List LinkReport)
-      → AreLeft 0 (boards count) (steps count) links → makes ≡ made + length links
+      → AreLeft 0 (boards count) (steps count) links → AreMadeFor (boards count) (length links) made makes
       → IsErr result → IsErrAnd result (λ why. why ≡ fault) → (fault ≡ Rack → AllByRecursion IsUntouched links)
       → LoadLeaves Tells count made makes result links
   unfolding failure
-  load_failed (Ok load) fault links left counted fails is untouched = absurd cc
-  load_failed (Err why) fault links left counted fails is untouched = record {
+  load_failed (Ok load) fault links left links_made fails is untouched = absurd cc
+  load_failed (Err why) fault links left links_made fails is untouched = record {
     left = left;
-    counted = counted;
+    links_made = links_made;
     tells = tt;
     untouched = λ rack. untouched (sym is ∙ ap failure rack);
   }
 
   pub load_told : (load : Load) (links : List LinkReport) → AreLeft 0 (boards count) (steps count) links
-      → makes ≡ made + length links → Tells count links load.done load.text.items
+      → AreMadeFor (boards count) (length links) made makes → Tells count links load.done load.text.items
       → LoadLeaves Tells count made makes (Ok load) links
-  load_told load links left counted tells = record {
+  load_told load links left links_made tells = record {
     left = left;
-    counted = counted;
+    links_made = links_made;
     tells = tells;
     untouched = λ never. absurd cc;
   }
 
 -- no link was made
 pub no_load : {L : Type 0} (shown : L → LinkReport) (kept : List L)
-    (Tells : ℕ → List LinkReport → Bool → List ℕ → Type 0) (count made : ℕ) (result : Result Load RunFault)
+    (Tells : ℕ → List LinkReport → Bool → List ℕ → Type 0) (count : ℕ)
+    (made : List LinkSpec) (result : Result Load RunFault)
     → IsErr result → IsErrAnd result (λ why. why ≡ NoMemory)
     → Told shown kept kept (LoadLeaves Tells count made made result)
 no_load shown kept Tells count made result fails is = (
   [],
   sym (append-nil kept),
-  load_failed Tells count made made result NoMemory [] tt (omega arith) fails is (λ rack. tt),
+  load_failed Tells count made made result NoMemory [] tt (none_made (boards count) made) fails is (λ rack. tt),
 )
 
 follows : LoadLaw → (count : ℕ) → count ≤ most_operations → (links : List LinkReport) (result : Result Load RunFault)
@@ -75,12 +77,12 @@ follows law count most links (Ok load) prints = record {
   told = prints.told;
 }
 
-pub rightly_left : LoadLaw → (count made makes : ℕ) → count ≤ most_operations → (result : Result Load RunFault)
-    (links : List LinkReport) → LoadLeaves PrintsLoad count made makes result links
+pub rightly_left : LoadLaw → (count : ℕ) (made makes : List LinkSpec) → count ≤ most_operations
+    → (result : Result Load RunFault) (links : List LinkReport) → LoadLeaves PrintsLoad count made makes result links
     → LoadLeaves IsLoadOf count made makes result links
 rightly_left law count made makes most result links leaves = record {
   left = leaves.left;
-  counted = leaves.counted;
+  links_made = leaves.links_made;
   tells = follows law count most links result leaves.tells;
   untouched = leaves.untouched;
 }

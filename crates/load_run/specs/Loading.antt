@@ -8,6 +8,7 @@
 use Rattle.std.specs.Prelude.{◌≡◌, ◌<◌, ◌≤◌, ◌^◌, ℕ, ◌+◌, Bool, true, List, length, Result, Err, IfOk}
 use Rattle.std.specs.List.{AllByRecursion, AllZip}
 use Rattle.board_node.specs.declared.spec.BoardSpec.{BoardSpec}
+use Rattle.board_node.specs.declared.spec.LinkSpec.{LinkSpec}
 use Rattle.world_model.specs.Settings.{Limits}
 use Rattle.script_steps.specs.declared.operation.Step.{Step}
 use Rattle.script_lang.specs.declared.script_refusal.TheConstants.{MAX_LINES}
@@ -23,7 +24,7 @@ use Rattle.lane_history.specs.Runs.{RepliesCame, ShowAloneRuns, TimeOutsWaited}
 use Rattle.load_run.specs.Claims.{HasEachBelow, TellsRuns, sum_below}
 use Rattle.load_run.specs.Generated.{boards, most_operations, settings, steps}
 use Rattle.load_run.specs.Summary.{all_done, summary_of, summary_text, words_before}
-use Rattle.session_run.specs.Links.{AreLeft, CanBeReached}
+use Rattle.session_run.specs.Links.{AreLeft, AreMadeFor, CanBeReached}
 use Rattle.session_run.specs.declared.session.RunFault.{RunFault}
 use Rattle.session_run.specs.declared.session.RunFault.TheVariants.{Rack}
 use Rattle.load_run.specs.declared.run.Load.{Load}
@@ -102,12 +103,12 @@ pub record IsGenerated (count : ℕ) (limits : Limits) (specs : List BoardSpec)
   pub within : AreWithinLimits scripts
   pub short : AllByRecursion (λ steps. length steps ≤ MAX_LINES) scripts
 
--- What a load left: `made` and `makes` are how many links the rack made before and after, and `Tells` is what holds of
--- the text. The links are those of the first boards, each given back once; what was sent to a board, and so what it
--- executed, is a merge of bodies that the scripts ask of it.
-pub record LoadLeaves (Tells : ℕ → List LinkReport → Bool → List ℕ → Type 0) (count made makes : ℕ)
-    (result : Result Load RunFault) (links : List LinkReport) : Type 0 where
+-- What a load left: `made` and `makes` are the specs that the rack made links of before and after, and `Tells` is what
+-- holds of the text. Links were made of the specs of the first boards and given back once each; what was sent to a board,
+-- and so what it executed, is a merge of bodies that the scripts ask of it.
+pub record LoadLeaves (Tells : ℕ → List LinkReport → Bool → List ℕ → Type 0) (count : ℕ)
+    (made makes : List LinkSpec) (result : Result Load RunFault) (links : List LinkReport) : Type 0 where
   pub left : AreLeft 0 (boards count) (steps count) links
-  pub counted : makes ≡ made + length links
+  pub links_made : AreMadeFor (boards count) (length links) made makes
   pub tells : IfOk result (λ load. Tells count links load.done load.text.items)
   pub untouched : result ≡ Err Rack → AllByRecursion IsUntouched links

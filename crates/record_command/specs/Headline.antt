@@ -24,7 +24,7 @@ use Rattle.script_plans.specs.declared.board_run.BoardRun.{BoardRun}
 use Rattle.script_plans.specs.declared.board_run.ClientPart.{ClientPart}
 use Rattle.transcript.specs.Lines.{all_good, transcript_of}
 use Rattle.session_input.specs.Recording.{IsRecordable}
-use Rattle.session_run.specs.Links.{AreLeft}
+use Rattle.session_run.specs.Links.{AreLeft, link_specs}
 use Rattle.run_laws.specs.Runs.{IsSessionRun}
 use Rattle.command_terms.specs.Numbers.{told_status}
 use Rattle.capture_reader.specs.declared.capture.Capture.{Capture}
@@ -91,9 +91,11 @@ pub record IsRecordOf (bytes : List ℕ) (links : List LinkReport) (status : ℕ
   pub tells : link.telling ≡ Some telling
   pub shows : ShowsTraffic board steps capture proved telling
 
--- At every status: the bytes stand for such a session, and the links are that of its board, or none.
-pub record RecordedSomeOf (bytes : List ℕ) (links : List LinkReport) : Type 0 where
+-- At every status: the bytes stand for such a session, and a link was made of the spec of its board and given back, or
+-- none was.
+pub record RecordedSomeOf (bytes : List ℕ) (specs : List LinkSpec) (links : List LinkReport) : Type 0 where
   pub session : Session
   pub steps : List (List Step)
   pub recordable : IsRecordable bytes session steps
+  pub first : IsPrefix specs (link_specs session.boards)
   pub left : AreLeft 0 session.boards steps links

@@ -106,7 +106,7 @@ fn recorded<R: Rack, T: Threads + Wait + Sync, G: Gate>(
     let boards = session.boards.as_slice();
     let board = &boards[0];
     let first = first_of(&board.link);
-    let taps = Taps::new(alloc)?;
+    let taps = Taps::new(alloc, &board.link)?;
     let room = room_for_one(alloc)?;
     let greeted = greet_tapped(alloc, session.settings, board, rack)?;
     let (tap, runs) = run_tapped(
@@ -159,8 +159,8 @@ fn greet_tapped<R: Rack>(
     ensures faults { R.faults rack.old ≤ R.faults rack.new }
     ensures unfaulted { result ≢ Err RackFault.Failed → R.faults rack.new ≡ R.faults rack.old }
     ensures kept { R.kept rack.new ≡ R.kept rack.old }
-    ensures made { R.made rack.new ≡ made_after result (R.made rack.old) }
-    ensures within { length (R.kept rack.old) ≤ R.made rack.old }
+    ensures made { R.made rack.new ≡ made_after result spec.now.link (R.made rack.old) }
+    ensures within { length (R.kept rack.old) ≤ length (R.made rack.old) }
 {
     words_stay_words();
     let _window = settings.window();
@@ -200,7 +200,8 @@ fn run_tapped<L: Link + Send + Drop, T: Threads + Wait + Sync, G: Gate>(
         (link_of greeted)) }
     requires empty { room.items ≡ [] }
     requires room { 1 ≤ vec_capacity room }
-    requires taps { taps ≡ record { kept = []; made = 1; faults = 0 } }
+    requires none_kept { taps.kept ≡ [] }
+    requires one_made { length taps.made ≡ 1 }
     ensures ran { IfOk result.1 (λ runs. AreRunsOver settings 0 specs.now steps.now runs.items
         (shown_by L.faults L.quiets L.gots L.held L.telling result.0.link ∷ [])) }
     ensures left { AreLeft 0 specs.now steps.now

@@ -2,10 +2,10 @@
 
 ghost use Rattle.std.specs.Prelude.{◌≡◌, ◌∷◌, [], length, IfOk};
 
-use board_node::BoardSpec;
+use board_node::{BoardSpec, LinkSpec};
 use ipb_base::NoMemory;
 use link_tap::TapLink;
-use lossy_network::{Rack, RackFault};
+use lossy_network::{Rack, RackFault, SpecLog};
 use std::alloc::Global;
 use std::marker::{Model, Send};
 use world_core::Link;
@@ -15,7 +15,7 @@ use world_core::Link;
 #[derive(Drop)]
 pub(crate) struct Taps<L: Link> {
     kept: Vec<TapLink<L>>,
-    made: usize,
+    made: SpecLog,
     faults: u64,
 }
 
@@ -29,17 +29,20 @@ impl<L: Link> Model for Taps<L> {
     ghost view = { λ taps. record { kept = taps.kept.items; made = taps.made; faults = taps.faults } };
 
     ghost invariant = { λ taps.
-        (length taps.kept.items ≤ taps.made) × (taps.made ≤ vec_capacity taps.kept) };
+        (length taps.kept.items ≤ length taps.made) × (length taps.made ≤ vec_capacity taps.kept) };
 }
 
 impl<L: Link + Drop> Taps<L> {
-    /// A rack with room for one tap.
-    pub(crate) fn new(alloc: Global) -> Result<Taps<L>, NoMemory>
-        ensures { IfOk result (λ taps. taps ≡ record { kept = []; made = 1; faults = 0 }) }
+    /// A rack with room for one tap, of a link that was made of this spec.
+    pub(crate) fn new(alloc: Global, spec: &LinkSpec) -> Result<Taps<L>, NoMemory>
+        ensures { IfOk result (λ taps. taps ≡ record { kept = []; made = spec.now ∷ []; faults = 0 }) }
     {
+        let kept = Vec::with_capacity(alloc, 1)?;
+        let mut made = SpecLog::new(alloc);
+        made.add(spec)?;
         Ok(Taps {
-            kept: Vec::with_capacity(alloc, 1)?,
-            made: 1,
+            kept,
+            made,
             faults: 0,
         })
     }

@@ -1,9 +1,10 @@
 -- What a run leaves, put together from what its steps say.
-use Rattle.std.proofs.Common.{◌≡◌, inl, inr, ℕ, ◌+◌, List, length}
+use Rattle.std.proofs.Common.{◌≡◌, inl, inr, ℕ, List, length}
 use Rattle.std.proofs.Common.{Result, Ok, Err, IfOk}
 use Rattle.std.proofs.Common.{sym, ap, ◌∙◌}
 use Rattle.std.specs.List.{AllByRecursion}
 use Rattle.std.specs.Result.{IsErr, IsErrAnd}
+use Rattle.board_node.specs.declared.spec.LinkSpec.{LinkSpec}
 use Rattle.lane_history.specs.Links.{LinkReport, IsUntouched}
 use Rattle.lane_history.specs.Runs.{AreRunsOver}
 use Rattle.script_steps.specs.declared.operation.Step.{Step}
@@ -11,7 +12,7 @@ use Rattle.script_lang.specs.declared.session.Session.{Session}
 use Rattle.session_input.specs.Deserved.{IsRunnable}
 use Rattle.session_run.specs.declared.session.RunFault.{RunFault}
 use Rattle.session_run.specs.declared.session.RunFault.TheVariants.{Rack, NoMemory}
-use Rattle.session_run.specs.Links.{AreLeft}
+use Rattle.session_run.specs.Links.{AreLeft, AreMadeFor}
 use Rattle.session_run.specs.Faults.{IsRunFailure}
 use Rattle.script_plans.specs.declared.board_run.BoardRun.{BoardRun}
 use Rattle.transcript.specs.Lines.{all_good, transcript_of, run_status}
@@ -33,29 +34,31 @@ failure : Result Answer RunFault → RunFault
 failure (Ok answer) = NoMemory
 failure (Err fault) = fault
 
-pub run_failed : (session : Session) (steps : List (List Step)) (made makes : ℕ) (result : Result Answer RunFault)
-    (fault : RunFault) (links : List LinkReport) → AreLeft 0 session.boards steps links → makes ≡ made + length links
+pub run_failed : (session : Session) (steps : List (List Step)) (made makes : List LinkSpec)
+    (result : Result Answer RunFault) (fault : RunFault) (links : List LinkReport)
+    → AreLeft 0 session.boards steps links → AreMadeFor session.boards (length links) made makes
     → IsErr result → IsErrAnd result (λ why. why ≡ fault) → (fault ≡ Rack → AllByRecursion IsUntouched links)
     → RunLeaves session steps made makes result links
 unfolding failure
-run_failed session steps made makes (Ok answer) fault links left counted fails is untouched = absurd cc
-run_failed session steps made makes (Err why) fault links left counted fails is untouched = record {
+run_failed session steps made makes (Ok answer) fault links left links_made fails is untouched = absurd cc
+run_failed session steps made makes (Err why) fault links left links_made fails is untouched = record {
   left = left;
-  counted = counted;
+  links_made = links_made;
   prints = tt;
   untouched = λ rack. untouched (sym is ∙ ap failure rack);
 }
 
-pub run_printed : (session : Session) (steps : List (List Step)) (made makes : ℕ) (answer : Answer)
+pub run_printed : (session : Session) (steps : List (List Step)) (made makes : List LinkSpec) (answer : Answer)
     (runs : List BoardRun)
-    (links : List LinkReport) → AreLeft 0 session.boards steps links → makes ≡ made + length links
+    (links : List LinkReport) → AreLeft 0 session.boards steps links
+    → AreMadeFor session.boards (length links) made makes
     → AreRunsOver session.settings 0 session.boards steps runs links
     → answer.text.items ≡ transcript_text (transcript_of steps runs)
     → answer.status ≡ run_status (transcript_of steps runs).clients
     → RunLeaves session steps made makes (Ok answer) links
-run_printed session steps made makes answer runs links left counted boards spelled told = record {
+run_printed session steps made makes answer runs links left links_made boards spelled told = record {
   left = left;
-  counted = counted;
+  links_made = links_made;
   prints = record { runs = runs; boards = boards; spelled = spelled; told = told };
   untouched = λ never. absurd cc;
 }
@@ -82,15 +85,18 @@ owed_by law bytes session steps links (Ok answer) runs can prints =
     })
 owed_by law bytes session steps links (Err why) runs can prints = tt
 
-pub run_leaves : RunsLaw → (bytes : List ℕ) (session : Session) (steps : List (List Step)) (made makes : ℕ)
+pub run_leaves : RunsLaw → (bytes : List ℕ) (session : Session) (steps : List (List Step)) (made makes : List LinkSpec)
     (result : Result Answer RunFault) (links : List LinkReport) → IsRunnable bytes session steps
     → CanRunSteps session steps → RunLeaves session steps made makes result links
     → Leaves NoneCame IsRunFailure Rack run_terms bytes made makes result (no_pairs links)
 run_leaves law bytes session steps made makes result links runs can leaves =
-    let ran : RanSomeOf bytes links =
-    record { session = session; steps = steps; runnable = runs; left = leaves.left } in record {
+    let made' = leaves.links_made in
+    let ran : RanSomeOf bytes made'.specs links =
+    record { session = session; steps = steps; runnable = runs; first = made'.first; left = leaves.left } in record {
+      specs = made'.specs;
+      grown = made'.grown;
+      counted = made'.many;
       used = inr ran;
-      counted = leaves.counted;
       back = none_came;
       owed = owed_by law bytes session steps links result runs can leaves.prints;
       behind = λ fault is failed. ran;

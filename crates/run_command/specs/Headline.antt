@@ -39,12 +39,14 @@
 --
 -- What holds of one board and its link is `IsRunOver` of lane_history/specs/Runs, which has a sentence for each part.
 use Rattle.std.specs.Prelude.{◌≡◌, ℕ, List}
+use Rattle.ipb_base.specs.Lists.{IsPrefix}
+use Rattle.board_node.specs.declared.spec.LinkSpec.{LinkSpec}
 use Rattle.lane_history.specs.Links.{LinkReport}
 use Rattle.run_laws.specs.Runs.{IsSessionRun}
 use Rattle.script_steps.specs.declared.operation.Step.{Step}
 use Rattle.script_lang.specs.declared.session.Session.{Session}
 use Rattle.session_input.specs.Deserved.{IsRunnable}
-use Rattle.session_run.specs.Links.{AreLeft}
+use Rattle.session_run.specs.Links.{AreLeft, link_specs}
 use Rattle.script_plans.specs.declared.board_run.BoardRun.{BoardRun}
 use Rattle.transcript.specs.Lines.{transcript_of, run_status}
 use Rattle.transcript.specs.Text.{transcript_text}
@@ -64,11 +66,12 @@ pub record IsTranscriptOf (bytes : List ℕ) (links : List LinkReport) (status :
   -- the status is 0 exactly where every line of an operation is a value, `done` or `was`
   pub told : status ≡ run_status (transcript_of steps runs).clients
 
--- At every status: the bytes stand for a session that can be run, and the links are those of its first boards, in
--- order, each given back once; what was sent to each board, and so what it executed, is a merge of bodies that the
--- scripts ask of it, some of each client's, in its order.
-pub record RanSomeOf (bytes : List ℕ) (links : List LinkReport) : Type 0 where
+-- At every status: the bytes stand for a session that can be run, links were made of the specs of its first boards, in
+-- order, and the links are those of these boards, in order, each given back once; what was sent to each board, and so
+-- what it executed, is a merge of bodies that the scripts ask of it, some of each client's, in its order.
+pub record RanSomeOf (bytes : List ℕ) (specs : List LinkSpec) (links : List LinkReport) : Type 0 where
   pub session : Session
   pub steps : List (List Step)
   pub runnable : IsRunnable bytes session steps
+  pub first : IsPrefix specs (link_specs session.boards)
   pub left : AreLeft 0 session.boards steps links

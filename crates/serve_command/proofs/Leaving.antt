@@ -3,6 +3,7 @@ use Rattle.std.proofs.Common.{◌≡◌, inl, inr, ℕ, ◌+◌, List, [], ◌�
 use Rattle.std.proofs.Common.{Result, Ok, Err, IfOk, suc}
 use Rattle.std.proofs.Common.{refl, ap, ◌∙◌}
 use Rattle.ipb_outside.specs.Pairs.{PairReport}
+use Rattle.board_node.specs.declared.spec.LinkSpec.{LinkSpec}
 use Rattle.hub_lane.specs.declared.answers.BoardState.{BoardState}
 use Rattle.hub_session.specs.declared.served.Served.{Served}
 use Rattle.session_serve.specs.Boards.{states_of}
@@ -70,15 +71,18 @@ service_owed laws count bytes session given (Ok answer) can serves =
     inl (service_of laws count bytes session given answer.status answer.text.items can serves)
 service_owed laws count bytes session given (Err why) can serves = tt
 
-pub serve_leaves : ServeLaws → (count : ℕ) (bytes : List ℕ) (session : Session) (made makes : ℕ)
+pub serve_leaves : ServeLaws → (count : ℕ) (bytes : List ℕ) (session : Session) (made makes : List LinkSpec)
     (result : Result Answer ServeFault) (given : GivenBack) → IsServable bytes session
     → ServeLeaves session count made makes result given
     → Leaves AreBack IsServeFailure Rack (serve_terms count) bytes made makes result given
 serve_leaves laws count bytes session made makes result given can leaves =
-    let linked : IsLinkedTo bytes given.links =
-    record { session = session; servable = can; linked = leaves.linked } in record {
+    let made' = leaves.links_made in
+    let linked : IsLinkedTo bytes made'.specs given.links =
+    record { session = session; servable = can; first = made'.first; linked = leaves.linked } in record {
+      specs = made'.specs;
+      grown = made'.grown;
+      counted = made'.many;
       used = inr linked;
-      counted = leaves.counted;
       back = leaves.back;
       owed = service_owed laws count bytes session given result can leaves.serves;
       behind = λ fault is failed. linked;

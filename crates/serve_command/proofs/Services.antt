@@ -6,8 +6,10 @@ use Rattle.std.specs.List.{AllByRecursion}
 use Rattle.std.specs.Result.{IsErr, IsErrAnd}
 use Rattle.ipb_outside.specs.Pairs.{PairReport}
 use Rattle.board_node.specs.declared.spec.BoardSpec.{BoardSpec}
+use Rattle.board_node.specs.declared.spec.LinkSpec.{LinkSpec}
 use Rattle.world_model.specs.Settings.{Limits}
 use Rattle.lane_history.specs.Links.{IsUntouched, LinkReport}
+use Rattle.board_greeting.specs.Links.{AreMadeFor}
 use Rattle.script_lang.specs.declared.session.Session.{Session}
 use Rattle.transcript.specs.declared.line.BoardLine.{BoardLine}
 use Rattle.hub_lane.specs.declared.answers.BoardState.{BoardState}
@@ -46,16 +48,17 @@ failure : Result Answer ServeFault → ServeFault
 failure (Ok answer) = NoMemory
 failure (Err fault) = fault
 
-pub serve_failed : (session : Session) (count made makes : ℕ) (result : Result Answer ServeFault) (fault : ServeFault)
-    (given : GivenBack) → AreLinksTo session.boards given.links → makes ≡ made + length given.links
+pub serve_failed : (session : Session) (count : ℕ) (made makes : List LinkSpec) (result : Result Answer ServeFault)
+    (fault : ServeFault) (given : GivenBack) → AreLinksTo session.boards given.links
+    → AreMadeFor session.boards (length given.links) made makes
     → AreBack given.came given.back → IsErr result → IsErrAnd result (λ why. why ≡ fault)
     → (fault ≡ Rack → AllByRecursion IsUntouched given.links)
     → ServeLeaves session count made makes result given
 unfolding failure
-serve_failed session count made makes (Ok answer) fault given linked counted back fails is untouched = absurd cc
-serve_failed session count made makes (Err why) fault given linked counted back fails is untouched = record {
+serve_failed session count made makes (Ok answer) fault given linked links_made back fails is untouched = absurd cc
+serve_failed session count made makes (Err why) fault given linked links_made back fails is untouched = record {
   linked = linked;
-  counted = counted;
+  links_made = links_made;
   back = back;
   serves = tt;
   untouched = λ rack. untouched (sym is ∙ ap failure rack);
@@ -86,20 +89,21 @@ served_back settings specs links came back connections lines is = (
   },
 )
 
-pub served_done : (session : Session) (count made makes : ℕ) (boards : List BoardSpec) → boards ≡ session.boards
-    → (answer : Answer) (connections : List Served) (lines : List BoardLine) (given : GivenBack)
-    → AreLinksTo boards given.links → makes ≡ made + length given.links
+pub served_done : (session : Session) (count : ℕ) (made makes : List LinkSpec) (boards : List BoardSpec)
+    → boards ≡ session.boards → (answer : Answer) (connections : List Served) (lines : List BoardLine)
+    (given : GivenBack)
+    → AreLinksTo boards given.links → AreMadeFor boards (length given.links) made makes
     → AreServed session.settings boards given.links given.came given.back connections lines
     → length connections ≡ count → AllByRecursion HadMemory connections
     → answer.text.items ≡ serve_text connections lines → answer.status ≡ serve_status connections
     → ServeLeaves session count made makes (Ok answer) given
-served_done session count made makes boards same answer connections lines given linked counted served all memory spelled
-    told =
+served_done session count made makes boards same answer connections lines given linked links_made served all memory
+    spelled told =
     let here : AreServed session.settings session.boards given.links given.came given.back connections lines =
     subst (λ specs. AreServed session.settings specs given.links given.came given.back connections lines) same served in
     record {
       linked = subst (λ specs. AreLinksTo specs given.links) same linked;
-      counted = counted;
+      links_made = subst (λ specs. AreMadeFor specs (length given.links) made makes) same links_made;
       back = served_back session.settings session.boards given.links given.came given.back connections lines here;
       serves = record {
         connections = connections;
@@ -120,7 +124,8 @@ no_memory_is_no_rack fault is rack = cc
 module _ {L I O : Type 0} (shown : L → LinkReport) (left : I → Option (List ℕ)) (read_faults : I → ℕ)
     (written : O → Option (List ℕ)) (write_faults : O → ℕ) (ended : O → Bool) (old new : List L)
     (coming coming_now kept kept_now : Option (List (I × O))) where
-  pub not_refused : (session : Session) (count made makes : ℕ) (Q : Type 0) (result : Result Answer ServeFault)
+  pub not_refused : (session : Session) (count : ℕ) (made makes : List LinkSpec) (Q : Type 0)
+      (result : Result Answer ServeFault)
       → Together shown left read_faults written write_faults ended old new coming coming_now kept kept_now
       (ServeLeaves session count made makes result)
       → IfOk result (λ answer. answer.status ≡ refused_status → Q)

@@ -60,8 +60,10 @@
 --   the links, at every status   IsLinkedTo, below                       session_serve/specs/Boards
 use Rattle.std.specs.Prelude.{◌≡◌, ℕ, ◌≤◌, List, [], ◌∷◌, length, None, IfSome}
 use Rattle.std.specs.List.{AllByRecursion}
+use Rattle.ipb_base.specs.Lists.{IsPrefix}
 use Rattle.ipb_outside.specs.Pairs.{PairReport}
 use Rattle.board_node.specs.declared.spec.BoardSpec.{BoardSpec}
+use Rattle.board_node.specs.declared.spec.LinkSpec.{LinkSpec}
 use Rattle.world_model.specs.Board.{executed}
 use Rattle.world_model.specs.Settings.{Limits}
 use Rattle.script_lang.specs.declared.session.Session.{Session}
@@ -70,6 +72,7 @@ use Rattle.transcript.specs.Lines.{board_line}
 use Rattle.transcript.specs.Shown.{places_told}
 use Rattle.board_history.specs.Runs.{greeting_of, opening_of}
 use Rattle.lane_history.specs.Links.{LinkReport, IsFaithful, board_there}
+use Rattle.board_greeting.specs.Links.{link_specs}
 use Rattle.lane_history.specs.Runs.{RepliesCame, TimeOutsWaited}
 use Rattle.client_history.specs.Boards.{ServedBoard, run_of}
 use Rattle.client_history.specs.Shown.{HasLostOnlyIfFailed, IsAddedUp}
@@ -178,9 +181,10 @@ pub record IsServiceOf (bytes : List ℕ) (count : ℕ) (links : List LinkReport
   -- the status is 0 exactly where every connection ended between two frames, with no fault
   pub status' : status ≡ serve_status connections
 
--- At every status: the bytes stand for a session that can be served, and the links are those of its first boards, in
--- order, each given back once.
-pub record IsLinkedTo (bytes : List ℕ) (links : List LinkReport) : Type 0 where
+-- At every status: the bytes stand for a session that can be served, links were made of the specs of its first boards,
+-- in order, and the links are those of these boards, in order, each given back once.
+pub record IsLinkedTo (bytes : List ℕ) (specs : List LinkSpec) (links : List LinkReport) : Type 0 where
   pub session : Session
   pub servable : IsServable bytes session
+  pub first : IsPrefix specs (link_specs session.boards)
   pub linked : AreLinksTo session.boards links

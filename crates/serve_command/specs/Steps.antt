@@ -1,8 +1,10 @@
 -- How the steps of the call work together: what its private functions promise one another. No public clause speaks of
 -- these.
-use Rattle.std.specs.Prelude.{◌≡◌, ℕ, ◌+◌, ◌<◌, ◌^◌, List, length, Result, Err, IfOk}
+use Rattle.std.specs.Prelude.{◌≡◌, ℕ, ◌<◌, ◌^◌, List, length, Result, Err, IfOk}
 use Rattle.std.specs.List.{AllByRecursion}
+use Rattle.board_node.specs.declared.spec.LinkSpec.{LinkSpec}
 use Rattle.lane_history.specs.Links.{IsUntouched}
+use Rattle.board_greeting.specs.Links.{AreMadeFor}
 use Rattle.script_lang.specs.declared.session.Session.{Session}
 use Rattle.session_run.specs.Links.{CanBeReached}
 use Rattle.transcript.specs.declared.line.BoardLine.{BoardLine}
@@ -30,11 +32,11 @@ pub record ServesSession (session : Session) (count : ℕ) (given : GivenBack) (
   pub spelled : text ≡ serve_text connections lines
   pub told : status ≡ serve_status connections
 
--- What a server left.
-pub record ServeLeaves (session : Session) (count made makes : ℕ) (result : Result Answer ServeFault)
-    (given : GivenBack) : Type 0 where
+-- What a server left: `made` and `makes` are the specs that the rack made links of before and after.
+pub record ServeLeaves (session : Session) (count : ℕ) (made makes : List LinkSpec)
+    (result : Result Answer ServeFault) (given : GivenBack) : Type 0 where
   pub linked : AreLinksTo session.boards given.links
-  pub counted : makes ≡ made + length given.links
+  pub links_made : AreMadeFor session.boards (length given.links) made makes
   pub back : AreBack given.came given.back
   pub serves : IfOk result (λ answer. ServesSession session count given answer.status answer.text.items)
   pub untouched : result ≡ Err Rack → AllByRecursion IsUntouched given.links

@@ -14,12 +14,12 @@ returns c =
           laws.not_both bytes right.0 right.1 right.2 refused.refusal right.3 refused.deserved;
       done_apart = λ bytes line given status text is refused.
           laws.not_both bytes is.session is.steps is.transcript refused.refusal is.input refused.deserved;
-      uses_apart = λ bytes line links used refused. used;
+      uses_apart = λ bytes line specs links used refused. used;
       long = λ limit bytes is more. record {
         refusal = OfSession TooLong;
         deserved = inl (inl (subst (λ n. n < length bytes) (same_limit limit is) more), refl);
         spelled = refl;
       };
       unrefused = λ none. absurd cc;
-      unlinked = λ none bytes links used. used;
+      unlinked = λ none bytes specs links used. used;
     }

@@ -12,12 +12,12 @@ returns c =
       one_line = one_line DeservesAsCapture (one_as_capture laws.one);
       right_apart = λ bytes line right. capture_unrefused laws.none bytes line right.0 right.1;
       done_apart = λ bytes line given status text is. capture_unrefused laws.none bytes line is.capture is.read;
-      uses_apart = λ bytes line links used refused. used;
+      uses_apart = λ bytes line specs links used refused. used;
       long = λ limit bytes is more. record {
         refusal = LongCapture;
         deserved = subst (λ n. n < length bytes) (same_limit limit is) more;
         spelled = refl;
       };
       unrefused = λ none. absurd cc;
-      unlinked = λ none bytes links used. used;
+      unlinked = λ none bytes specs links used. used;
     }

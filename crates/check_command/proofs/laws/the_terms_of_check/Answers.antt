@@ -16,8 +16,8 @@ returns c = λ root.
           laws.not_both bytes root right.0 refused.refusal right.1 refused.deserved;
       done_apart = λ bytes line given status text done refused.
           laws.not_both bytes root done.registers refused.refusal done.listed refused.deserved;
-      uses_apart = λ bytes line links used refused. used;
+      uses_apart = λ bytes line specs links used refused. used;
       long = long_refused (BreaksInCheck root);
       unrefused = λ unread. absurd cc;
-      unlinked = λ unlinked bytes links used. used;
+      unlinked = λ unlinked bytes specs links used. used;
     }

@@ -15,7 +15,7 @@ returns c =
           laws.not_both apply_command bytes right.0 right.1 refused.refusal right.2 refused.deserved;
       done_apart = λ bytes line given status text done refused.
           laws.not_both apply_command bytes done.session (done.steps ∷ []) refused.refusal done.applicable refused.deserved;
-      uses_apart = λ bytes line links used refused.
+      uses_apart = λ bytes line specs links used refused.
           laws.not_both apply_command bytes used.session used.steps refused.refusal used.read refused.deserved;
       long = long_refused apply_command;
       unrefused = λ unread. absurd cc;

@@ -15,7 +15,7 @@ returns c =
           laws.not_both save_command bytes right.0 right.1 refused.refusal right.2 refused.deserved;
       done_apart = λ bytes line given status text done refused.
           laws.not_both save_command bytes done.session (done.steps ∷ []) refused.refusal done.savable refused.deserved;
-      uses_apart = λ bytes line links used refused.
+      uses_apart = λ bytes line specs links used refused.
           laws.not_both save_command bytes used.session used.steps refused.refusal used.read refused.deserved;
       long = long_refused save_command;
       unrefused = λ unread. absurd cc;

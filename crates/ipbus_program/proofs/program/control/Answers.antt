@@ -453,7 +453,7 @@ returns-in-Err-RackFault-clause-deserved g c command bytes line asked told deser
     let same = one_command c.args.words.now command c.in-Ok-Some.command asked are in
     let deserved_here = subst (λ command. (terms_of command).Refuses bytes line) same deserved in
     let reads = reads_of terms laws bytes line deserved_here in
-    absurd (used_undeserved terms laws reads.0 reads.1 before now bytes told _ line
+    absurd (used_undeserved terms laws reads.0 reads.1 before now bytes told _ _ line
     (c.in-Err-RackFault.ensures.leaves.2.4.behind RackFault (ap Err c.in-Err-RackFault.field-0-is) tt) deserved_here)
 
 pub returns-in-Err-DoorFault-clause-deserved : goal.returns-in-Err-DoorFault-clause-deserved
@@ -466,7 +466,7 @@ returns-in-Err-DoorFault-clause-deserved g c command bytes line asked told deser
     let same = one_command c.args.words.now command c.in-Ok-Some.command asked are in
     let deserved_here = subst (λ command. (terms_of command).Refuses bytes line) same deserved in
     let reads = reads_of terms laws bytes line deserved_here in
-    absurd (used_undeserved terms laws reads.0 reads.1 before now bytes told _ line
+    absurd (used_undeserved terms laws reads.0 reads.1 before now bytes told _ _ line
     (c.in-Err-DoorFault.ensures.leaves.2.4.behind DoorFault (ap Err c.in-Err-DoorFault.field-0-is) tt) deserved_here)
 
 pub answer_command-requires-after_bounds : goal.answer_command-requires-after_bounds

@@ -1,4 +1,4 @@
-use Rattle.std.proofs.Common.{◌≡◌, ◌+◌, List, length, map, Err, refl, ap, subst}
+use Rattle.std.proofs.Common.{◌≡◌, List, length, map, Err, refl, ap, subst}
 use Rattle.std.specs.List.{AllByRecursion}
 use Rattle.board_greeting.specs.Boards.{shown_by}
 use Rattle.board_node.specs.declared.spec.BoardSpec.{BoardSpec}
@@ -8,7 +8,7 @@ use Rattle.lane_history.specs.Links.{IsUntouched}
 use Rattle.lane_history.specs.Runs.{AreRunsOver}
 use Rattle.load_run.specs.Generated.{boards, steps}
 use Rattle.load_run.specs.Summary.{all_done, summary_of, summary_text}
-use Rattle.session_run.specs.Links.{AreLeft}
+use Rattle.session_run.specs.Links.{AreLeft, AreMadeFor}
 use Rattle.session_run.proofs.Faults.{no_memory_is_no_rack}
 use Rattle.transcript.specs.Lines.{transcript_of}
 use Rattle.load_run.specs.Loading.{PrintsLoad}
@@ -28,7 +28,9 @@ returns-in_err-runs-clause-leaves g c =
       load_failed PrintsLoad c.args.count made makes c.from_residual.result c.in_err-runs.field-0.0 links
           (subst (λ scripts. AreLeft 0 (boards c.args.count) scripts links) c.requires.scripts'
           (subst (λ specs. AreLeft 0 specs c.args.steps.now links) c.requires.specs' left.2))
-          (at_links shown _ _ left.0 left.1 (λ links. makes ≡ made + length links) c.run_session.ensures.made)
+          (subst (λ specs. AreMadeFor specs (length links) made makes) c.requires.specs'
+          (at_links shown _ _ left.0 left.1 (λ links. AreMadeFor c.args.boards.now (length links) made makes)
+          c.run_session.ensures.made))
           c.from_residual.ensures.0 c.from_residual.ensures.1
           (λ rack. at_links shown _ _ left.0 left.1 (AllByRecursion IsUntouched)
           (c.in_err-runs.ensures.untouched (ap Err rack))),
@@ -46,7 +48,9 @@ returns-in_err-printed-clause-leaves g c =
       load_failed PrintsLoad c.args.count made makes c.from_residual-in_err-printed.result _ links
           (subst (λ scripts. AreLeft 0 (boards c.args.count) scripts links) c.requires.scripts'
           (subst (λ specs. AreLeft 0 specs c.args.steps.now links) c.requires.specs' left.2))
-          (at_links shown _ _ left.0 left.1 (λ links. makes ≡ made + length links) c.run_session.ensures.made)
+          (subst (λ specs. AreMadeFor specs (length links) made makes) c.requires.specs'
+          (at_links shown _ _ left.0 left.1 (λ links. AreMadeFor c.args.boards.now (length links) made makes)
+          c.run_session.ensures.made))
           c.from_residual-in_err-printed.ensures.0 c.from_residual-in_err-printed.ensures.1
           (λ rack. absurd (no_memory_is_no_rack _ refl rack)),
     )
@@ -70,7 +74,9 @@ returns-clause-leaves g c =
       load_told PrintsLoad count made makes load links
           (subst (λ scripts. AreLeft 0 (boards count) scripts links) parts.scripts'
           (subst (λ specs. AreLeft 0 specs c.args.steps.now links) parts.specs' left.2))
-          (at_links shown _ _ left.0 left.1 (λ links. makes ≡ made + length links) c.run_session.ensures.made)
+          (subst (λ specs. AreMadeFor specs (length links) made makes) parts.specs'
+          (at_links shown _ _ left.0 left.1 (λ links. AreMadeFor c.args.boards.now (length links) made makes)
+          c.run_session.ensures.made))
           (record {
             runs = runs;
             over =

@@ -1,13 +1,56 @@
 use Rattle.std.proofs.Common.{◌≡◌, ◌∙◌, ◌++◌, ◌+◌, [], ◌∷◌, List, ap, append-nil, length, refl, subst, sym, arith}
-use Rattle.std.proofs.Common.{Some, slice_index_or}
+use Rattle.std.proofs.Common.{Err, Some, slice_index_or}
 use Rattle.board_node.specs.declared.spec.BoardSpec.{BoardSpec}
-use Rattle.board_greeting.specs.Boards.{shown_by}
+use Rattle.hub_lane.specs.Greeting.{link_of}
+use Rattle.board_greeting.specs.Boards.{IsReached, shown_by}
+use Rattle.board_greeting.proofs.Boards.{made_still, none_made, one_made}
 use Rattle.session_run.specs.declared.session.RunFault.TheVariants.{NoMemory}
+use Rattle.session_run.specs.Faults.{run_fault}
 use Rattle.session_run.specs.Links.{AreLeft, CanBeReached}
 use Rattle.session_run.proofs.Faults.{no_memory_is_no_rack}
-use Rattle.record_command.proofs.Leaving.{record_failed, record_written}
+use Rattle.command_terms.proofs.Leaving.{same_Err}
+use Rattle.record_command.specs.Taps.{tapped}
+use Rattle.record_command.proofs.Leaving.{record_failed, record_written, rises_by}
 use Rattle.record_command.proofs.Tapped.{at_first, one_board, one_is_one, ran_for, records_of}
 use Rattle.record_command.proofs.record.recorded.Goals as goal
+
+pub returns-in_err-taps-clause-leaves : goal.returns-in_err-taps-clause-leaves
+returns-in_err-taps-clause-leaves g c =
+    let made = g.R.Rack.made c.args.rack.now in (
+      [],
+      sym (append-nil (g.R.Rack.kept c.args.rack.now)),
+      record_failed c.args.session.now c.args.steps.now made made c.from_residual.result NoMemory [] tt
+          (none_made c.args.session.now.boards made) c.from_residual.ensures.0 c.from_residual.ensures.1 (λ rack. tt),
+    )
+
+pub returns-in_err-greeted-clause-leaves : goal.returns-in_err-greeted-clause-leaves
+returns-in_err-greeted-clause-leaves g c =
+    let boards = c.args.session.now.boards in
+    let made = g.R.Rack.made c.args.rack.now in
+    let makes = g.R.Rack.made c.greet_tapped.new.rack in (
+      [],
+      c.greet_tapped.ensures.kept ∙ sym (append-nil (g.R.Rack.kept c.args.rack.now)),
+      record_failed c.args.session.now c.args.steps.now made makes c.from_residual-in_err-greeted.result
+          (run_fault c.in_err-greeted.field-0.0) [] tt
+          (made_still boards 0 0 made made makes (none_made boards made) refl c.in_err-greeted.ensures.made)
+          c.from_residual-in_err-greeted.ensures.0 c.from_residual-in_err-greeted.ensures.1 (λ rack. tt),
+    )
+
+pub returns-in_err-greeted-clause-rack_faults : goal.returns-in_err-greeted-clause-rack_faults
+returns-in_err-greeted-clause-rack_faults g c =
+    rises_by c.in_err-greeted.field-0.0 c.from_residual-in_err-greeted.result (g.R.Rack.faults c.args.rack.now)
+    (g.R.Rack.faults c.greet_tapped.new.rack) c.from_residual-in_err-greeted.ensures.0
+    c.from_residual-in_err-greeted.ensures.1 (λ is. c.in_err-greeted.ensures.failed (ap Err is))
+    c.in_err-greeted.ensures.faults (λ other. c.in_err-greeted.ensures.unfaulted (λ e. other (same_Err _ _ e)))
+
+pub run_tapped-tap-requires-clause-reached : goal.run_tapped-tap-requires-clause-reached
+run_tapped-tap-requires-clause-reached g c κs within = λ spec is.
+    let it = g.R.L.Link in
+    let board = c.index-boards-0.result in
+    let shows = shown_by (tapped it.faults) (tapped it.quiets) (tapped it.gots) (tapped it.held) (tapped it.telling) in
+    let same : board ≡ spec = c.index-boards-0.is ∙ ap (λ (bs : List BoardSpec). slice_index_or bs 0 board) is in
+    subst (λ (s : BoardSpec). IsReached c.args.session.now.settings s c.in_ok-greeted.greeted
+    (shows (link_of c.in_ok-greeted.greeted))) same c.in_ok-greeted.ensures.reached
 
 pub returns-in_err-room-clause-leaves : goal.returns-in_err-room-clause-leaves
 returns-in_err-room-clause-leaves g c =
@@ -15,7 +58,8 @@ returns-in_err-room-clause-leaves g c =
       [],
       sym (append-nil (g.R.Rack.kept c.args.rack.now)),
       record_failed c.args.session.now c.args.steps.now made made c.from_residual-in_err-room.result NoMemory [] tt
-          (omega arith) c.from_residual-in_err-room.ensures.0 c.from_residual-in_err-room.ensures.1 (λ rack. tt),
+          (none_made c.args.session.now.boards made) c.from_residual-in_err-room.ensures.0
+          c.from_residual-in_err-room.ensures.1 (λ rack. tt),
     )
 
 pub greet_tapped-requires-clause-reached : goal.greet_tapped-requires-clause-reached
@@ -35,19 +79,22 @@ returns-in_err-written-clause-leaves g c =
     let shows = shown_by it.faults it.quiets it.gots it.held it.telling in
     let link = c.into_parts-link.result.0 in
     let boards = c.as_slice-boards.ensures in
+    let session = c.args.session.now in
     let steps = c.args.steps.now in
+    let board = c.index-boards-0.result in
+    let there = subst (λ (boards : List BoardSpec). board ≡ slice_index_or boards 0 board) boards c.index-boards-0.is in
     let made = g.R.Rack.made c.args.rack.now in
     let makes = g.R.Rack.made c.keep.new.self in
-    let kept = c.keep.ensures.made in
-    let one = c.in_ok-greeted.ensures.made in (
+    let links_made = one_made session.boards board made makes (one_board session.boards board c.requires.one there)
+    (c.keep.ensures.made ∙ c.in_ok-greeted.ensures.made) in (
       link ∷ [],
       c.keep.ensures.kept ∙ ap (λ (l : List _). l ++ link ∷ []) c.greet_tapped.ensures.kept,
-      record_failed c.args.session.now steps made makes c.from_residual-in_err-written.result
+      record_failed session steps made makes c.from_residual-in_err-written.result
           NoMemory (shows link ∷ [])
           (subst (λ (specs : List BoardSpec). AreLeft 0 specs steps (shows link ∷ [])) boards
           (subst (λ link. AreLeft 0 c.as_slice-boards.result.now steps (shows link ∷ [])) (sym c.into_parts-link.ensures.link)
           c.run_tapped-tap.ensures.left))
-          (omega (arith, kept, one))
+          links_made
           c.from_residual-in_err-written.ensures.0 c.from_residual-in_err-written.ensures.1
           (λ rack. absurd (no_memory_is_no_rack _ refl rack)),
     )
@@ -68,11 +115,11 @@ returns-clause-leaves g c =
     c.run_tapped-tap.ensures.left) in
     let made = g.R.Rack.made c.args.rack.now in
     let makes = g.R.Rack.made c.keep.new.self in
-    let kept = c.keep.ensures.made in
-    let one = c.in_ok-greeted.ensures.made in (
+    let links_made = one_made session.boards board made makes (one_board session.boards board c.requires.one there)
+    (c.keep.ensures.made ∙ c.in_ok-greeted.ensures.made) in (
       link ∷ [],
       c.keep.ensures.kept ∙ ap (λ (l : List _). l ++ link ∷ []) c.greet_tapped.ensures.kept,
-      record_written session steps made makes c.in_ok-written.field-0 (shows link ∷ []) left (omega (arith, kept, one))
+      record_written session steps made makes c.in_ok-written.field-0 (shows link ∷ []) left links_made
           (records_of laws.sent laws.executed laws.proved c.a_lane_sends_a_merge_at_any_moment.ensures.first session
           steps board c.run_tapped-tap.result.1 c.into_parts-link.result.1 c.in_ok-written.field-0 (shows link)
           (one_board session.boards board c.requires.one there)

@@ -30,6 +30,6 @@ returns-clause-ran g c =
     let link = g.L.Link in
     let shows = shown_by (tapped link.faults) (tapped link.quiets) (tapped link.gots) (tapped link.held)
     (tapped link.telling) in
-    ran_alone shows _ _ c.into_tap.result (ap (λ taps. taps.kept) c.requires.taps) c.into_tap.ensures
+    ran_alone shows _ _ c.into_tap.result c.requires.none_kept c.into_tap.ensures
     (AreRunsOver c.args.settings 0 c.args.specs.now c.args.steps.now) c.run_greeted-runs.result
     c.run_greeted-runs.ensures.ran

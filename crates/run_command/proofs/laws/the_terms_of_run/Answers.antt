@@ -13,7 +13,7 @@ returns c =
       right_apart = λ bytes line right refused. laws.not_both bytes right.0 right.1 refused.refusal right.2 refused.deserved;
       done_apart = λ bytes line given status text done refused.
           laws.not_both bytes done.session done.steps refused.refusal done.runnable refused.deserved;
-      uses_apart = λ bytes line links used refused.
+      uses_apart = λ bytes line specs links used refused.
           laws.not_both bytes used.session used.steps refused.refusal used.runnable refused.deserved;
       long = long_refused BreaksInRun;
       unrefused = λ unread. absurd cc;

@@ -1,9 +1,9 @@
-use Rattle.std.proofs.Common.{◌≡◌, ◌+◌, length, map, Err, refl, ap, subst}
+use Rattle.std.proofs.Common.{◌≡◌, length, map, Err, refl, ap, subst}
 use Rattle.std.specs.List.{AllByRecursion}
 use Rattle.lane_history.specs.Links.{IsUntouched}
 use Rattle.lane_history.specs.Runs.{AreRunsOver}
 use Rattle.script_lang.specs.declared.session.Session.{Session}
-use Rattle.session_run.specs.Links.{AreLeft}
+use Rattle.session_run.specs.Links.{AreLeft, AreMadeFor}
 use Rattle.session_run.proofs.Faults.{no_memory_is_no_rack}
 use Rattle.transcript.specs.Lines.{transcript_of, run_status}
 use Rattle.transcript.specs.Text.{transcript_text}
@@ -23,7 +23,9 @@ returns-in_err-runs-clause-leaves g c =
       left.1,
       run_failed c.args.session.now c.args.steps.now made makes c.from_residual.result c.in_err-runs.field-0.0 links
           (subst (λ boards. AreLeft 0 boards c.args.steps.now links) c.as_slice-boards.ensures left.2)
-          (at_links shown _ _ left.0 left.1 (λ links. makes ≡ made + length links) c.run_session.ensures.made)
+          (subst (λ boards. AreMadeFor boards (length links) made makes) c.as_slice-boards.ensures
+          (at_links shown _ _ left.0 left.1
+          (λ links. AreMadeFor c.as_slice-boards.result.now (length links) made makes) c.run_session.ensures.made))
           c.from_residual.ensures.0 c.from_residual.ensures.1
           (λ rack. at_links shown _ _ left.0 left.1 (AllByRecursion IsUntouched)
           (c.in_err-runs.ensures.untouched (ap Err rack))),
@@ -40,7 +42,9 @@ returns-in_err-printed-clause-leaves g c =
       left.1,
       run_failed c.args.session.now c.args.steps.now made makes c.from_residual-in_err-printed.result _ links
           (subst (λ boards. AreLeft 0 boards c.args.steps.now links) c.as_slice-boards.ensures left.2)
-          (at_links shown _ _ left.0 left.1 (λ links. makes ≡ made + length links) c.run_session.ensures.made)
+          (subst (λ boards. AreMadeFor boards (length links) made makes) c.as_slice-boards.ensures
+          (at_links shown _ _ left.0 left.1
+          (λ links. AreMadeFor c.as_slice-boards.result.now (length links) made makes) c.run_session.ensures.made))
           c.from_residual-in_err-printed.ensures.0 c.from_residual-in_err-printed.ensures.1
           (λ rack. absurd (no_memory_is_no_rack _ refl rack)),
     )
@@ -59,7 +63,9 @@ returns-clause-leaves g c =
       left.1,
       run_printed session c.args.steps.now made makes c.in_ok-printed.field-0 runs links
           (subst (λ boards. AreLeft 0 boards c.args.steps.now links) boards left.2)
-          (at_links shown _ _ left.0 left.1 (λ links. makes ≡ made + length links) c.run_session.ensures.made)
+          (subst (λ boards. AreMadeFor boards (length links) made makes) boards
+          (at_links shown _ _ left.0 left.1
+          (λ links. AreMadeFor c.as_slice-boards.result.now (length links) made makes) c.run_session.ensures.made))
           (subst (λ boards. AreRunsOver session.settings 0 boards c.args.steps.now runs links) boards
           (at_links shown _ _ left.0 left.1
           (AreRunsOver session.settings 0 c.as_slice-boards.result.now c.args.steps.now runs)

@@ -13,7 +13,7 @@ returns c = λ count.
           laws.not_both bytes right.0 refused.refusal right.1 refused.deserved;
       done_apart = λ bytes line given status text done refused.
           laws.not_both bytes done.session refused.refusal done.servable refused.deserved;
-      uses_apart = λ bytes line links used refused.
+      uses_apart = λ bytes line specs links used refused.
           laws.not_both bytes used.session refused.refusal used.servable refused.deserved;
       long = long_refused BreaksInServe;
       unrefused = λ unread. absurd cc;

@@ -1,7 +1,8 @@
-use Rattle.std.proofs.Common.{◌≡◌, ◌+◌, length, map, Ok, Err, ap, refl, subst}
+use Rattle.std.proofs.Common.{◌≡◌, length, map, Ok, Err, ap, refl, subst}
 use Rattle.std.specs.List.{AllByRecursion}
 use Rattle.lane_history.specs.Links.{IsUntouched}
 use Rattle.board_greeting.specs.Boards.{shown_by}
+use Rattle.board_greeting.specs.Links.{AreMadeFor}
 use Rattle.session_serve.specs.Boards.{AreLinksTo}
 use Rattle.session_serve.specs.Serving.{AreServed}
 use Rattle.command_terms.proofs.Leaving.{at_links}
@@ -29,7 +30,8 @@ returns-in_err-report-clause-leaves g c =
         back.3,
         serve_failed c.args.session.now c.args.count made makes
             c.from_residual.result c.in_err-report.field-0.0 _
-            (subst (λ boards. AreLinksTo boards links) c.as_slice-boards.ensures left.2.0) left.2.1 back.4
+            (subst (λ boards. AreLinksTo boards links) c.as_slice-boards.ensures left.2.0)
+            (subst (λ boards. AreMadeFor boards (length links) made makes) c.as_slice-boards.ensures left.2.1) back.4
             c.from_residual.ensures.0 c.from_residual.ensures.1
             (λ rack. at_links shown _ _ left.0 left.1 (AllByRecursion IsUntouched)
             (c.in_err-report.ensures.untouched (ap Err rack))),
@@ -52,7 +54,8 @@ returns-in_err-printed-clause-leaves g c =
         back.2,
         back.3,
         serve_failed c.args.session.now c.args.count made makes c.from_residual-in_err-printed.result _ _
-            (subst (λ boards. AreLinksTo boards links) c.as_slice-boards.ensures left.2.0) left.2.1 back.4
+            (subst (λ boards. AreLinksTo boards links) c.as_slice-boards.ensures left.2.0)
+            (subst (λ boards. AreMadeFor boards (length links) made makes) c.as_slice-boards.ensures left.2.1) back.4
             c.from_residual-in_err-printed.ensures.0 c.from_residual-in_err-printed.ensures.1
             (λ rack. absurd (no_memory_is_no_rack _ refl rack)),
       ),
@@ -71,7 +74,7 @@ returns-clause-leaves g c =
     with_links shown g.D.Incoming.Source.left g.D.Incoming.Source.faults
     g.D.Outgoing.Sink.written g.D.Outgoing.Sink.faults g.D.Outgoing.Sink.ended
     _ _ _ _ _ _
-    (λ links. AreLinksTo boards links × (makes ≡ made + length links))
+    (λ links. AreLinksTo boards links × AreMadeFor boards (length links) made makes)
     (λ given. AreServed session.settings boards given.links given.came given.back connections lines)
     (ServeLeaves session c.args.count made makes (Ok answer))
     (λ given of_links served. served_done session c.args.count made makes boards c.as_slice-boards.ensures answer
