@@ -6,6 +6,7 @@ use Rattle.ipb_base.specs.Digits.{digits_number, is_between}
 use Rattle.command_words.specs.declared.command.Command.{Command}
 use Rattle.command_words.specs.declared.command.Command.TheVariants.{Run, Check, Serve, Load, Audit}
 use Rattle.command_words.specs.declared.command.Command.TheVariants.{Record, Describe, Undescribe, Save, Apply}
+use Rattle.command_words.specs.Numbers.{greatest_port, most_connections, most_operations}
 
 -- a word begins with a hyphen
 abbrev pub is_option : List ℕ → Bool
@@ -40,13 +41,13 @@ first_named (one ∷ others) word = if bytes_eq one.0 word then Some one.1 else 
 abbrev pub command_of_one : List ℕ → Option Command
 command_of_one word = first_named alone word
 
--- a load of 1 to 100,000 operations
+-- a load of at least one operation
 abbrev pub load_of : Option ℕ → Option Command
 load_of None = None
 load_of (Some count) = Some (Load count)
 
 abbrev pub loaded : List ℕ → Option Command
-loaded count = load_of (number_between 1 100000 count)
+loaded count = load_of (number_between 1 most_operations count)
 
 -- `check` and the name of a table, or `load` and this number
 abbrev pub command_of_two : List ℕ → List ℕ → Option Command
@@ -61,9 +62,9 @@ serve_of None count = None
 serve_of (Some port) None = None
 serve_of (Some port) (Some count) = Some (Serve port count)
 
--- a port from 1 to 65535, and from 1 to 64 connections
+-- a port from 1, and at least one connection
 abbrev pub served : List ℕ → List ℕ → Option Command
-served port count = serve_of (number_between 1 65535 port) (number_between 1 64 count)
+served port count = serve_of (number_between 1 greatest_port port) (number_between 1 most_connections count)
 
 -- `serve` and these two numbers
 abbrev pub command_of_three : List ℕ → List ℕ → List ℕ → Option Command

@@ -2,6 +2,7 @@
 
 ghost use Rattle.std.specs.Prelude.{◌≡◌, IfOk, map, string_bytes};
 ghost use Rattle.command_words.specs.Commands as spec;
+ghost use Rattle.command_words.specs.Numbers.{greatest_port};
 ghost use Rattle.command_words.specs.Read.{form_of, named};
 
 use crate::line::{Line, LineError, read_line};
@@ -12,6 +13,15 @@ use std::alloc::Global;
 pub const USAGE_LINE: &str =
     "usage: ipbus run | check TABLE | serve PORT COUNT | load COUNT | audit | record | describe | undescribe | save | apply\n";
 
+/// The greatest port of `serve` (profile).
+pub const MAX_PORT: u32 = 65_535;
+
+/// The most connections of `serve` (profile).
+pub const MAX_CONNECTIONS: u32 = 64;
+
+/// The most operations of `load` (profile).
+pub const MAX_OPERATIONS: u32 = 100_000;
+
 /// What the words of a command line ask for (profile).
 #[derive(Drop)]
 pub enum Command {
@@ -20,9 +30,9 @@ pub enum Command {
     /// `check TABLE`: the registers of a table of a session document are listed.
     Check { table: Text },
     /// `serve PORT COUNT`: connections to a port, from 1, are served on the boards of a session document. There are 1
-    /// to 64 of them.
+    /// to `MAX_CONNECTIONS` of them.
     Serve { port: u16, count: u32 },
-    /// `load COUNT`: a generated session of so many operations is run, 1 to 100,000 of them.
+    /// `load COUNT`: a generated session of so many operations is run, 1 to `MAX_OPERATIONS` of them.
     Load { count: u32 },
     /// `audit`: a transcript is judged by the session document before it.
     Audit,
@@ -86,7 +96,7 @@ fn serve(port: &[u8], count: &[u8]) -> Option<Command>
     ensures { result ≡ spec.served port.now count.now }
 {
     let port = port_in(port)?;
-    let count = number_between(1, 64, count)?;
+    let count = number_between(1, MAX_CONNECTIONS, count)?;
     Some(Command::Serve { port, count })
 }
 
@@ -94,15 +104,15 @@ fn serve(port: &[u8], count: &[u8]) -> Option<Command>
 fn load(count: &[u8]) -> Option<Command>
     ensures { result ≡ spec.loaded count.now }
 {
-    let count = number_between(1, 100_000, count)?;
+    let count = number_between(1, MAX_OPERATIONS, count)?;
     Some(Command::Load { count })
 }
 
-/// A port, from 1 to 65535.
+/// A port, from 1.
 fn port_in(word: &[u8]) -> Option<u16>
-    ensures { result ≡ spec.number_between 1 65535 word.now }
+    ensures { result ≡ spec.number_between 1 greatest_port word.now }
 {
-    let number = number_between(1, 65535, word)?;
+    let number = number_between(1, MAX_PORT, word)?;
     u16::try_from(number).ok()
 }
 

@@ -3,10 +3,25 @@
 ghost use Rattle.std.specs.Prelude.{◌≡◌, ◌≤◌, ◌∷◌, ℕ, List, [], true, codes, Some, None};
 ghost use Rattle.clap.specs.Words.{takes, fault_of};
 ghost use Rattle.command_words.specs.App.{ipbus};
-ghost use Rattle.command_words.specs.Commands.{command_of};
+ghost use Rattle.command_words.specs.Commands.{command_of, usage_text};
 ghost use Rattle.command_words.specs.Forms.{Form, words_of, ArePlain, IsNamed};
+ghost use Rattle.command_words.specs.Numbers.{greatest_port, most_connections, most_operations};
+ghost use Rattle.command_words.specs.declared.command.TheConstants.{MAX_CONNECTIONS, MAX_OPERATIONS, MAX_PORT};
+ghost use Rattle.command_words.specs.declared.command.TheConstants.{USAGE_LINE};
 ghost use Rattle.command_words.specs.declared.command.Command.TheVariants.{Run, Check, Serve, Load, Audit};
 ghost use Rattle.command_words.specs.declared.command.Command.TheVariants.{Record, Describe, Undescribe, Save, Apply};
+
+/// The numbers of the commands are those of the definitions.
+pub fn the_numbers_of_the_commands()
+    ensures port { MAX_PORT ≡ greatest_port }
+    ensures connections { MAX_CONNECTIONS ≡ most_connections }
+    ensures operations { MAX_OPERATIONS ≡ most_operations }
+{}
+
+/// The line for words that are no command is that of the definitions.
+pub fn the_usage_line_is_its_text()
+    ensures { USAGE_LINE.now ≡ usage_text }
+{}
 
 /// The words of a command are taken by clap.
 pub fn the_words_of_a_command_are_taken()
@@ -20,7 +35,7 @@ pub fn words_without_a_fault_are_those_of_a_command()
 
 /// A load is of at most so many operations.
 pub fn a_load_has_a_bound()
-    ensures { (words : List (List ℕ)) (count : ℕ) → command_of words ≡ Some (Load count) → count ≤ 100000 }
+    ensures { (words : List (List ℕ)) (count : ℕ) → command_of words ≡ Some (Load count) → count ≤ most_operations }
 {}
 
 /// Words worked by hand.

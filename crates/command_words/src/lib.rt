@@ -5,5 +5,5 @@ mod command;
 pub mod laws;
 mod line;
 
-pub use command::{Command, USAGE_LINE, command_of};
+pub use command::{Command, MAX_CONNECTIONS, MAX_OPERATIONS, MAX_PORT, USAGE_LINE, command_of};
 pub use ipb_base::{NoMemory, Text};
