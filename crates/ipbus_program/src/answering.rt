@@ -4,6 +4,7 @@ ghost use Rattle.std.specs.Prelude.{◌≡◌, ◌≢◌, ◌≤◌, ℕ, Err, I
 ghost use Rattle.ipb_outside.specs.Doors.{Listens};
 ghost use Rattle.ipb_outside.specs.Pairs.{GivesBack};
 ghost use Rattle.board_greeting.specs.Links.{Keeps};
+ghost use Rattle.session_serve.specs.Executed.{CameInFrames};
 ghost use Rattle.session_serve.specs.Serving.{AreBack};
 ghost use Rattle.command_words.specs.declared.command.Command.{Command as CommandValue};
 ghost use Rattle.command_words.specs.declared.command.Command.TheVariants.{Load, Serve};
@@ -116,6 +117,10 @@ pub(crate) fn answer_to<R: Rack, D: Door, T: Threads + Wait + Sync, G: Gate>(
         (D.coming door.old) (D.coming door.new) (D.kept door.old) (D.kept door.new)
         (λ came back. Leaves AreBack IsFailure NoAnswer.RackFault (terms_of command.now) bytes.now (R.made rack.old)
         (R.made rack.new) result (record { links = links; came = came; back = back }))) }
+    ensures in_frames { (port count : ℕ) → command.now ≡ Serve port count
+        → Keeps R.L.faults R.L.quiets R.L.gots R.L.held R.L.telling (R.kept rack.old) (R.kept rack.new)
+        (λ links. GivesBack D.Incoming.left D.Incoming.faults D.Outgoing.written D.Outgoing.faults D.Outgoing.ended
+        (D.coming door.old) (D.coming door.new) (D.kept door.old) (D.kept door.new) (CameInFrames links)) }
     ensures alone { LeavesAlone (terms_of command.now) result rack.old rack.new door.old door.new }
     ensures none_out { D.out door.new ≡ D.out door.old }
     ensures listens { (port count : ℕ) → command.now ≡ Serve port count

@@ -6,6 +6,7 @@ ghost use Rattle.ipb_outside.specs.Doors.{Listens};
 ghost use Rattle.ipb_outside.specs.Pairs.{GivesBack};
 ghost use Rattle.ipb_outside.specs.Told.{TakesCount};
 ghost use Rattle.board_greeting.specs.Links.{Keeps};
+ghost use Rattle.session_serve.specs.Executed.{CameInFrames};
 ghost use Rattle.command_words.specs.declared.command.Command.{Command as Asked};
 ghost use Rattle.command_words.specs.declared.command.Command.TheVariants.{Load, Serve};
 ghost use Rattle.load_run.specs.Generated.{most_operations};
@@ -56,6 +57,10 @@ fn answer_input<S: Source, R: Rack, D: Door, T: Threads + Wait + Sync, G: Gate>(
     ensures input_faults { RisesOnlyAt (Err NoAnswer.ReadFault) result (S.faults input.old) (S.faults input.new) }
     ensures rack_faults { RisesOnlyAt (Err NoAnswer.RackFault) result (R.faults rack.old) (R.faults rack.new) }
     ensures door_faults { RisesOnlyAt (Err NoAnswer.DoorFault) result (D.faults door.old) (D.faults door.new) }
+    ensures in_frames { (port count : ℕ) → command.now ≡ Serve port count
+        → Keeps R.L.faults R.L.quiets R.L.gots R.L.held R.L.telling (R.kept rack.old) (R.kept rack.new)
+        (λ links. GivesBack D.Incoming.left D.Incoming.faults D.Outgoing.written D.Outgoing.faults D.Outgoing.ended
+        (D.coming door.old) (D.coming door.new) (D.kept door.old) (D.kept door.new) (CameInFrames links)) }
     ensures alone { LeavesAlone (terms_of command.now) result rack.old rack.new door.old door.new }
     ensures none_out { D.out door.new ≡ D.out door.old }
     ensures listens { (port count : ℕ) → command.now ≡ Serve port count
@@ -90,6 +95,10 @@ fn answer_command<S: Source, R: Rack, D: Door, T: Threads + Wait + Sync, G: Gate
     ensures input_faults { RisesOnlyAt (Err NoAnswer.ReadFault) result (S.faults input.old) (S.faults input.new) }
     ensures rack_faults { RisesOnlyAt (Err NoAnswer.RackFault) result (R.faults rack.old) (R.faults rack.new) }
     ensures door_faults { RisesOnlyAt (Err NoAnswer.DoorFault) result (D.faults door.old) (D.faults door.new) }
+    ensures in_frames { (port count : ℕ) → command.now ≡ Serve port count
+        → Keeps R.L.faults R.L.quiets R.L.gots R.L.held R.L.telling (R.kept rack.old) (R.kept rack.new)
+        (λ links. GivesBack D.Incoming.left D.Incoming.faults D.Outgoing.written D.Outgoing.faults D.Outgoing.ended
+        (D.coming door.old) (D.coming door.new) (D.kept door.old) (D.kept door.new) (CameInFrames links)) }
     ensures alone { LeavesAlone (terms_of command.now) result rack.old rack.new door.old door.new }
     ensures none_out { D.out door.new ≡ D.out door.old }
     ensures listens { (port count : ℕ) → command.now ≡ Serve port count
@@ -154,6 +163,13 @@ pub fn control<S: Source, O: Sink, R: Rack, D: Door, T: Threads + Wait + Sync, G
           made_now = R.made rack.new;
           given_back = record { links = links; came = came; back = back };
         }) result)) }
+
+    // Where the words ask for a server: whatever the status, over a link that tells no board executed a body that no
+    // frame of a connection had for it.
+    ensures in_frames { (port count : ℕ) → AreCommand words.now (Serve port count)
+        → Keeps R.L.faults R.L.quiets R.L.gots R.L.held R.L.telling (R.kept rack.old) (R.kept rack.new)
+        (λ links. GivesBack D.Incoming.left D.Incoming.faults D.Outgoing.written D.Outgoing.faults D.Outgoing.ended
+        (D.coming door.old) (D.coming door.new) (D.kept door.old) (D.kept door.new) (CameInFrames links)) }
 
     // A fault of the input is told by status 4 alone, one of the output by 5, one of the rack by 7, one of the door by
     // 8: each comes with a fault of its own, and none is passed over.

@@ -58,6 +58,8 @@
 --   the pairs, at every status   GivesBack, AreBack                      ipb_outside/specs/Pairs,
 --                                                                        session_serve/specs/Serving
 --   the links, at every status   IsLinkedTo, below                       session_serve/specs/Boards
+--   what boards executed, at     CameInFrames, of serve_document and     session_serve/specs/Executed
+--   every status                 control
 use Rattle.std.specs.Prelude.{◌≡◌, ℕ, ◌≤◌, List, [], ◌∷◌, length, None, IfSome}
 use Rattle.std.specs.List.{AllByRecursion}
 use Rattle.ipb_base.specs.Lists.{IsPrefix}

@@ -5,6 +5,7 @@ ghost use Rattle.ipb_outside.specs.Doors.{Listens};
 ghost use Rattle.ipb_outside.specs.Pairs.{GivesBack};
 ghost use Rattle.board_greeting.specs.Links.{Keeps};
 ghost use Rattle.session_serve.specs.Faults.{IsServeFailure};
+ghost use Rattle.session_serve.specs.Executed.{CameInFrames};
 ghost use Rattle.session_serve.specs.Serving.{AreBack};
 ghost use Rattle.server_summary.specs.Text as texts;
 ghost use Rattle.command_terms.specs.Faults.{RisesOnlyAt};
@@ -48,6 +49,9 @@ pub fn serve_document<R: Rack, D: Door, T: Threads + Wait + Sync>(
         (D.coming door.old) (D.coming door.new) (D.kept door.old) (D.kept door.new)
         (λ came back. Leaves AreBack IsServeFailure ServeFault.Rack (serve_terms count) bytes.now (R.made rack.old)
         (R.made rack.new) result (record { links = links; came = came; back = back }))) }
+    ensures in_frames { Keeps R.L.faults R.L.quiets R.L.gots R.L.held R.L.telling (R.kept rack.old) (R.kept rack.new)
+        (λ links. GivesBack D.Incoming.left D.Incoming.faults D.Outgoing.written D.Outgoing.faults D.Outgoing.ended
+        (D.coming door.old) (D.coming door.new) (D.kept door.old) (D.kept door.new) (CameInFrames links)) }
     ensures refused { IfOk result (λ answer. answer.status ≡ refused_status
         → (rack.new ≡ rack.old) × (door.new ≡ door.old)) }
     ensures not_listened { result ≡ Err ServeFault.Rack → door.new ≡ door.old }
@@ -82,6 +86,9 @@ fn served<R: Rack, D: Door, T: Threads + Wait + Sync>(
         (D.coming door.old) (D.coming door.new) (D.kept door.old) (D.kept door.new)
         (λ came back. ServeLeaves session.now count (R.made rack.old) (R.made rack.new) result
         (record { links = links; came = came; back = back }))) }
+    ensures in_frames { Keeps R.L.faults R.L.quiets R.L.gots R.L.held R.L.telling (R.kept rack.old) (R.kept rack.new)
+        (λ links. GivesBack D.Incoming.left D.Incoming.faults D.Outgoing.written D.Outgoing.faults D.Outgoing.ended
+        (D.coming door.old) (D.coming door.new) (D.kept door.old) (D.kept door.new) (CameInFrames links)) }
     ensures not_listened { result ≡ Err ServeFault.Rack → door.new ≡ door.old }
     ensures none_out { D.out door.new ≡ D.out door.old }
     ensures listens { Listens port (IsOk result) (D.ports door.old) (D.ports door.new) }

@@ -84,7 +84,7 @@ same_head law tells m n is =
     let opening : opening_of (tells n.link) ≡ opening_of (tells m.link) = told.2 in
     cc
 
-shown_at : {L : Type 0} (tells : L → Option Telling) (ms ns : List (LaneState L)) (i : ℕ) (m n : LaneState L)
+pub shown_at : {L : Type 0} (tells : L → Option Telling) (ms ns : List (LaneState L)) (i : ℕ) (m n : LaneState L)
     → map (shown tells) ns ≡ map (shown tells) ms → slice_get ms i ≡ Some m → slice_get ns i ≡ Some n
     → shown tells n ≡ shown tells m
 shown_at tells [] ns i m n is em en = absurd (none-some m em)
@@ -95,10 +95,21 @@ shown_at tells (x ∷ ms) (y ∷ ns) zero m n is em en =
 shown_at tells (x ∷ ms) (y ∷ ns) (suc i) m n is em en =
     let tail : map (shown tells) ns ≡ map (shown tells) ms = cc in shown_at tells ms ns i m n tail em en
 
+-- the entries of a lane are told by what is shown of it
+pub same_items : {L : Type 0} → TellsLaw → (tells : L → Option Telling) (m n : LaneState L)
+    → shown tells n ≡ shown tells m → n.items ≡ m.items
+same_items law tells m n is =
+    (law n.settings m.settings n.status m.status (tells n.link) (tells m.link) n.items m.items is).3
+
+pub returned_long : {L : Type 0} (tells : L → Option Telling) (olds news : List (LaneState L))
+    → map (shown tells) news ≡ map (shown tells) olds → length news ≡ length olds
+returned_long tells olds news is =
+    sym (length-map news (shown tells)) ∙ (ap (λ (l : List Record). length l) is ∙ length-map olds (shown tells))
+
 pub heads_returned : {L : Type 0} → TellsLaw → (tells : L → Option Telling) (olds news : List (LaneState L))
     → map (shown tells) news ≡ map (shown tells) olds → AtEach olds news (λ lane. KeepsHead tells)
 heads_returned law tells olds news is = record {
-  long = sym (length-map news (shown tells)) ∙ (ap (λ (l : List Record). length l) is ∙ length-map olds (shown tells));
+  long = returned_long tells olds news is;
   each = λ i m n em en. same_head law tells m n (shown_at tells olds news i m n is em en);
 }
 
@@ -112,8 +123,8 @@ passes_long lane (s ∷ seats) [] are = absurd are
 passes_long lane (s ∷ seats) (p ∷ passes) are = ap suc (passes_long lane seats passes are.1)
 
 -- what the master knows of a lane that came back
-record LaneBack {L : Type 0} (tells : L → Option Telling) (lane : ℕ) (seats : List SeatState) (old new : LaneState L)
-    : Type 0 where
+pub record LaneBack {L : Type 0} (tells : L → Option Telling) (lane : ℕ) (seats : List SeatState)
+    (old new : LaneState L) : Type 0 where
   pub after : Knowledge
   pub passes : List Joined
   pub took : TookIn passes (first_knowledge (shown tells old)) after
@@ -134,7 +145,7 @@ zip_at P (a ∷ xs) (b ∷ ys) zero x y all ex ey =
     subst (λ z. P z y) (same_Some a x ex) (subst (P a) (same_Some b y ey) all.0)
 zip_at P (a ∷ xs) (b ∷ ys) (suc i) x y all ex ey = zip_at P xs ys i x y all.1 ex ey
 
-ended_long : {L : Type 0} (tells : L → Option Telling) (olds news : List (LaneState L)) (seats : List SeatState)
+pub ended_long : {L : Type 0} (tells : L → Option Telling) (olds news : List (LaneState L)) (seats : List SeatState)
     (m end' : MasterState) → m.knows ≡ map first_knowledge (map (shown tells) olds)
     → AreTakenIn (with_seats m (length seats)) end' seats → AreEnded end'.knows (map (shown tells) news)
     → length news ≡ length olds
@@ -148,7 +159,7 @@ ended_long tells olds news seats m end' opened taken ended =
     let h = length-map olds (shown tells) in
     omega (arith, a, b, c, d, e, f, h)
 
-lane_at : {L : Type 0} (tells : L → Option Telling) (olds news : List (LaneState L)) (seats : List SeatState)
+pub lane_at : {L : Type 0} (tells : L → Option Telling) (olds news : List (LaneState L)) (seats : List SeatState)
     (m end' : MasterState) (lane : ℕ) (old new : LaneState L)
     → m.knows ≡ map first_knowledge (map (shown tells) olds)
     → AreTakenIn (with_seats m (length seats)) end' seats → AreEnded end'.knows (map (shown tells) news)
@@ -199,20 +210,25 @@ heads_back law tells olds news seats m end' opened taken ended = record {
 both_long : (a b c d : ℕ) → a ≡ b → b ≡ c → a + d ≡ c + d
 both_long a b c d x y = omega (arith, x, y)
 
+-- all seats were taken in
+pub all_seats : {I O : Type 0} {shows : I × O → PairReport} {boards : List BoardState} {turns : List TurnId}
+    {seats : List SeatState} {start end' : MasterState} {coming coming_now kept kept_now : Option (List (I × O))}
+    → (b : AllBack shows boards turns seats start end' coming coming_now kept kept_now)
+    → length (seats_of b.dones ++ b.others) ≡ length seats
+all_seats {I} {O} {shows} {boards} b = length-append (seats_of b.dones) b.others
+    ∙ (both_long (length (seats_of b.dones)) (length b.dones) (length b.befores) (length b.others)
+    (length-map b.dones (λ (d : Done I O). d.seat)) (each_long shows boards b.befores b.came b.dones b.each)
+    ∙ (sym (length-append b.befores b.others) ∙ ap (λ (l : List SeatState). length l) b.all))
+
 pub heads_of : {L I O : Type 0} {shows : I × O → PairReport} {boards : List BoardState} {turns : List TurnId}
     {coming coming_now kept kept_now : Option (List (I × O))} → BackLaw → (tells : L → Option Telling)
     (olds news : List (LaneState L)) (seats : List SeatState) (m end' : MasterState)
     → m.knows ≡ map first_knowledge (map (shown tells) olds)
     → (b : AllBack shows boards turns seats (with_seats m (length seats)) end' coming coming_now kept kept_now)
     → AreEnded end'.knows (map (shown tells) news) → AtEach olds news (λ lane. KeepsHead tells)
-heads_of {L} {I} {O} {shows} {boards} law tells olds news seats m end' opened b ended =
-    let many : length (seats_of b.dones ++ b.others) ≡ length seats =
-    length-append (seats_of b.dones) b.others
-    ∙ (both_long (length (seats_of b.dones)) (length b.dones) (length b.befores) (length b.others)
-    (length-map b.dones (λ (d : Done I O). d.seat)) (each_long shows boards b.befores b.came b.dones b.each)
-    ∙ (sym (length-append b.befores b.others) ∙ ap (λ (l : List SeatState). length l) b.all)) in
+heads_of law tells olds news seats m end' opened b ended =
     heads_back law tells olds news (seats_of b.dones ++ b.others) m end' opened
-    (subst (λ n. AreTakenIn (with_seats m n) end' (seats_of b.dones ++ b.others)) (sym many) b.taken_in) ended
+    (subst (λ n. AreTakenIn (with_seats m n) end' (seats_of b.dones ++ b.others)) (sym (all_seats b)) b.taken_in) ended
 
 -- ---- what each connection submitted
 

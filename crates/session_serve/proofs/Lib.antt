@@ -5,4 +5,7 @@ pub mod Standing
 pub mod EachDone
 pub mod Rules
 pub mod AtHub
+pub mod Planned
+pub mod LanePlans
 pub mod Reporting
+pub mod Executing

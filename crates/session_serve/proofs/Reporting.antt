@@ -91,11 +91,11 @@ from_each xs ys holds at = record {
   each = λ i x y ex ey. subst (λ n. holds n x y) (omega arith) (at.each i x y ex ey);
 }
 
-first_of : {A B : Type 0} (lane : ℕ) (x : A) (xs : List A) (y : B) (ys : List B) (holds : ℕ → A → B → Type 0)
+pub first_of : {A B : Type 0} (lane : ℕ) (x : A) (xs : List A) (y : B) (ys : List B) (holds : ℕ → A → B → Type 0)
     → SideBySide lane (x ∷ xs) (y ∷ ys) holds → holds lane x y
 first_of lane x xs y ys holds side = subst (λ n. holds n x y) (omega arith) (side.each 0 x y refl refl)
 
-rest_of : {A B : Type 0} (lane : ℕ) (x : A) (xs : List A) (y : B) (ys : List B) (holds : ℕ → A → B → Type 0)
+pub rest_of : {A B : Type 0} (lane : ℕ) (x : A) (xs : List A) (y : B) (ys : List B) (holds : ℕ → A → B → Type 0)
     → SideBySide lane (x ∷ xs) (y ∷ ys) holds → SideBySide (lane + 1) xs ys holds
 rest_of lane x xs y ys holds side = record {
   long = (let l = side.long in omega (arith, l));

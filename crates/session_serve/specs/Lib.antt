@@ -1,10 +1,12 @@
 pub mod Connections
 pub mod Refusals
 pub mod Boards
+pub mod Executed
 pub mod Faults
 pub mod Serving
 pub mod Seats
 pub mod Room
 pub mod Hubs
 pub mod Finish
+pub mod Plans
 pub mod Prepared

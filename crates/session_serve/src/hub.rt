@@ -13,6 +13,7 @@ ghost use Rattle.hub_session.specs.Serving.{IsLaneBelow};
 ghost use Rattle.board_greeting.specs.Boards.{HasNoEntry};
 ghost use Rattle.session_serve.specs.Hubs.{AllBack, AreServedAt, HasServedAll, KeepsHead, served_of, pairs_of};
 ghost use Rattle.session_serve.specs.Hubs.{seats_of};
+ghost use Rattle.session_serve.specs.Plans.{ArePlannedAt};
 ghost use Rattle.session_serve.specs.Room.{HasSeats};
 ghost use Rattle.session_serve.specs.Seats.{AreOfClientsFrom, AreTakenIn, IsBack, IsOpen, with_seats};
 ghost use Rattle.session_serve.specs.Serving.{AreBackFrom, HadMemory};
@@ -232,6 +233,9 @@ pub(crate) fn serve_at_hub<L: Link + Send + Drop, D: Door, T: Threads + Wait + S
         (λ came back. AreServedAt L.telling states.now lanes.items result.0.items came back served.items)) }
     ensures pairs { GivesBack D.Incoming.left D.Incoming.faults D.Outgoing.written D.Outgoing.faults D.Outgoing.ended
         (D.coming door.old) (D.coming door.new) (D.kept door.old) (D.kept door.new) (AreBackFrom states.now) }
+    ensures planned { GivesBack D.Incoming.left D.Incoming.faults D.Outgoing.written D.Outgoing.faults D.Outgoing.ended
+        (D.coming door.old) (D.coming door.new) (D.kept door.old) (D.kept door.new)
+        (ArePlannedAt states.now lanes.items result.0.items) }
     ensures all { IfOk result.1 (λ served. length served.items ≡ count) }
     ensures had_memory { IfOk result.1 (λ served. AllByRecursion HadMemory served.items) }
     ensures none_out { D.out door.new ≡ D.out door.old }

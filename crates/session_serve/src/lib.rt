@@ -7,6 +7,7 @@
 mod connection;
 mod finish;
 mod hub;
+pub mod laws;
 mod prepared;
 mod report;
 mod room;

@@ -9,6 +9,7 @@ ghost use Rattle.lane_history.specs.Links.{IsUntouched};
 ghost use Rattle.board_greeting.specs.Boards.{AreReached, HasMemory, HasRoom, shown_by};
 ghost use Rattle.board_greeting.specs.Links.{AreMadeFor, CanBeReached, Keeps};
 ghost use Rattle.session_serve.specs.Boards.{AreLinksTo};
+ghost use Rattle.session_serve.specs.Executed.{CameInFrames};
 ghost use Rattle.session_serve.specs.Prepared.{IsReady};
 ghost use Rattle.session_serve.specs.Serving.{AreBack, AreServed, HadMemory};
 
@@ -24,6 +25,7 @@ use client_history::connections::{
 };
 use hub_lane::Greeted;
 use ipb_outside::Door;
+use lane_history::records::a_board_executes_a_merge_at_any_moment;
 use lossy_network::Rack;
 use reliable_engine::Settings;
 use std::alloc::Global;
@@ -57,6 +59,9 @@ fn serve_split<R: Rack, D: Door, T: Threads + Wait + Sync>(
         (λ links. AreLinksTo specs.now links × (length links ≡ length specs.now)) }
     ensures pairs { GivesBack D.Incoming.left D.Incoming.faults D.Outgoing.written D.Outgoing.faults D.Outgoing.ended
         (D.coming door.old) (D.coming door.new) (D.kept door.old) (D.kept door.new) AreBack }
+    ensures in_frames { Keeps R.L.faults R.L.quiets R.L.gots R.L.held R.L.telling (R.kept rack.old) (R.kept rack.new)
+        (λ links. GivesBack D.Incoming.left D.Incoming.faults D.Outgoing.written D.Outgoing.faults D.Outgoing.ended
+        (D.coming door.old) (D.coming door.new) (D.kept door.old) (D.kept door.new) (CameInFrames links)) }
     ensures none_out { D.out door.new ≡ D.out door.old }
     ensures listens { Listens port (IsOk result) (D.ports door.old) (D.ports door.new) }
     ensures made { R.made rack.new ≡ R.made rack.old }
@@ -69,6 +74,7 @@ fn serve_split<R: Rack, D: Door, T: Threads + Wait + Sync>(
     connections_of_a_hub_leave_what_they_submitted();
     a_finished_lane_was_served();
     a_finished_lane_tells_the_numbers_of_its_line();
+    a_board_executes_a_merge_at_any_moment();
     let Split {
         places,
         positions: _,
@@ -119,6 +125,9 @@ fn serve_greeted<R: Rack, D: Door, T: Threads + Wait + Sync>(
         (λ links. AreLinksTo specs.now links × (length links ≡ length specs.now)) }
     ensures pairs { GivesBack D.Incoming.left D.Incoming.faults D.Outgoing.written D.Outgoing.faults D.Outgoing.ended
         (D.coming door.old) (D.coming door.new) (D.kept door.old) (D.kept door.new) AreBack }
+    ensures in_frames { Keeps R.L.faults R.L.quiets R.L.gots R.L.held R.L.telling (R.kept rack.old) (R.kept rack.new)
+        (λ links. GivesBack D.Incoming.left D.Incoming.faults D.Outgoing.written D.Outgoing.faults D.Outgoing.ended
+        (D.coming door.old) (D.coming door.new) (D.kept door.old) (D.kept door.new) (CameInFrames links)) }
     ensures none_out { D.out door.new ≡ D.out door.old }
     ensures listens { Listens port (IsOk result) (D.ports door.old) (D.ports door.new) }
     ensures made { R.made rack.new ≡ R.made rack.old }
@@ -182,6 +191,11 @@ pub fn serve_session<R: Rack, D: Door, T: Threads + Wait + Sync>(
     ensures pairs { GivesBack D.Incoming.left D.Incoming.faults D.Outgoing.written D.Outgoing.faults D.Outgoing.ended
         (D.coming door.old) (D.coming door.new) (D.kept door.old) (D.kept door.new) AreBack }
     ensures none_out { D.out door.new ≡ D.out door.old }
+
+    // Whatever came of it, over a link that tells no board executed a body that no frame of a connection had for it.
+    ensures in_frames { Keeps R.L.faults R.L.quiets R.L.gots R.L.held R.L.telling (R.kept rack.old) (R.kept rack.new)
+        (λ links. GivesBack D.Incoming.left D.Incoming.faults D.Outgoing.written D.Outgoing.faults D.Outgoing.ended
+        (D.coming door.old) (D.coming door.new) (D.kept door.old) (D.kept door.new) (CameInFrames links)) }
 
     // The door listened on the port once, and on no other; where there is no report, once or not at all.
     ensures listens { Listens port (IsOk result) (D.ports door.old) (D.ports door.new) }

@@ -388,3 +388,9 @@ returns-in_ok-serve_document-in-Serve-clause-listens g c port count asked =
     let ports_now = g.D.Door.ports c.serve_document.new.door in
     subst (λ p. Listens p (IsNoRefusal answer) ports ports_now)
     (one_port c.args.command.now port count _ _ c.in-Serve.is asked) c.in_ok-serve_document-in-Serve.ensures.listens
+
+pub returns-in_err-serve_document-in-Serve-clause-in_frames : goal.returns-in_err-serve_document-in-Serve-clause-in_frames
+returns-in_err-serve_document-in-Serve-clause-in_frames g c port count asked = c.serve_document.ensures.in_frames
+
+pub returns-in_ok-serve_document-in-Serve-clause-in_frames : goal.returns-in_ok-serve_document-in-Serve-clause-in_frames
+returns-in_ok-serve_document-in-Serve-clause-in_frames g c port count asked = c.serve_document.ensures.in_frames

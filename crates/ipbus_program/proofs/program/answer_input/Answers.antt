@@ -1,7 +1,10 @@
 use Rattle.std.proofs.Common.{◌≡◌, ◌+◌, ◌≤◌, ◌∙◌, inl, refl, sym, ap, length, vec_len, arith, subst, [], Ok, Err, rules}
+use Rattle.std.proofs.Common.{append-nil}
 use Rattle.ipb_outside.specs.Told.{TakesAtMost, TakesCount}
 use Rattle.board_greeting.specs.Boards.{shown_by}
+use Rattle.session_serve.specs.Executed.{CameInFrames}
 use Rattle.session_serve.specs.Serving.{AreBack}
+use Rattle.session_serve.proofs.Executing.{none_executed}
 use Rattle.command_terms.specs.Leaving.{Leaves}
 use Rattle.command_terms.specs.Outside.{no_pairs}
 use Rattle.command_terms.proofs.Pairs.{therefore, without_pairs}
@@ -102,3 +105,35 @@ pub returns-in_err-too_long-in-Err-TooLong-clause-listens : goal.returns-in_err-
 returns-in_err-too_long-in-Err-TooLong-clause-listens g c port count asked =
     let ports = g.D.Door.ports c.args.door.now in
     failed_listens port ports ports c.from_residual.result c.from_residual.ensures.0 (inl refl)
+
+pub returns-in_ok-too_long-in-Err-TooLong-clause-in_frames : goal.returns-in_ok-too_long-in-Err-TooLong-clause-in_frames
+returns-in_ok-too_long-in-Err-TooLong-clause-in_frames g c port count asked =
+    let shown = shown_by g.R.L.Link.faults g.R.L.Link.quiets g.R.L.Link.gots g.R.L.Link.held g.R.L.Link.telling in
+    without_pairs shown g.D.Incoming.Source.left g.D.Incoming.Source.faults
+    g.D.Outgoing.Sink.written g.D.Outgoing.Sink.faults g.D.Outgoing.Sink.ended
+    _ _ _ _ _ _ refl refl
+    (λ given. CameInFrames given.links given.came given.back) ([], sym (append-nil _), none_executed [] tt)
+
+pub returns-in_err-too_long-in-Err-TooLong-clause-in_frames : goal.returns-in_err-too_long-in-Err-TooLong-clause-in_frames
+returns-in_err-too_long-in-Err-TooLong-clause-in_frames g c port count asked =
+    let shown = shown_by g.R.L.Link.faults g.R.L.Link.quiets g.R.L.Link.gots g.R.L.Link.held g.R.L.Link.telling in
+    without_pairs shown g.D.Incoming.Source.left g.D.Incoming.Source.faults
+    g.D.Outgoing.Sink.written g.D.Outgoing.Sink.faults g.D.Outgoing.Sink.ended
+    _ _ _ _ _ _ refl refl
+    (λ given. CameInFrames given.links given.came given.back) ([], sym (append-nil _), none_executed [] tt)
+
+pub returns-in-Err-Failed-clause-in_frames : goal.returns-in-Err-Failed-clause-in_frames
+returns-in-Err-Failed-clause-in_frames g c port count asked =
+    let shown = shown_by g.R.L.Link.faults g.R.L.Link.quiets g.R.L.Link.gots g.R.L.Link.held g.R.L.Link.telling in
+    without_pairs shown g.D.Incoming.Source.left g.D.Incoming.Source.faults
+    g.D.Outgoing.Sink.written g.D.Outgoing.Sink.faults g.D.Outgoing.Sink.ended
+    _ _ _ _ _ _ refl refl
+    (λ given. CameInFrames given.links given.came given.back) ([], sym (append-nil _), none_executed [] tt)
+
+pub returns-in-Err-NoMemory-clause-in_frames : goal.returns-in-Err-NoMemory-clause-in_frames
+returns-in-Err-NoMemory-clause-in_frames g c port count asked =
+    let shown = shown_by g.R.L.Link.faults g.R.L.Link.quiets g.R.L.Link.gots g.R.L.Link.held g.R.L.Link.telling in
+    without_pairs shown g.D.Incoming.Source.left g.D.Incoming.Source.faults
+    g.D.Outgoing.Sink.written g.D.Outgoing.Sink.faults g.D.Outgoing.Sink.ended
+    _ _ _ _ _ _ refl refl
+    (λ given. CameInFrames given.links given.came given.back) ([], sym (append-nil _), none_executed [] tt)

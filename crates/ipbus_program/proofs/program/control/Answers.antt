@@ -2,6 +2,8 @@ use Rattle.std.proofs.Common.{string_bytes, Some, Ok, Err, [], ◌∙◌, ◌≤
 use Rattle.std.proofs.Common.{append-nil, sym, subst, arith, rules, refl}
 use Rattle.ipb_outside.specs.Told.{TakesCount}
 use Rattle.board_greeting.specs.Boards.{shown_by}
+use Rattle.session_serve.specs.Executed.{CameInFrames}
+use Rattle.session_serve.proofs.Executing.{none_executed}
 use Rattle.command_words.specs.declared.command.Command.TheVariants.{Serve}
 use Rattle.command_terms.specs.Numbers.{no_memory_status, rack_fault_status, read_fault_status, refused_status}
 use Rattle.command_terms.specs.Numbers.{door_fault_status, usage_status}
@@ -519,3 +521,46 @@ returns-clause-listens g c port count asked =
     let same = one_command c.args.words.now c.in-Ok-Some.command (Serve port count) are asked in
     listened_at_most _ no_memory_status port (g.D.Door.ports c.args.door.now)
     (g.D.Door.ports c.answer_command.new.door) (omega arith) (c.in-Err-NoMemory.ensures.listens port count same)
+
+pub returns-in-Ok-None-clause-in_frames : goal.returns-in-Ok-None-clause-in_frames
+returns-in-Ok-None-clause-in_frames g c port count asked =
+    let none : AreNoCommand c.args.words.now = search rules in
+    absurd (let never = sym none ∙ asked in cc)
+
+pub returns-in-Err-clause-in_frames : goal.returns-in-Err-clause-in_frames
+returns-in-Err-clause-in_frames g c port count asked =
+    let shown = shown_by g.R.L.Link.faults g.R.L.Link.quiets g.R.L.Link.gots g.R.L.Link.held g.R.L.Link.telling in
+    without_pairs shown g.D.Incoming.Source.left g.D.Incoming.Source.faults
+    g.D.Outgoing.Sink.written g.D.Outgoing.Sink.faults g.D.Outgoing.Sink.ended
+    _ _ _ _ _ _ refl refl
+    (λ given. CameInFrames given.links given.came given.back) ([], sym (append-nil _), none_executed [] tt)
+
+pub returns-in-Ok-clause-in_frames : goal.returns-in-Ok-clause-in_frames
+returns-in-Ok-clause-in_frames g c port count asked =
+    let are : AreCommand c.args.words.now c.in-Ok-Some.command = search rules in
+    c.answer_command.ensures.in_frames port count
+    (one_command c.args.words.now c.in-Ok-Some.command (Serve port count) are asked)
+
+pub returns-in-Err-ReadFault-clause-in_frames : goal.returns-in-Err-ReadFault-clause-in_frames
+returns-in-Err-ReadFault-clause-in_frames g c port count asked =
+    let are : AreCommand c.args.words.now c.in-Ok-Some.command = search rules in
+    c.answer_command.ensures.in_frames port count
+    (one_command c.args.words.now c.in-Ok-Some.command (Serve port count) are asked)
+
+pub returns-in-Err-RackFault-clause-in_frames : goal.returns-in-Err-RackFault-clause-in_frames
+returns-in-Err-RackFault-clause-in_frames g c port count asked =
+    let are : AreCommand c.args.words.now c.in-Ok-Some.command = search rules in
+    c.answer_command.ensures.in_frames port count
+    (one_command c.args.words.now c.in-Ok-Some.command (Serve port count) are asked)
+
+pub returns-in-Err-DoorFault-clause-in_frames : goal.returns-in-Err-DoorFault-clause-in_frames
+returns-in-Err-DoorFault-clause-in_frames g c port count asked =
+    let are : AreCommand c.args.words.now c.in-Ok-Some.command = search rules in
+    c.answer_command.ensures.in_frames port count
+    (one_command c.args.words.now c.in-Ok-Some.command (Serve port count) are asked)
+
+pub returns-clause-in_frames : goal.returns-clause-in_frames
+returns-clause-in_frames g c port count asked =
+    let are : AreCommand c.args.words.now c.in-Ok-Some.command = search rules in
+    c.answer_command.ensures.in_frames port count
+    (one_command c.args.words.now c.in-Ok-Some.command (Serve port count) are asked)

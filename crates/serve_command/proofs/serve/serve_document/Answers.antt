@@ -1,9 +1,11 @@
-use Rattle.std.proofs.Common.{inl, refl, rules}
+use Rattle.std.proofs.Common.{[], append-nil, inl, refl, rules, sym}
 use Rattle.session_input.specs.Deserved.{BreaksInServe, Deserves}
 use Rattle.board_greeting.specs.Boards.{shown_by}
 use Rattle.session_serve.specs.declared.report.ServeFault.TheVariants.{NoMemory, Rack}
 use Rattle.session_serve.specs.Faults.{IsServeFailure}
+use Rattle.session_serve.specs.Executed.{CameInFrames}
 use Rattle.session_serve.specs.Serving.{AreBack}
+use Rattle.session_serve.proofs.Executing.{none_executed}
 use Rattle.session_serve.proofs.Standing.{none_served}
 use Rattle.command_terms.specs.Documents.{IsRefusedDocument}
 use Rattle.command_terms.specs.Leaving.{Leaves}
@@ -98,3 +100,27 @@ pub returns-in_err-refused-in-Err-Refused-clause-listens : goal.returns-in_err-r
 returns-in_err-refused-in-Err-Refused-clause-listens g c =
     let ports = g.D.Door.ports c.args.door.now in
     failed_listens c.args.port ports ports c.from_residual.result c.from_residual.ensures.0 (inl refl)
+
+pub returns-in_err-refused-in-Err-Refused-clause-in_frames : goal.returns-in_err-refused-in-Err-Refused-clause-in_frames
+returns-in_err-refused-in-Err-Refused-clause-in_frames g c =
+    let shown = shown_by g.R.L.Link.faults g.R.L.Link.quiets g.R.L.Link.gots g.R.L.Link.held g.R.L.Link.telling in
+    without_pairs shown g.D.Incoming.Source.left g.D.Incoming.Source.faults
+    g.D.Outgoing.Sink.written g.D.Outgoing.Sink.faults g.D.Outgoing.Sink.ended
+    _ _ _ _ _ _ refl refl
+    (λ given. CameInFrames given.links given.came given.back) ([], sym (append-nil _), none_executed [] tt)
+
+pub returns-in_ok-refused-in-Err-Refused-clause-in_frames : goal.returns-in_ok-refused-in-Err-Refused-clause-in_frames
+returns-in_ok-refused-in-Err-Refused-clause-in_frames g c =
+    let shown = shown_by g.R.L.Link.faults g.R.L.Link.quiets g.R.L.Link.gots g.R.L.Link.held g.R.L.Link.telling in
+    without_pairs shown g.D.Incoming.Source.left g.D.Incoming.Source.faults
+    g.D.Outgoing.Sink.written g.D.Outgoing.Sink.faults g.D.Outgoing.Sink.ended
+    _ _ _ _ _ _ refl refl
+    (λ given. CameInFrames given.links given.came given.back) ([], sym (append-nil _), none_executed [] tt)
+
+pub returns-in-Err-NoMemory-clause-in_frames : goal.returns-in-Err-NoMemory-clause-in_frames
+returns-in-Err-NoMemory-clause-in_frames g c =
+    let shown = shown_by g.R.L.Link.faults g.R.L.Link.quiets g.R.L.Link.gots g.R.L.Link.held g.R.L.Link.telling in
+    without_pairs shown g.D.Incoming.Source.left g.D.Incoming.Source.faults
+    g.D.Outgoing.Sink.written g.D.Outgoing.Sink.faults g.D.Outgoing.Sink.ended
+    _ _ _ _ _ _ refl refl
+    (λ given. CameInFrames given.links given.came given.back) ([], sym (append-nil _), none_executed [] tt)

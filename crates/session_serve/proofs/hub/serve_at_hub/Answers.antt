@@ -10,6 +10,7 @@ use Rattle.session_serve.specs.Seats.{AreOfClientsFrom, IsOpen, with_seats}
 use Rattle.session_serve.specs.Serving.{HadMemory}
 use Rattle.session_serve.proofs.AtHub.{heads_of, heads_returned, opens_all, served_at}
 use Rattle.session_serve.proofs.EachDone.{both_ok, each_served}
+use Rattle.session_serve.proofs.LanePlans.{planned_at, planned_none}
 use Rattle.session_serve.proofs.Lists.{came_none, went_none}
 use Rattle.session_serve.proofs.Seating.{clients_front}
 use Rattle.session_serve.proofs.hub.serve_at_hub.Goals as goal
@@ -100,4 +101,33 @@ returns-in-Err-clause-pairs g c = (
   came_none (g.D.Door.coming c.args.door.now),
   went_none (g.D.Door.kept c.args.door.now),
   record { served = []; each = tt },
+)
+
+pub returns-in-Ok-clause-planned : goal.returns-in-Ok-clause-planned
+returns-in-Ok-clause-planned g c =
+    let shows = pair_shown g.D.Incoming.Source.left g.D.Incoming.Source.faults g.D.Outgoing.Sink.written
+    g.D.Outgoing.Sink.faults
+    g.D.Outgoing.Sink.ended in
+    let door = c.serve_under_seats-served.new.door in
+    let coming = g.D.Door.coming in
+    let kept = g.D.Door.kept in
+    let all = c.serve_under_seats-served.ensures.all_back in
+    let b = all.1 in (
+      b.came,
+      pairs_of b.dones,
+      b.came',
+      b.went,
+      planned_at g.L.Link.telling shows c.args.states.now c.in-Ok.hub.turns c.args.lanes.items c.finish.result.items
+          all.0 c.in-Ok.master c.serve_under_seats-served.new.master (coming c.args.door.now) (coming door)
+          (kept c.args.door.now) (kept door) c.in-Ok.ensures.master c.requires.unused c.finish.ensures b,
+    )
+
+pub returns-in-Err-clause-planned : goal.returns-in-Err-clause-planned
+returns-in-Err-clause-planned g c = (
+  [],
+  [],
+  came_none (g.D.Door.coming c.args.door.now),
+  went_none (g.D.Door.kept c.args.door.now),
+  planned_none c.a_record_tells_its_lane.ensures g.L.Link.telling c.args.states.now c.args.lanes.items
+      c.in-Err.returned.lanes.items c.requires.unused c.in-Err.ensures.returned,
 )

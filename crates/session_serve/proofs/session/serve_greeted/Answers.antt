@@ -4,6 +4,7 @@ use Rattle.hub_lane.specs.declared.greeting.Greeted.{Greeted}
 use Rattle.hub_lane.specs.Greeting.{link_of}
 use Rattle.board_greeting.specs.Boards.{AreReached, HasRoom, shown_by}
 use Rattle.session_serve.specs.Prepared.{IsPrepared, told_by}
+use Rattle.session_serve.proofs.Executing.{greeted_untouched, none_executed}
 use Rattle.session_serve.proofs.Lists.{came_none, went_none}
 use Rattle.session_serve.proofs.Reporting.{links_reached}
 use Rattle.session_serve.proofs.session.serve_greeted.Goals as goal
@@ -80,3 +81,41 @@ returns-in-Err-clause-pairs g c = (
   went_none (g.D.Door.kept c.args.door.now),
   ([], record { served = []; each = tt }),
 )
+
+pub returns-in_default-clause-in_frames : goal.returns-in_default-clause-in_frames
+returns-in_default-clause-in_frames g c =
+    let link = g.R.L.Link in
+    let shows = shown_by link.faults link.quiets link.gots link.held link.telling in
+    let boards = c.args.boards.items in
+    let links = map (λ (b : Greeted _). link_of b) boards in (
+      links,
+      c.keep_all.ensures.kept,
+      (
+        [],
+        [],
+        came_none (g.D.Door.coming c.args.door.now),
+        went_none (g.D.Door.kept c.args.door.now),
+        none_executed (map shows links)
+            (greeted_untouched shows c.args.settings c.args.specs.now boards c.requires.reached),
+      ),
+    )
+
+pub returns-in-Err-clause-in_frames : goal.returns-in-Err-clause-in_frames
+returns-in-Err-clause-in_frames g c =
+    let link = g.R.L.Link in
+    let shows = shown_by link.faults link.quiets link.gots link.held link.telling in
+    let boards = c.in-Err.boards.items in
+    let links = map (λ (b : Greeted _). link_of b) boards in
+    let same : boards ≡ c.args.boards.items =
+    ap (λ (v : Vec (Greeted _) _). v.items) c.in-Err.ensures.given_back in (
+      links,
+      c.keep_all-in-Err.ensures.kept,
+      (
+        [],
+        [],
+        came_none (g.D.Door.coming c.args.door.now),
+        went_none (g.D.Door.kept c.args.door.now),
+        none_executed (map shows links) (greeted_untouched shows c.args.settings c.args.specs.now boards
+            (subst (AreReached shows c.args.settings c.args.specs.now) (sym same) c.requires.reached)),
+      ),
+    )

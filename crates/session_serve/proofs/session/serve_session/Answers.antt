@@ -4,7 +4,9 @@ use Rattle.ipb_outside.specs.Pairs.{GivesBack}
 use Rattle.board_greeting.specs.Boards.{shown_by}
 use Rattle.board_greeting.specs.Links.{Keeps}
 use Rattle.board_greeting.proofs.Boards.{made_still}
+use Rattle.session_serve.specs.Executed.{CameInFrames}
 use Rattle.session_serve.specs.Serving.{AreServed}
+use Rattle.session_serve.proofs.Executing.{none_executed}
 use Rattle.session_serve.proofs.Lists.{came_none, went_none}
 use Rattle.session_serve.proofs.Reporting.{untouched_links}
 use Rattle.session_serve.proofs.session.serve_session.Goals as goal
@@ -62,3 +64,29 @@ returns-clause-links g c =
 pub returns-clause-rack_unfaulted : goal.returns-clause-rack_unfaulted
 returns-clause-rack_unfaulted g c =
     λ no_rack. c.serve_greeted.ensures.rack_faults ∙ c.in_ok-boards.ensures.unfaulted (λ e. cc)
+
+pub returns-in_err-boards-clause-in_frames : goal.returns-in_err-boards-clause-in_frames
+returns-in_err-boards-clause-in_frames g c =
+    let link = g.R.L.Link in
+    let shows = shown_by link.faults link.quiets link.gots link.held link.telling in
+    let left = c.in_err-boards.ensures.left in (
+      left.0,
+      left.1,
+      (
+        [],
+        [],
+        came_none (g.D.Door.coming c.args.door.now),
+        went_none (g.D.Door.kept c.args.door.now),
+        none_executed (map shows left.0)
+            (untouched_links c.args.settings c.args.specs.now (map shows left.0) left.2.0).1,
+      ),
+    )
+
+pub returns-clause-in_frames : goal.returns-clause-in_frames
+returns-clause-in_frames g c =
+    let link = g.R.L.Link in
+    subst (λ kept. Keeps link.faults link.quiets link.gots link.held link.telling kept
+    (g.R.Rack.kept c.serve_greeted.new.rack) (λ links. GivesBack g.D.Incoming.Source.left g.D.Incoming.Source.faults
+    g.D.Outgoing.Sink.written g.D.Outgoing.Sink.faults g.D.Outgoing.Sink.ended (g.D.Door.coming c.args.door.now)
+    (g.D.Door.coming c.serve_greeted.new.door) (g.D.Door.kept c.args.door.now) (g.D.Door.kept c.serve_greeted.new.door)
+    (CameInFrames links))) c.in_ok-boards.ensures.kept c.serve_greeted.ensures.in_frames

@@ -14,6 +14,7 @@ use Rattle.session_serve.specs.Boards.{AreLinksTo}
 use Rattle.session_serve.specs.Finish.{IsSound, link_in}
 use Rattle.session_serve.specs.Hubs.{AreServedAt, KeepsHead}
 use Rattle.session_serve.specs.declared.report.ServeFault.TheVariants.{Door}
+use Rattle.session_serve.proofs.Executing.{came_in_frames}
 use Rattle.session_serve.proofs.Reporting.{are_served, from_each, links_to, rejoined_long}
 use Rattle.session_serve.specs.Prepared.{told_by}
 use Rattle.session_serve.proofs.Standing.{back_as_told, states_within}
@@ -212,3 +213,56 @@ returns-in-Err-clause-listens g c = (λ never. absurd cc, c.serve_at_hub-lanes.e
 pub returns-in-Err-clause-door_fault : goal.returns-in-Err-clause-door_fault
 returns-in-Err-clause-door_fault g c = λ failed.
     let same : c.in-Err.fault ≡ Door = cc in c.serve_at_hub-lanes.ensures.fault (c.in-Err.is ∙ ap Err same)
+
+-- no board executed a body of its own
+pub returns-in-Ok-clause-in_frames : goal.returns-in-Ok-clause-in_frames
+returns-in-Ok-clause-in_frames g c =
+    let link = g.R.L.Link in
+    let tells = link.telling in
+    let ready = c.requires.ready in
+    let apart = ready.apart in
+    let boards = apart.boards in
+    let news = c.serve_at_hub-lanes.result.0.items in
+    let is = c.of-boards.ensures ∙ (ap (λ p. rejoined p news c.new.result.items) apart.apart.places'
+    ∙ ap (λ l. rejoined (map place_of boards) news l) c.new.ensures.items) in
+    let ended = c.of-boards.result in
+    let planned = c.serve_at_hub-lanes.ensures.planned in (
+      map (λ b. link_in b) ended,
+      c.finish_boards.ensures.kept,
+      (
+        planned.0,
+        planned.1,
+        planned.2,
+        planned.3,
+        came_in_frames c.a_board_executes_a_merge_at_any_moment.ensures.merge link.faults link.quiets link.gots
+            link.held tells c.args.settings c.args.specs.now boards c.args.split.lanes.items news c.args.prepared.states
+            _ _ ended is apart.apart.lanes' ready.prepared'.states' apart.all apart.memory apart.reached
+            c.serve_at_hub-lanes.ensures.heads c.finish_boards.ensures.sound planned.4,
+      ),
+    )
+
+pub returns-in-Err-clause-in_frames : goal.returns-in-Err-clause-in_frames
+returns-in-Err-clause-in_frames g c =
+    let link = g.R.L.Link in
+    let tells = link.telling in
+    let ready = c.requires.ready in
+    let apart = ready.apart in
+    let boards = apart.boards in
+    let news = c.serve_at_hub-lanes.result.0.items in
+    let is = c.of-boards.ensures ∙ (ap (λ p. rejoined p news c.new.result.items) apart.apart.places'
+    ∙ ap (λ l. rejoined (map place_of boards) news l) c.new.ensures.items) in
+    let ended = c.of-boards.result in
+    let planned = c.serve_at_hub-lanes.ensures.planned in (
+      map (λ b. link_in b) ended,
+      c.finish_boards.ensures.kept,
+      (
+        planned.0,
+        planned.1,
+        planned.2,
+        planned.3,
+        came_in_frames c.a_board_executes_a_merge_at_any_moment.ensures.merge link.faults link.quiets link.gots
+            link.held tells c.args.settings c.args.specs.now boards c.args.split.lanes.items news c.args.prepared.states
+            _ _ ended is apart.apart.lanes' ready.prepared'.states' apart.all apart.memory apart.reached
+            c.serve_at_hub-lanes.ensures.heads c.finish_boards.ensures.sound planned.4,
+      ),
+    )
