@@ -15,6 +15,7 @@ use Rattle.board_node.specs.declared.spec.LinkSpec.{LinkSpec}
 use Rattle.board_node.specs.declared.spec.LinkSpec.TheVariants.{Sim, Udp}
 use Rattle.world_model.specs.Board.{Board, executed}
 use Rattle.world_model.specs.Settings.{AreLimits, Limits}
+use Rattle.world_core.specs.declared.link.Link.{Ghosts}
 use Rattle.world_core.specs.Telling.{IfTelling, Telling}
 use Rattle.board_node.specs.OpeningWords.{LinkNamesWords}
 use Rattle.lossy_network.specs.Racks.{telling_for}
@@ -23,7 +24,8 @@ use Rattle.hub_lane.specs.declared.greeting.Greeted.TheVariants.{Ready, Silent, 
 use Rattle.hub_lane.specs.Greeting.{CanBegin, IfDown, IfReady, IfSilent, StaysFresh, link_of}
 use Rattle.hub_lane.specs.Lanes.{IsGreeted, opened}
 use Rattle.lane_history.specs.Links.{IsBoardOf, IsUntouched, LinkReport, board_there}
-use Rattle.board_greeting.specs.Boards.{AreFreshLinks, AreReached, HasRoom, IsGreetedAs, IsReached, shown_by}
+use Rattle.board_greeting.specs.Boards.{AreFreshLinks, AreReached, HasRoom, IsGreetedAs, IsReached}
+use Rattle.board_greeting.specs.Reports.{shown_by}
 use Rattle.board_greeting.specs.Links.{AreMadeFor, link_specs}
 use Rattle.lane_history.specs.Links.{CanBeMade}
 
@@ -90,47 +92,50 @@ second_told : (P Q : Type 0) (telling : Option Telling) → IfSome telling (λ _
 second_told P Q None is = tt
 second_told P Q (Some t) is = is.1
 
-module _ {L : Type 0} (faults quiets gots held : L → ℕ) (telling : L → Option Telling) (settings : Limits) where
+module _ {L : Type 0} (seen : Ghosts L) (settings : Limits) where
   told_as : (link : L) (board : Greeted L)
       → IfReady board (λ lane. lane ≡ opened lane.link settings lane.status)
-      → IfReady board (λ lane. IfSome (telling lane.link) (IsGreeted settings lane.status))
+      → IfReady board (λ lane. IfSome (seen.telling lane.link) (IsGreeted settings lane.status))
       → IfSilent board (λ after rounds. (rounds ≡ settings.rounds)
-      × (64 * settings.rounds ≤ 64 * quiets after + gots after))
-      → IfSilent board (λ after rounds. IfSome (telling after)
-      (λ _. (settings.rounds ≤ quiets after) × (settings.rounds ≤ held after)))
-      → IfDown board (λ after. Rose (faults link) (faults after))
-      → IsUntouched (shown_by faults quiets gots held telling (link_of board))
-      → IsGreetedAs settings board (shown_by faults quiets gots held telling (link_of board))
+      × (64 * settings.rounds ≤ 64 * seen.quiets after + seen.gots after))
+      → IfSilent board (λ after rounds. IfSome (seen.telling after)
+      (λ _. (settings.rounds ≤ seen.quiets after) × (settings.rounds ≤ seen.held after)))
+      → IfDown board (λ after. Rose (seen.faults link) (seen.faults after))
+      → IsUntouched (shown_by seen (link_of board))
+      → IsGreetedAs settings board (shown_by seen (link_of board))
   told_as link (Ready lane) ready told silent quiet down untouched = record { opened' = ready; greeted = told }
   told_as link (Silent after rounds) ready told silent quiet down untouched = record {
     waited = silent.1;
-    quiet = first_told (settings.rounds ≤ quiets after) (settings.rounds ≤ held after) (telling after) quiet;
-    held = second_told (settings.rounds ≤ quiets after) (settings.rounds ≤ held after) (telling after) quiet;
+    quiet =
+        first_told (settings.rounds ≤ seen.quiets after) (settings.rounds ≤ seen.held after) (seen.telling after) quiet;
+    held =
+        second_told (settings.rounds ≤ seen.quiets after) (settings.rounds ≤ seen.held after) (seen.telling after)
+        quiet;
     untouched = untouched;
   }
   told_as link (Down after) ready told silent quiet down untouched =
       record { failed = omega (arith, down); untouched = untouched }
   told_as link (NoMemory after) ready told silent quiet down untouched = tt
 
-  pub is_reached : (spec : BoardSpec) (link : L) (board : Greeted L) → telling link ≡ telling_for spec.link
-      → IfTelling (telling link) (telling (link_of board)) (StaysFresh settings)
+  pub is_reached : (spec : BoardSpec) (link : L) (board : Greeted L) → seen.telling link ≡ telling_for spec.link
+      → IfTelling (seen.telling link) (seen.telling (link_of board)) (StaysFresh settings)
       → IfReady board (λ lane. lane ≡ opened lane.link settings lane.status)
-      → IfReady board (λ lane. IfSome (telling lane.link) (IsGreeted settings lane.status))
+      → IfReady board (λ lane. IfSome (seen.telling lane.link) (IsGreeted settings lane.status))
       → IfSilent board (λ after rounds. (rounds ≡ settings.rounds)
-      × (64 * settings.rounds ≤ 64 * quiets after + gots after))
-      → IfSilent board (λ after rounds. IfSome (telling after)
-      (λ _. (settings.rounds ≤ quiets after) × (settings.rounds ≤ held after)))
-      → IfDown board (λ after. Rose (faults link) (faults after))
-      → IsReached settings spec board (shown_by faults quiets gots held telling (link_of board))
+      × (64 * settings.rounds ≤ 64 * seen.quiets after + seen.gots after))
+      → IfSilent board (λ after rounds. IfSome (seen.telling after)
+      (λ _. (settings.rounds ≤ seen.quiets after) × (settings.rounds ≤ seen.held after)))
+      → IfDown board (λ after. Rose (seen.faults link) (seen.faults after))
+      → IsReached settings spec board (shown_by seen (link_of board))
   is_reached spec link board made fresh ready told silent quiet down =
-      let call = subst (λ (t : Option Telling). IfTelling t (telling (link_of board)) (StaysFresh settings)) made fresh
-      in
-      let untouched = untouched_there settings spec.link (telling (link_of board)) call in
+      let call = subst (λ (t : Option Telling). IfTelling t (seen.telling (link_of board)) (StaysFresh settings)) made
+      fresh in
+      let untouched = untouched_there settings spec.link (seen.telling (link_of board)) call in
       record {
         fresh = record {
-          board' = board_of_spec settings spec.link (telling (link_of board)) call;
+          board' = board_of_spec settings spec.link (seen.telling (link_of board)) call;
           untouched = untouched;
-          begins = begins_still settings (telling_for spec.link) (telling (link_of board)) call;
+          begins = begins_still settings (telling_for spec.link) (seen.telling (link_of board)) call;
         };
         as_told = told_as link board ready told silent quiet down untouched;
       }

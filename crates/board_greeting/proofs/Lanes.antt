@@ -21,7 +21,7 @@ use Rattle.lane_history.specs.Links.{IsBoardOf, LinkReport, board_there}
 use Rattle.lane_history.specs.Lanes.{IsSoundLane}
 use Rattle.lane_history.specs.Runs.{TellsPayload}
 use Rattle.board_history.specs.Runs.{opening_of as opens_with}
-use Rattle.board_greeting.specs.Reports.{OpenedWith, report_of}
+use Rattle.board_greeting.specs.Reports.{OpenedWith}
 use Rattle.hub_lane.specs.Heard.{HasHeard}
 use Rattle.hub_lane.specs.Lanes.{BoardStatus, HasToldStatus, IsGreeted, IsLane, LaneState, opening_of}
 use Rattle.hub_lane.specs.declared.greeting.Greeted.{Greeted}
@@ -119,28 +119,26 @@ opened_so (Udp address port wait) (Some n) is = absurd is
 abbrev pub SoundLaw : Type 0
 SoundLaw = (settings : Limits) (status : BoardStatus) (hub : Hub) (items : List Item)
     (outcomes : List (Option Outcome)) (lates : List (Option (List ℕ))) (give_ups : ℕ) (down spent : Bool)
-    (telling : Option Telling) (faults quiets gots held : ℕ) (opening : CellMap)
-    → IsLane settings status hub items outcomes lates give_ups down spent telling faults quiets
-    → IfSome telling (λ _. HasReached (settings.rounds * give_ups) held) → HasHeard outcomes gots
-    → IfSome telling (OpenedWith opening)
-    → IsSoundLane settings opening (report_of faults quiets gots held telling) items outcomes lates give_ups
+    (link : LinkReport) (opening : CellMap)
+    → IsLane settings status hub items outcomes lates give_ups down spent link.telling link.faults link.quiets
+    → IfSome link.telling (λ _. HasReached (settings.rounds * give_ups) link.held) → HasHeard outcomes link.gots
+    → IfSome link.telling (OpenedWith opening) → IsSoundLane settings opening link items outcomes lates give_ups
 
 pub at_end : {L : Type 0} → SoundLaw → (settings : Limits) (spec : BoardSpec) (lane : LaneState L)
-    (told : Option Telling) (faults quiets gots held : ℕ) → IsLaneTo settings spec told lane
+    (link : LinkReport) → IsLaneTo settings spec link.telling lane
     → IsLane lane.settings lane.status lane.hub lane.items lane.outcomes lane.lates lane.give_ups lane.down lane.spent
-    told faults quiets → IfSome told (λ _. HasReached (lane.settings.rounds * lane.give_ups) held)
-    → HasHeard lane.outcomes gots → IsEndedLane settings spec lane (report_of faults quiets gots held told)
-at_end {L} law settings spec lane told faults quiets gots held to is paid heard =
-    let here = board_known lane.status spec.link told to.board' is.told in
-    let shown = report_of faults quiets gots held told in
+    link.telling link.faults link.quiets
+    → IfSome link.telling (λ _. HasReached (lane.settings.rounds * lane.give_ups) link.held)
+    → HasHeard lane.outcomes link.gots → IsEndedLane settings spec lane link
+at_end {L} law settings spec lane link to is paid heard =
+    let here = board_known lane.status spec.link link.telling to.board' is.told in
     record {
       board' = here;
-      payload = payload_known lane.status spec.link (opening_of told) to.board' is.knows.mtu;
+      payload = payload_known lane.status spec.link (opening_of link.telling) to.board' is.knows.mtu;
       sound = subst (λ (s : Limits).
-          IsSoundLane s (opens_with spec.link) shown lane.items lane.outcomes lane.lates lane.give_ups)
+          IsSoundLane s (opens_with spec.link) link lane.items lane.outcomes lane.lates lane.give_ups)
           to.settings' (law lane.settings lane.status lane.hub lane.items lane.outcomes lane.lates lane.give_ups
-          lane.down lane.spent told faults quiets gots held (opens_with spec.link) is paid heard
-          (opened_so spec.link told here));
+          lane.down lane.spent link (opens_with spec.link) is paid heard (opened_so spec.link link.telling here));
     }
 
 -- ---- a lane that came back

@@ -31,8 +31,8 @@ use Rattle.lane_history.specs.Records.{has_become}
 use Rattle.lane_history.proofs.Merges.{sent_offered}
 use Rattle.lane_history.proofs.Waits.{count_cons}
 use Rattle.lane_history.specs.Lanes.{IsLateAsHanded, IsSoundLane, IsTrueOf, bodies_offered}
-use Rattle.lane_history.specs.Links.{board_there}
-use Rattle.board_greeting.specs.Reports.{OpenedWith, report_of}
+use Rattle.lane_history.specs.Links.{LinkReport, board_there}
+use Rattle.board_greeting.specs.Reports.{OpenedWith}
 
 abbrev pub TrueLaw : Type 0
 TrueLaw = (stopped : Bool) (limits : Limits) (hub : Hub) (outcomes : List (Option Outcome))
@@ -139,28 +139,26 @@ replies_counted (o ∷ os) = count_cons (has_become is_replied) o os
 
 pub sound_lane : TrueLaw → EachLateLaw → (settings : Limits) (status : BoardStatus) (hub : Hub) (items : List Item)
     (outcomes : List (Option Outcome)) (lates : List (Option (List ℕ))) (give_ups : ℕ) (down spent : Bool)
-    (telling : Option Telling) (faults quiets gots held : ℕ) (opening : CellMap)
-    → IsLane settings status hub items outcomes lates give_ups down spent telling faults quiets
-    → IfSome telling (λ _. HasReached (settings.rounds * give_ups) held) → HasHeard outcomes gots
-    → IfSome telling (OpenedWith opening)
-    → IsSoundLane settings opening (report_of faults quiets gots held telling) items outcomes lates give_ups
-sound_lane law each settings status hub items outcomes lates give_ups down spent telling faults quiets gots held
-    opening is paid heard opened = record {
+    (link : LinkReport) (opening : CellMap)
+    → IsLane settings status hub items outcomes lates give_ups down spent link.telling link.faults link.quiets
+    → IfSome link.telling (λ _. HasReached (settings.rounds * give_ups) link.held) → HasHeard outcomes link.gots
+    → IfSome link.telling (OpenedWith opening) → IsSoundLane settings opening link items outcomes lates give_ups
+sound_lane law each settings status hub items outcomes lates give_ups down spent link opening is paid heard
+    opened = record {
       kept = wider items outcomes hub.window settings.window give_ups (let w = is.knows.window in omega (arith, w))
           is.kept;
-      waited = waited_all settings.rounds give_ups hub.status_requests quiets
-          (subst (λ (r : ℕ). HasWaited r give_ups hub.status_requests quiets) is.knows.rounds is.waited);
-      heard = subst (λ (n : ℕ). HasReached (n + 1) gots)
-          (sym (replies_counted outcomes)) heard;
-      lost = lost_if (down ≡ true) (1 ≤ faults) outcomes is.fault is.lost;
+      waited = waited_all settings.rounds give_ups hub.status_requests link.quiets
+          (subst (λ (r : ℕ). HasWaited r give_ups hub.status_requests link.quiets) is.knows.rounds is.waited);
+      heard = subst (λ (n : ℕ). HasReached (n + 1) link.gots) (sym (replies_counted outcomes)) heard;
+      lost = lost_if (down ≡ true) (1 ≤ link.faults) outcomes is.fault is.lost;
       tells = is.tells;
       late = is.late.timed_out;
       told = shown (IsStanding (down || spent) settings hub outcomes lates) (OpenedWith opening)
-          (λ (board : Board). IsTrueOf opening (claims items) outcomes lates (executed board)) telling is.standing
-          opened
+          (λ (board : Board). IsTrueOf opening (claims items) outcomes lates (executed board)) link.telling
+          is.standing opened
           (λ t standing opens. true_of law (down || spent) settings hub (cond down [] hub.queue) (claims items) outcomes
           lates opening t opens is.agrees.offered standing);
-      exactly = late_as_handed law each settings status hub items outcomes lates give_ups down spent telling faults
-          quiets is;
+      exactly = late_as_handed law each settings status hub items outcomes lates give_ups down spent
+          link.telling link.faults link.quiets is;
       held = paid;
     }

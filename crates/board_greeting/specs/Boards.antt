@@ -16,7 +16,6 @@ use Rattle.board_bus.specs.Ranges.{opening_bus}
 use Rattle.board_node.specs.declared.spec.LinkSpec.{LinkSpec}
 use Rattle.board_node.specs.declared.spec.LinkSpec.TheVariants.{Sim, Udp}
 use Rattle.hub_lane.specs.Lanes.{BoardStatus, IsGreeted, LaneState, opened, opening_of}
-use Rattle.board_greeting.specs.Reports.{report_of}
 use Rattle.lane_history.specs.Links.{IsBoardOf, IsUntouched, LinkReport, board_there}
 use Rattle.lane_history.specs.Lanes.{IsSoundLane}
 use Rattle.lane_history.specs.Runs.{IsDownRun, IsSilentRun, TellsPayload}
@@ -52,11 +51,6 @@ pub record IsReached {L : Type 0} (settings : Limits) (spec : BoardSpec) (greete
     (shown : LinkReport) : Type 0 where
   pub fresh : IsFreshLink settings spec shown
   pub as_told : IsGreetedAs settings greeted shown
-
--- what a link shows; the first five are what contracts see of it
-abbrev pub shown_by : {L : Type 0} → (L → ℕ) → (L → ℕ) → (L → ℕ) → (L → ℕ) → (L → Option Telling) → L → LinkReport
-shown_by faults quiets gots held telling link =
-    report_of (faults link) (quiets link) (gots link) (held link) (telling link)
 
 -- so of the first boards, in order; there may be fewer than documents
 abbrev pub AreReached : {L : Type 0} → (L → LinkReport) → Limits → List BoardSpec → List (Greeted L) → Type 0

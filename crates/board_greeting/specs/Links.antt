@@ -1,20 +1,16 @@
 -- The links of boards, made by a rack and given back to it. Profile.
-use Rattle.std.specs.Prelude.{◌≡◌, ℕ, List, ◌++◌, length, map, Option}
+use Rattle.std.specs.Prelude.{◌≡◌, ℕ, List, ◌++◌, length, map}
 use Rattle.ipb_base.specs.Lists.{IsPrefix}
-use Rattle.world_core.specs.Telling.{Telling}
-use Rattle.board_greeting.specs.Reports.{report_of}
+use Rattle.world_core.specs.declared.link.Link.{Ghosts}
+use Rattle.board_greeting.specs.Reports.{shown_by}
 use Rattle.board_node.specs.declared.spec.BoardSpec.{BoardSpec}
 use Rattle.board_node.specs.declared.spec.LinkSpec.{LinkSpec}
 use Rattle.board_node.specs.OpeningWords.{OpensOnWords}
 use Rattle.lane_history.specs.Links.{CanBeMade, LinkReport}
 
 -- These links were given back behind those that were kept before, in this order, and so much holds of what they show.
--- The first five are what contracts see of a link.
-abbrev pub Keeps : {L : Type 0} → (L → ℕ) → (L → ℕ) → (L → ℕ) → (L → ℕ) → (L → Option Telling) → List L → List L
-    → (List LinkReport → Type 0) → Type 0
-Keeps {L} faults quiets gots held telling old new holds =
-    (links : List L) × (new ≡ old ++ links)
-    × holds (map (λ link. report_of (faults link) (quiets link) (gots link) (held link) (telling link)) links)
+abbrev pub Keeps : {L : Type 0} → Ghosts L → List L → List L → (List LinkReport → Type 0) → Type 0
+Keeps {L} seen old new holds = (links : List L) × (new ≡ old ++ links) × holds (map (shown_by seen) links)
 
 -- the specs of the links of boards
 abbrev pub link_specs : List BoardSpec → List LinkSpec

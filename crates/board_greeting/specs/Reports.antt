@@ -1,13 +1,19 @@
 -- What a link shows of itself, as the history of its board takes it. Profile.
-use Rattle.std.specs.Prelude.{◌≡◌, ℕ, Option}
+use Rattle.std.specs.Prelude.{◌≡◌}
 use Rattle.board_bus.specs.Cells.{CellMap}
 use Rattle.world_core.specs.Telling.{Telling}
+use Rattle.world_core.specs.declared.link.Link.{Ghosts}
 use Rattle.lane_history.specs.Links.{LinkReport}
 
--- what a link shows, by its four counts and what it tells
-abbrev pub report_of : ℕ → ℕ → ℕ → ℕ → Option Telling → LinkReport
-report_of faults quiets gots held telling =
-    record { faults = faults; quiets = quiets; gots = gots; held = held; telling = telling }
+-- what a link shows, by what contracts see of it: its four counts and what it tells
+abbrev pub shown_by : {L : Type 0} → Ghosts L → L → LinkReport
+shown_by seen link = record {
+  faults = seen.faults link;
+  quiets = seen.quiets link;
+  gots = seen.gots link;
+  held = seen.held link;
+  telling = seen.telling link;
+}
 
 -- the board opened with this bus
 abbrev pub OpenedWith : CellMap → Telling → Type 0

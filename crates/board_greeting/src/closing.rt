@@ -3,7 +3,8 @@
 ghost use Rattle.std.specs.Prelude.{◌≡◌};
 ghost use Rattle.world_model.specs.Settings.{Limits};
 ghost use Rattle.board_node.specs.declared.spec.BoardSpec.{BoardSpec};
-ghost use Rattle.board_greeting.specs.Boards.{IsEndedLane, IsLaneTo, shown_by};
+ghost use Rattle.board_greeting.specs.Boards.{IsEndedLane, IsLaneTo};
+ghost use Rattle.board_greeting.specs.Reports.{shown_by};
 
 use crate::sound_lanes::a_lane_is_a_sound_one;
 use hub_lane::Lane;
@@ -13,7 +14,7 @@ use world_core::Link;
 pub fn close_lane<L: Link>(lane: Lane<L>) -> L
     ensures link { result ≡ lane.link }
     ensures ended { (settings : Limits) (spec : BoardSpec) → IsLaneTo settings spec (L.telling lane.link) lane
-        → IsEndedLane settings spec lane (shown_by L.faults L.quiets L.gots L.held L.telling result) }
+        → IsEndedLane settings spec lane (shown_by L.Link result) }
 {
     a_lane_is_a_sound_one();
     lane.is_sound();

@@ -6,7 +6,8 @@ ghost use Rattle.std.specs.Vec.{vec_capacity, vec_len};
 ghost use Rattle.ipb_base.specs.Faults.{Rose};
 ghost use Rattle.lossy_network.specs.Racks.{made_after};
 ghost use Rattle.hub_lane.specs.Greeting.{link_of};
-ghost use Rattle.board_greeting.specs.Boards.{AreFreshLinks, AreReached, HasMemory, HasRoom, IsReached, shown_by};
+ghost use Rattle.board_greeting.specs.Boards.{AreFreshLinks, AreReached, HasMemory, HasRoom, IsReached};
+ghost use Rattle.board_greeting.specs.Reports.{shown_by};
 ghost use Rattle.board_greeting.specs.Links.{AreMadeFor, CanBeReached, Keeps};
 
 use board_bus::laws::words_stay_words;
@@ -49,8 +50,7 @@ fn greet_board<R: Rack>(
     rack: &mut R,
 ) -> Result<Greeted<R::L>, RackFault>
     requires reached { CanBeReached spec.now }
-    ensures reached { IfOk result (λ board. IsReached settings spec.now board
-        (shown_by R.L.faults R.L.quiets R.L.gots R.L.held R.L.telling (link_of board))) }
+    ensures reached { IfOk result (λ board. IsReached settings spec.now board (shown_by R.L.Link (link_of board))) }
     ensures failed { result ≡ Err RackFault.Failed → Rose (R.faults rack.old) (R.faults rack.new) }
     ensures faults { R.faults rack.old ≤ R.faults rack.new }
     ensures unfaulted { result ≢ Err RackFault.Failed → R.faults rack.new ≡ R.faults rack.old }
@@ -83,8 +83,7 @@ fn greet_into<R: Rack>(
     requires reached { AllByRecursion CanBeReached specs.now }
     requires empty { boards.old.items ≡ [] }
     requires room { vec_len boards.old + length specs.now ≤ vec_capacity boards.old }
-    ensures reached { AreReached (shown_by R.L.faults R.L.quiets R.L.gots R.L.held R.L.telling) settings
-        specs.now boards.new.items }
+    ensures reached { AreReached (shown_by R.L.Link) settings specs.now boards.new.items }
     ensures all { OnOk result (length boards.new.items ≡ length specs.now) }
     ensures memory { OnOk result (AllByRecursion HasMemory boards.new.items) }
     ensures failed { result ≡ Err RackFault.Failed → Rose (R.faults rack.old) (R.faults rack.new) }
@@ -114,15 +113,14 @@ pub fn greet_boards<R: Rack>(
     rack: &mut R,
 ) -> Result<Vec<Greeted<R::L>>, RackFault>
     requires reached { AllByRecursion CanBeReached specs.now }
-    ensures reached { IfOk result (λ boards. AreReached
-        (shown_by R.L.faults R.L.quiets R.L.gots R.L.held R.L.telling) settings specs.now boards.items) }
+    ensures reached { IfOk result (λ boards. AreReached (shown_by R.L.Link) settings specs.now boards.items) }
     ensures all { IfOk result (λ boards. length boards.items ≡ length specs.now) }
     ensures memory { IfOk result (λ boards. AllByRecursion HasMemory boards.items) }
     ensures kept { OnOk result (R.kept rack.new ≡ R.kept rack.old) }
     ensures made { OnOk result (AreMadeFor specs.now (length specs.now) (R.made rack.old) (R.made rack.new)) }
     ensures room { OnOk result (HasRoom (length (R.kept rack.new)) (length (R.made rack.new)) (length specs.now)) }
-    ensures left { OnErr result (Keeps R.L.faults R.L.quiets R.L.gots R.L.held R.L.telling (R.kept rack.old)
-        (R.kept rack.new) (λ links. AreFreshLinks settings specs.now links
+    ensures left { OnErr result (Keeps R.L.Link (R.kept rack.old) (R.kept rack.new)
+        (λ links. AreFreshLinks settings specs.now links
         × AreMadeFor specs.now (length links) (R.made rack.old) (R.made rack.new))) }
     ensures failed { result ≡ Err RackFault.Failed → Rose (R.faults rack.old) (R.faults rack.new) }
     ensures faults { R.faults rack.old ≤ R.faults rack.new }

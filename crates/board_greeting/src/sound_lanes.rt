@@ -5,14 +5,14 @@ ghost use Rattle.std.specs.Prelude.{◌*◌, ℕ, Bool, List, Option, IfSome};
 ghost use Rattle.board_bus.specs.Cells.{CellMap};
 ghost use Rattle.world_model.specs.Hub.{Hub};
 ghost use Rattle.world_model.specs.Settings.{Limits};
-ghost use Rattle.world_core.specs.Telling.{Telling};
 ghost use Rattle.lane_record.specs.declared.outcome.Outcome.{Outcome};
 ghost use Rattle.lane_record.specs.declared.item.Item.{Item};
 ghost use Rattle.lane_record.specs.Bounds.{HasReached};
 ghost use Rattle.hub_lane.specs.Heard.{HasHeard};
 ghost use Rattle.hub_lane.specs.Lanes.{BoardStatus, IsLane};
 ghost use Rattle.lane_history.specs.Lanes.{IsSoundLane};
-ghost use Rattle.board_greeting.specs.Reports.{OpenedWith, report_of};
+ghost use Rattle.lane_history.specs.Links.{LinkReport};
+ghost use Rattle.board_greeting.specs.Reports.{OpenedWith};
 
 use hub_lane::laws::{a_lane_over_a_link_that_tells_is_true, a_timed_out_body_has_its_late_answer};
 
@@ -22,13 +22,12 @@ use hub_lane::laws::{a_lane_over_a_link_that_tells_is_true, a_timed_out_body_has
 pub fn a_lane_is_a_sound_one()
     ensures { (settings : Limits) (status : BoardStatus) (hub : Hub) (items : List Item)
         (outcomes : List (Option Outcome)) (lates : List (Option (List ℕ))) (give_ups : ℕ) (down spent : Bool)
-        (telling : Option Telling) (faults quiets gots held : ℕ) (opening : CellMap)
-        → IsLane settings status hub items outcomes lates give_ups down spent telling faults quiets
-        → IfSome telling (λ _. HasReached (settings.rounds * give_ups) held)
-        → HasHeard outcomes gots
-        → IfSome telling (OpenedWith opening)
-        → IsSoundLane settings opening (report_of faults quiets gots held telling) items outcomes lates
-        give_ups }
+        (link : LinkReport) (opening : CellMap)
+        → IsLane settings status hub items outcomes lates give_ups down spent link.telling link.faults link.quiets
+        → IfSome link.telling (λ _. HasReached (settings.rounds * give_ups) link.held)
+        → HasHeard outcomes link.gots
+        → IfSome link.telling (OpenedWith opening)
+        → IsSoundLane settings opening link items outcomes lates give_ups }
 {
     a_lane_over_a_link_that_tells_is_true();
     a_timed_out_body_has_its_late_answer();

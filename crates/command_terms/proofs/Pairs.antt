@@ -1,7 +1,9 @@
 -- The links and the pairs that a call gave back, together.
-use Rattle.std.proofs.Common.{◌≡◌, ℕ, Bool, List, [], ◌++◌, Option, Some, None}
+use Rattle.std.proofs.Common.{◌≡◌, List, [], ◌++◌, Option, Some, None}
 use Rattle.std.proofs.Common.{refl, sym, ap, ◌∙◌, subst, append-nil}
 use Rattle.std.specs.Prelude.{option_map}
+use Rattle.ipb_outside.specs.declared.sink.Sink.{Ghosts as SinkGhosts}
+use Rattle.ipb_outside.specs.declared.source.Source.{Ghosts as SourceGhosts}
 use Rattle.ipb_outside.specs.Pairs.{GivesBack}
 use Rattle.lane_history.specs.Links.{LinkReport}
 use Rattle.command_terms.specs.Outside.{GivenBack, no_pairs}
@@ -15,13 +17,12 @@ behind_none : {C : Type 0} (all : Option (List C)) → all ≡ option_map (λ be
 behind_none None = refl
 behind_none (Some before) = ap Some (sym (append-nil before))
 
-module _ {L I O : Type 0} (shown : L → LinkReport) (left : I → Option (List ℕ)) (read_faults : I → ℕ)
-    (written : O → Option (List ℕ)) (write_faults : O → ℕ) (ended : O → Bool) (old new : List L)
+module _ {L I O : Type 0} (shown : L → LinkReport) (source : SourceGhosts I) (sink : SinkGhosts O) (old new : List L)
     (coming coming_now kept kept_now : Option (List (I × O))) where
   -- these links were given back, these pairs came and went back, and so it is
   abbrev pub Together : (GivenBack → Type 0) → Type 0
   Together holds = Told shown old new
-      (λ links. GivesBack left read_faults written write_faults ended coming coming_now kept kept_now
+      (λ links. GivesBack source sink coming coming_now kept kept_now
       (λ came back. holds (record { links = links; came = came; back = back })))
 
   -- and so it is therefore

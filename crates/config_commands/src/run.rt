@@ -35,7 +35,7 @@ pub(crate) fn write_configuration<R: Rack, T: Threads + Wait + Sync, G: Gate>(
 ) -> Result<Answer, RunFault>
     requires runs { MayRun session.now steps.now }
     requires alone { length steps.now ≡ 1 }
-    ensures leaves { Keeps R.L.faults R.L.quiets R.L.gots R.L.held R.L.telling (R.kept rack.old) (R.kept rack.new)
+    ensures leaves { Keeps R.L.Link (R.kept rack.old) (R.kept rack.new)
         (RunLeaves session.now steps.now (R.made rack.old) (R.made rack.new) result) }
     ensures rack_faults { RisesOnlyAt (Err RunFault.Rack) result (R.faults rack.old) (R.faults rack.new) }
 {

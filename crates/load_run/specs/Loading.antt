@@ -12,8 +12,6 @@ use Rattle.board_node.specs.declared.spec.LinkSpec.{LinkSpec}
 use Rattle.world_model.specs.Settings.{Limits}
 use Rattle.script_steps.specs.declared.operation.Step.{Step}
 use Rattle.script_lang.specs.declared.script_refusal.TheConstants.{MAX_LINES}
-use Rattle.script_steps.specs.Executable.{AreExecutable}
-use Rattle.script_steps.specs.Packing.{AreWithinLimits, CanBePacked, HaveFewPieces}
 use Rattle.board_history.specs.Lines.{IsBusLine}
 use Rattle.script_plans.specs.declared.board_run.BoardRun.{BoardRun}
 use Rattle.transcript.specs.Lines.{transcript_of}
@@ -21,6 +19,7 @@ use Rattle.transcript.specs.Shown.{ShowsAllPlaces}
 use Rattle.lane_history.specs.Links.{IsFaithful, IsUntouched, LinkReport}
 use Rattle.lane_history.specs.Runs.{AreRunsOver, AreWholeRuns, IsLineOfRounds, IsUngarbledWhereTold}
 use Rattle.lane_history.specs.Runs.{RepliesCame, ShowAloneRuns, TimeOutsWaited}
+use Rattle.session_run.specs.Scripts.{CanBeRun}
 use Rattle.load_run.specs.Claims.{HasEachBelow, TellsRuns, sum_below}
 use Rattle.load_run.specs.Generated.{boards, most_operations, settings, steps}
 use Rattle.load_run.specs.Summary.{all_done, summary_of, summary_text, words_before}
@@ -95,12 +94,8 @@ pub record IsGenerated (count : ℕ) (limits : Limits) (specs : List BoardSpec)
   pub specs' : specs ≡ boards count
   pub scripts' : scripts ≡ steps count
   pub few_boards : length specs < 2 ^ 32
-  pub few_clients : length scripts < 2 ^ 32
   pub reached : AllByRecursion CanBeReached specs
-  pub packed : AllByRecursion (AllByRecursion CanBePacked) scripts
-  pub few : AllByRecursion HaveFewPieces scripts
-  pub executable : AllByRecursion AreExecutable scripts
-  pub within : AreWithinLimits scripts
+  pub can : CanBeRun scripts
   pub short : AllByRecursion (λ steps. length steps ≤ MAX_LINES) scripts
 
 -- What a load left: `made` and `makes` are the specs that the rack made links of before and after, and `Tells` is what

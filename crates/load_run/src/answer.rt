@@ -31,10 +31,9 @@ pub fn answer_load<R: Rack, T: Threads + Wait + Sync, G: Gate>(
     gate: &G,
 ) -> Result<Answer, RunFault>
     requires { count ≤ most_operations }
-    ensures leaves { (bytes : List ℕ)
-        → Keeps R.L.faults R.L.quiets R.L.gots R.L.held R.L.telling (R.kept rack.old) (R.kept rack.new)
-        (λ links. Leaves NoneCame IsRunFailure RunFault.Rack (load_terms count) bytes (R.made rack.old) (R.made rack.new)
-        result (no_pairs links)) }
+    ensures leaves { (bytes : List ℕ) → Keeps R.L.Link (R.kept rack.old) (R.kept rack.new)
+        (λ links. Leaves NoneCame IsRunFailure RunFault.Rack (load_terms count) bytes (R.made rack.old)
+        (R.made rack.new) result (no_pairs links)) }
     ensures not_refused { IfOk result (λ answer. answer.status ≢ refused_status) }
     ensures rack_faults { RisesOnlyAt (Err RunFault.Rack) result (R.faults rack.old) (R.faults rack.new) }
 {

@@ -59,7 +59,7 @@ fn run_generated<R: Rack, T: Threads + Wait + Sync, G: Gate>(
     gate: &G,
 ) -> Result<Load, RunFault>
     requires { IsGenerated count settings boards.now steps.now }
-    ensures leaves { Keeps R.L.faults R.L.quiets R.L.gots R.L.held R.L.telling (R.kept rack.old) (R.kept rack.new)
+    ensures leaves { Keeps R.L.Link (R.kept rack.old) (R.kept rack.new)
         (LoadLeaves PrintsLoad count (R.made rack.old) (R.made rack.new) result) }
     ensures rack_fault { result ≡ Err RunFault.Rack → Rose (R.faults rack.old) (R.faults rack.new) }
     ensures later { R.faults rack.old ≤ R.faults rack.new }
@@ -80,7 +80,7 @@ pub fn run_load<R: Rack, T: Threads + Wait + Sync, G: Gate>(
 ) -> Result<Load, RunFault>
     requires { count ≤ most_operations }
     // The link was given back, and what it shows, the lines of the summary and whether all was done go together.
-    ensures leaves { Keeps R.L.faults R.L.quiets R.L.gots R.L.held R.L.telling (R.kept rack.old) (R.kept rack.new)
+    ensures leaves { Keeps R.L.Link (R.kept rack.old) (R.kept rack.new)
         (LoadLeaves IsLoadOf count (R.made rack.old) (R.made rack.new) result) }
     ensures rack_fault { result ≡ Err RunFault.Rack → Rose (R.faults rack.old) (R.faults rack.new) }
     ensures later { R.faults rack.old ≤ R.faults rack.new }

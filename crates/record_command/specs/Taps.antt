@@ -1,6 +1,7 @@
 -- A rack of taps, as contracts see it. What private functions promise one another; no public clause speaks of these.
 use Rattle.std.specs.Prelude.{ℕ, List}
 use Rattle.board_node.specs.declared.spec.LinkSpec.{LinkSpec}
+use Rattle.world_core.specs.declared.link.Link.{Ghosts}
 use Rattle.link_tap.specs.Traffic.{Tapped}
 
 -- the taps that were given back, in order; the specs of the links that were made elsewhere; and how often one was asked
@@ -10,6 +11,12 @@ pub record TapsState (L : Type 0) : Type 0 where
   pub made : List LinkSpec
   pub faults : ℕ
 
--- what a tap shows is what its link shows
-abbrev pub tapped : {L A : Type 0} → (L → A) → Tapped L → A
-tapped see tap = see tap.link
+-- what contracts see of a tap is what they see of its link
+abbrev pub tapped : {L : Type 0} → Ghosts L → Ghosts (Tapped L)
+tapped seen = record {
+  telling = λ tap. seen.telling tap.link;
+  faults = λ tap. seen.faults tap.link;
+  quiets = λ tap. seen.quiets tap.link;
+  gots = λ tap. seen.gots tap.link;
+  held = λ tap. seen.held tap.link;
+}

@@ -1,17 +1,17 @@
 //! What `record` makes of the bytes of a document.
 
-ghost use Rattle.std.specs.Prelude.{◌≡◌, ◌≢◌, ◌≤◌, ◌∷◌, ◌==◌, ◌<◌, ◌^◌, [], length, Some, Err, IfOk, IfSome, false};
-ghost use Rattle.std.specs.List.{AllByRecursion, sum_by};
+ghost use Rattle.std.specs.Prelude.{◌≡◌, ◌≢◌, ◌≤◌, ◌∷◌, ◌==◌, [], length, Some, Err, IfOk, IfSome, false};
+ghost use Rattle.std.specs.List.{sum_by};
 ghost use Rattle.std.specs.Vec.{vec_capacity, vec_len};
 ghost use Rattle.ipb_base.specs.Faults.{Rose};
-ghost use Rattle.script_steps.specs.Executable.{AreExecutable};
-ghost use Rattle.script_steps.specs.Packing.{AreWithinLimits, CanBePacked, HaveFewPieces};
 ghost use Rattle.lossy_network.specs.Racks.{made_after};
 ghost use Rattle.lane_history.specs.Runs.{AreRunsOver};
 ghost use Rattle.hub_lane.specs.Greeting.{link_of};
 ghost use Rattle.session_input.specs.Recording.{IsOneSimulated, IsSimulated};
-ghost use Rattle.board_greeting.specs.Boards.{HasMemory, IsReached, shown_by};
+ghost use Rattle.board_greeting.specs.Boards.{HasMemory, IsReached};
+ghost use Rattle.board_greeting.specs.Reports.{shown_by};
 ghost use Rattle.board_greeting.specs.Links.{CanBeReached, Keeps};
+ghost use Rattle.session_run.specs.Scripts.{CanBeRun};
 ghost use Rattle.session_run.specs.Links.{AreLeft};
 ghost use Rattle.session_run.specs.Faults.{IsRunFailure};
 ghost use Rattle.run_laws.specs.Steps.{MayRun};
@@ -69,7 +69,7 @@ pub fn record_document<R: Rack, T: Threads + Wait + Sync, G: Gate>(
     rack: &mut R,
     gate: &G,
 ) -> Result<Answer, RunFault>
-    ensures leaves { Keeps R.L.faults R.L.quiets R.L.gots R.L.held R.L.telling (R.kept rack.old) (R.kept rack.new)
+    ensures leaves { Keeps R.L.Link (R.kept rack.old) (R.kept rack.new)
         (λ links. Leaves NoneCame IsRunFailure RunFault.Rack record_terms bytes.now (R.made rack.old) (R.made rack.new)
         result (no_pairs links)) }
     ensures refused { IfOk result (λ answer. answer.status ≡ refused_status → rack.new ≡ rack.old) }
@@ -97,7 +97,7 @@ fn recorded<R: Rack, T: Threads + Wait + Sync, G: Gate>(
 ) -> Result<Answer, RunFault>
     requires may { MayRun session.now steps.now }
     requires one { IsOneSimulated session.now.boards }
-    ensures leaves { Keeps R.L.faults R.L.quiets R.L.gots R.L.held R.L.telling (R.kept rack.old) (R.kept rack.new)
+    ensures leaves { Keeps R.L.Link (R.kept rack.old) (R.kept rack.new)
         (RecordLeaves session.now steps.now (R.made rack.old) (R.made rack.new) result) }
     ensures rack_faults { RisesOnlyAt (Err RunFault.Rack) result (R.faults rack.old) (R.faults rack.new) }
 {
@@ -153,8 +153,7 @@ fn greet_tapped<R: Rack>(
 ) -> Result<Greeted<TapLink<R::L>>, RackFault>
     requires reached { CanBeReached spec.now }
     ensures reached { IfOk result (λ board. IsReached settings spec.now board
-        (shown_by (tapped R.L.faults) (tapped R.L.quiets) (tapped R.L.gots) (tapped R.L.held) (tapped R.L.telling)
-        (link_of board))) }
+        (shown_by (tapped R.L.Link) (link_of board))) }
     ensures failed { result ≡ Err RackFault.Failed → Rose (R.faults rack.old) (R.faults rack.new) }
     ensures faults { R.faults rack.old ≤ R.faults rack.new }
     ensures unfaulted { result ≢ Err RackFault.Failed → R.faults rack.new ≡ R.faults rack.old }
@@ -189,23 +188,16 @@ fn run_tapped<L: Link + Send + Drop, T: Threads + Wait + Sync, G: Gate>(
     gate: &G,
 ) -> (TapLink<L>, Result<Vec<BoardRun>, NoMemory>)
     requires one { length specs.now ≡ 1 }
-    requires few_clients { length steps.now < 2 ^ 32 }
-    requires can { AllByRecursion (AllByRecursion CanBePacked) steps.now }
-    requires few { AllByRecursion HaveFewPieces steps.now }
-    requires executable { AllByRecursion AreExecutable steps.now }
-    requires limits { AreWithinLimits steps.now }
+    requires can { CanBeRun steps.now }
     requires reached { (spec : BoardSpec) → specs.now ≡ spec ∷ []
-        → IsReached settings spec greeted
-        (shown_by (tapped L.faults) (tapped L.quiets) (tapped L.gots) (tapped L.held) (tapped L.telling)
-        (link_of greeted)) }
+        → IsReached settings spec greeted (shown_by (tapped L.Link) (link_of greeted)) }
     requires empty { room.items ≡ [] }
     requires room { 1 ≤ vec_capacity room }
     requires none_kept { taps.kept ≡ [] }
     requires one_made { length taps.made ≡ 1 }
     ensures ran { IfOk result.1 (λ runs. AreRunsOver settings 0 specs.now steps.now runs.items
-        (shown_by L.faults L.quiets L.gots L.held L.telling result.0.link ∷ [])) }
-    ensures left { AreLeft 0 specs.now steps.now
-        (shown_by L.faults L.quiets L.gots L.held L.telling result.0.link ∷ []) }
+        (shown_by L.Link result.0.link ∷ [])) }
+    ensures left { AreLeft 0 specs.now steps.now (shown_by L.Link result.0.link ∷ []) }
 {
     a_fresh_link_is_left();
     if is_out_of_memory(&greeted) {

@@ -1,9 +1,11 @@
 -- What follows for boards that were served, put together.
-use Rattle.std.proofs.Common.{◌≡◌, ℕ, ◌+◌, Bool, List, [], ◌∷◌, length, map, IfOk, Option}
+use Rattle.std.proofs.Common.{◌≡◌, ℕ, ◌+◌, List, [], ◌∷◌, length, map, IfOk, Option}
 use Rattle.std.proofs.Common.{Result, Ok, Err}
 use Rattle.std.proofs.Common.{sym, ap, ◌∙◌, subst}
 use Rattle.std.specs.List.{AllByRecursion}
 use Rattle.std.specs.Result.{IsErr, IsErrAnd}
+use Rattle.ipb_outside.specs.declared.sink.Sink.{Ghosts as SinkGhosts}
+use Rattle.ipb_outside.specs.declared.source.Source.{Ghosts as SourceGhosts}
 use Rattle.ipb_outside.specs.Pairs.{PairReport}
 use Rattle.board_node.specs.declared.spec.BoardSpec.{BoardSpec}
 use Rattle.board_node.specs.declared.spec.LinkSpec.{LinkSpec}
@@ -121,12 +123,11 @@ pub no_memory_is_no_rack : (fault : ServeFault) → fault ≡ NoMemory → fault
 no_memory_is_no_rack fault is rack = cc
 
 -- the text of a server is no refusal
-module _ {L I O : Type 0} (shown : L → LinkReport) (left : I → Option (List ℕ)) (read_faults : I → ℕ)
-    (written : O → Option (List ℕ)) (write_faults : O → ℕ) (ended : O → Bool) (old new : List L)
+module _ {L I O : Type 0} (shown : L → LinkReport) (source : SourceGhosts I) (sink : SinkGhosts O) (old new : List L)
     (coming coming_now kept kept_now : Option (List (I × O))) where
   pub not_refused : (session : Session) (count : ℕ) (made makes : List LinkSpec) (Q : Type 0)
       (result : Result Answer ServeFault)
-      → Together shown left read_faults written write_faults ended old new coming coming_now kept kept_now
+      → Together shown source sink old new coming coming_now kept kept_now
       (ServeLeaves session count made makes result)
       → IfOk result (λ answer. answer.status ≡ refused_status → Q)
   not_refused session count made makes Q (Ok answer) told = λ refused.

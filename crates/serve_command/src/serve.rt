@@ -44,14 +44,13 @@ pub fn serve_document<R: Rack, D: Door, T: Threads + Wait + Sync>(
     rack: &mut R,
     door: &mut D,
 ) -> Result<Answer, ServeFault>
-    ensures leaves { Keeps R.L.faults R.L.quiets R.L.gots R.L.held R.L.telling (R.kept rack.old) (R.kept rack.new)
-        (λ links. GivesBack D.Incoming.left D.Incoming.faults D.Outgoing.written D.Outgoing.faults D.Outgoing.ended
-        (D.coming door.old) (D.coming door.new) (D.kept door.old) (D.kept door.new)
-        (λ came back. Leaves AreBack IsServeFailure ServeFault.Rack (serve_terms count) bytes.now (R.made rack.old)
-        (R.made rack.new) result (record { links = links; came = came; back = back }))) }
-    ensures in_frames { Keeps R.L.faults R.L.quiets R.L.gots R.L.held R.L.telling (R.kept rack.old) (R.kept rack.new)
-        (λ links. GivesBack D.Incoming.left D.Incoming.faults D.Outgoing.written D.Outgoing.faults D.Outgoing.ended
-        (D.coming door.old) (D.coming door.new) (D.kept door.old) (D.kept door.new) (CameInFrames links)) }
+    ensures leaves { Keeps R.L.Link (R.kept rack.old) (R.kept rack.new)
+        (λ links. GivesBack D.Incoming.Source D.Outgoing.Sink (D.coming door.old) (D.coming door.new) (D.kept door.old)
+        (D.kept door.new) (λ came back. Leaves AreBack IsServeFailure ServeFault.Rack (serve_terms count) bytes.now
+        (R.made rack.old) (R.made rack.new) result (record { links = links; came = came; back = back }))) }
+    ensures in_frames { Keeps R.L.Link (R.kept rack.old) (R.kept rack.new)
+        (λ links. GivesBack D.Incoming.Source D.Outgoing.Sink (D.coming door.old) (D.coming door.new) (D.kept door.old)
+        (D.kept door.new) (CameInFrames links)) }
     ensures refused { IfOk result (λ answer. answer.status ≡ refused_status
         → (rack.new ≡ rack.old) × (door.new ≡ door.old)) }
     ensures not_listened { result ≡ Err ServeFault.Rack → door.new ≡ door.old }
@@ -81,14 +80,13 @@ fn served<R: Rack, D: Door, T: Threads + Wait + Sync>(
     door: &mut D,
 ) -> Result<Answer, ServeFault>
     requires { MayServe session.now }
-    ensures leaves { Keeps R.L.faults R.L.quiets R.L.gots R.L.held R.L.telling (R.kept rack.old) (R.kept rack.new)
-        (λ links. GivesBack D.Incoming.left D.Incoming.faults D.Outgoing.written D.Outgoing.faults D.Outgoing.ended
-        (D.coming door.old) (D.coming door.new) (D.kept door.old) (D.kept door.new)
-        (λ came back. ServeLeaves session.now count (R.made rack.old) (R.made rack.new) result
+    ensures leaves { Keeps R.L.Link (R.kept rack.old) (R.kept rack.new)
+        (λ links. GivesBack D.Incoming.Source D.Outgoing.Sink (D.coming door.old) (D.coming door.new) (D.kept door.old)
+        (D.kept door.new) (λ came back. ServeLeaves session.now count (R.made rack.old) (R.made rack.new) result
         (record { links = links; came = came; back = back }))) }
-    ensures in_frames { Keeps R.L.faults R.L.quiets R.L.gots R.L.held R.L.telling (R.kept rack.old) (R.kept rack.new)
-        (λ links. GivesBack D.Incoming.left D.Incoming.faults D.Outgoing.written D.Outgoing.faults D.Outgoing.ended
-        (D.coming door.old) (D.coming door.new) (D.kept door.old) (D.kept door.new) (CameInFrames links)) }
+    ensures in_frames { Keeps R.L.Link (R.kept rack.old) (R.kept rack.new)
+        (λ links. GivesBack D.Incoming.Source D.Outgoing.Sink (D.coming door.old) (D.coming door.new) (D.kept door.old)
+        (D.kept door.new) (CameInFrames links)) }
     ensures not_listened { result ≡ Err ServeFault.Rack → door.new ≡ door.old }
     ensures none_out { D.out door.new ≡ D.out door.old }
     ensures listens { Listens port (IsOk result) (D.ports door.old) (D.ports door.new) }

@@ -3,6 +3,7 @@ use Rattle.std.proofs.Common.{◌≡◌, ◌⊎◌, inl, inr, ℕ, suc, ◌+◌,
 use Rattle.std.proofs.Common.{refl, sym, ap, subst, arith}
 use Rattle.std.specs.List.{AllByRecursion}
 use Rattle.ipb_base.specs.Numbers.{payload_of}
+use Rattle.world_core.specs.declared.link.Link.{Ghosts}
 use Rattle.world_core.specs.Telling.{Telling}
 use Rattle.world_model.specs.Settings.{Limits}
 use Rattle.board_node.specs.declared.spec.BoardSpec.{BoardSpec}
@@ -16,7 +17,8 @@ use Rattle.script_plans.specs.declared.board_run.ClientPart.{ClientPart}
 use Rattle.script_plans.specs.Plan.{plans_on}
 use Rattle.lane_history.specs.Links.{LinkReport}
 use Rattle.lane_history.specs.Records.{IsPartlyPlanned}
-use Rattle.board_greeting.specs.Boards.{AreReached, HasMemory, IsReached, shown_by}
+use Rattle.board_greeting.specs.Boards.{AreReached, HasMemory, IsReached}
+use Rattle.board_greeting.specs.Reports.{shown_by}
 use Rattle.session_run.specs.Clients.{bodies_of}
 use Rattle.session_run.specs.Lanes.{AllThree, HasGoneOn, IsRunOn, IsStoppedLane}
 use Rattle.board_greeting.specs.Places.{HaveLanes, lanes_in, place_of, positions_from, rejoined}
@@ -84,116 +86,94 @@ have_lanes tells scripts position (NoMemory link ∷ boards) news gone =
 abbrev pub HaveParts : {L : Type 0} → List (List Step) → List ℕ → List (LaneState L) → List (List ClientPart) → Type 0
 HaveParts scripts positions news parts = (parts ≡ []) ⊎ AllThree (IsRunOn scripts) positions news parts
 
-none_came : {L : Type 0} (faults quiets gots held : L → ℕ) (tells : L → Option Telling) (settings : Limits)
-    (scripts : List (List Step)) (position : ℕ) (specs : List BoardSpec) (boards : List (Greeted L))
-    (news : List (LaneState L)) → length boards ≡ length specs → AllByRecursion HasMemory boards
-    → AreReached (shown_by faults quiets gots held tells) settings specs boards
-    → AllThree (HasGoneOn tells scripts) (positions_from position boards) (lanes_in boards) news
-    → AreCameOf (shown_by faults quiets gots held tells) settings scripts position specs
+none_came : {L : Type 0} (seen : Ghosts L) (settings : Limits) (scripts : List (List Step)) (position : ℕ)
+    (specs : List BoardSpec) (boards : List (Greeted L)) (news : List (LaneState L)) → length boards ≡ length specs
+    → AllByRecursion HasMemory boards
+    → AreReached (shown_by seen) settings specs boards
+    → AllThree (HasGoneOn seen.telling scripts) (positions_from position boards) (lanes_in boards) news
+    → AreCameOf (shown_by seen) settings scripts position specs
     (rejoined (map place_of boards) news [])
-none_came faults quiets gots held tells settings scripts position [] [] news long memory are gone = tt
-none_came faults quiets gots held tells settings scripts position [] (b ∷ boards) news long memory are gone = absurd cc
-none_came faults quiets gots held tells settings scripts position (s ∷ specs) [] news long memory are gone = absurd cc
-none_came faults quiets gots held tells settings scripts position (s ∷ specs) (Ready lane ∷ boards) [] long memory are
-    gone =
+none_came seen settings scripts position [] [] news long memory are gone = tt
+none_came seen settings scripts position [] (b ∷ boards) news long memory are gone = absurd cc
+none_came seen settings scripts position (s ∷ specs) [] news long memory are gone = absurd cc
+none_came seen settings scripts position (s ∷ specs) (Ready lane ∷ boards) [] long memory are gone =
     absurd gone
-none_came faults quiets gots held tells settings scripts position (s ∷ specs) (Ready lane ∷ boards) (n ∷ news) long
-    memory are
-    gone = (
-      (
-        stopped tells (shown_by faults quiets gots held tells) settings scripts position s lane n are.0 refl
-            gone.0,
-        tt,
-      ),
-      none_came faults quiets gots held tells settings scripts (position + 1) specs boards news (omega (arith, long))
-          memory.1
-          are.1 gone.1,
-    )
-none_came faults quiets gots held tells settings scripts position (s ∷ specs) (Silent link rounds ∷ boards) news long
-    memory
-    are gone = (
-      record { fresh = are.0.fresh; as_told = are.0.as_told },
-      none_came faults quiets gots held tells settings scripts (position + 1) specs boards news (omega (arith, long))
-          memory.1
-          are.1 gone,
-    )
-none_came faults quiets gots held tells settings scripts position (s ∷ specs) (Down link ∷ boards) news long memory are
-    gone = (
-      record { fresh = are.0.fresh; as_told = are.0.as_told },
-      none_came faults quiets gots held tells settings scripts (position + 1) specs boards news (omega (arith, long))
-          memory.1
-          are.1 gone,
-    )
-none_came faults quiets gots held tells settings scripts position (s ∷ specs) (NoMemory link ∷ boards) news long
-    memory are
-    gone = absurd memory.0
+none_came seen settings scripts position (s ∷ specs) (Ready lane ∷ boards) (n ∷ news) long memory are gone = (
+  (
+    stopped seen.telling (shown_by seen) settings scripts position s lane n are.0 refl gone.0,
+    tt,
+  ),
+  none_came seen settings scripts (position + 1) specs boards news (omega (arith, long)) memory.1 are.1 gone.1,
+)
+none_came seen settings scripts position (s ∷ specs) (Silent link rounds ∷ boards) news long memory are gone = (
+  record { fresh = are.0.fresh; as_told = are.0.as_told },
+  none_came seen settings scripts (position + 1) specs boards news (omega (arith, long)) memory.1 are.1 gone,
+)
+none_came seen settings scripts position (s ∷ specs) (Down link ∷ boards) news long memory are gone = (
+  record { fresh = are.0.fresh; as_told = are.0.as_told },
+  none_came seen settings scripts (position + 1) specs boards news (omega (arith, long)) memory.1 are.1 gone,
+)
+none_came seen settings scripts position (s ∷ specs) (NoMemory link ∷ boards) news long memory are gone =
+    absurd memory.0
 
-all_came : {L : Type 0} (faults quiets gots held : L → ℕ) (tells : L → Option Telling) (settings : Limits)
-    (scripts : List (List Step)) (position : ℕ) (specs : List BoardSpec) (boards : List (Greeted L))
-    (news : List (LaneState L)) (parts : List (List ClientPart)) → length boards ≡ length specs
-    → AllByRecursion HasMemory boards → AreReached (shown_by faults quiets gots held tells) settings specs boards
-    → AllThree (HasGoneOn tells scripts) (positions_from position boards) (lanes_in boards) news
+all_came : {L : Type 0} (seen : Ghosts L) (settings : Limits) (scripts : List (List Step)) (position : ℕ)
+    (specs : List BoardSpec) (boards : List (Greeted L)) (news : List (LaneState L)) (parts : List (List ClientPart))
+    → length boards ≡ length specs
+    → AllByRecursion HasMemory boards → AreReached (shown_by seen) settings specs boards
+    → AllThree (HasGoneOn seen.telling scripts) (positions_from position boards) (lanes_in boards) news
     → AllThree (IsRunOn scripts) (positions_from position boards) news parts
-    → AreCameOf (shown_by faults quiets gots held tells) settings scripts position specs
+    → AreCameOf (shown_by seen) settings scripts position specs
     (rejoined (map place_of boards) news parts)
-all_came faults quiets gots held tells settings scripts position [] [] news parts long memory are gone ran = tt
-all_came faults quiets gots held tells settings scripts position [] (b ∷ boards) news parts long memory are gone ran =
+all_came seen settings scripts position [] [] news parts long memory are gone ran = tt
+all_came seen settings scripts position [] (b ∷ boards) news parts long memory are gone ran =
     absurd cc
-all_came faults quiets gots held tells settings scripts position (s ∷ specs) [] news parts long memory are gone ran =
+all_came seen settings scripts position (s ∷ specs) [] news parts long memory are gone ran =
     absurd cc
-all_came faults quiets gots held tells settings scripts position (s ∷ specs) (Ready lane ∷ boards) [] parts long
-    memory are
-    gone ran = absurd gone
-all_came faults quiets gots held tells settings scripts position (s ∷ specs) (Ready lane ∷ boards) (n ∷ news) [] long
-    memory
-    are gone ran = absurd ran
-all_came faults quiets gots held tells settings scripts position (s ∷ specs) (Ready lane ∷ boards) (n ∷ news) (p ∷
-    parts) long
-    memory are gone ran = (
+all_came seen settings scripts position (s ∷ specs) (Ready lane ∷ boards) [] parts long memory are gone ran =
+    absurd gone
+all_came seen settings scripts position (s ∷ specs) (Ready lane ∷ boards) (n ∷ news) [] long memory are gone ran =
+    absurd ran
+all_came seen settings scripts position (s ∷ specs) (Ready lane ∷ boards) (n ∷ news) (p ∷ parts) long memory are gone
+    ran = (
       (
-        stopped tells (shown_by faults quiets gots held tells) settings scripts position s lane n are.0 refl
-            gone.0,
+        stopped seen.telling (shown_by seen) settings scripts position s lane n are.0 refl gone.0,
         ran.0,
       ),
-      all_came faults quiets gots held tells settings scripts (position + 1) specs boards news parts (omega (
+      all_came seen settings scripts (position + 1) specs boards news parts (omega (
         arith,
         long,
       )) memory.1
           are.1 gone.1 ran.1,
     )
-all_came faults quiets gots held tells settings scripts position (s ∷ specs) (Silent link rounds ∷ boards) news parts
-    long
-    memory are gone ran = (
+all_came seen settings scripts position (s ∷ specs) (Silent link rounds ∷ boards) news parts long memory are gone
+    ran = (
       record { fresh = are.0.fresh; as_told = are.0.as_told },
-      all_came faults quiets gots held tells settings scripts (position + 1) specs boards news parts (omega (
+      all_came seen settings scripts (position + 1) specs boards news parts (omega (
         arith,
         long,
       )) memory.1
           are.1 gone ran,
     )
-all_came faults quiets gots held tells settings scripts position (s ∷ specs) (Down link ∷ boards) news parts long
-    memory are
-    gone ran = (
-      record { fresh = are.0.fresh; as_told = are.0.as_told },
-      all_came faults quiets gots held tells settings scripts (position + 1) specs boards news parts (omega (
-        arith,
-        long,
-      )) memory.1
-          are.1 gone ran,
-    )
-all_came faults quiets gots held tells settings scripts position (s ∷ specs) (NoMemory link ∷ boards) news parts long
-    memory
-    are gone ran = absurd memory.0
+all_came seen settings scripts position (s ∷ specs) (Down link ∷ boards) news parts long memory are gone ran = (
+  record { fresh = are.0.fresh; as_told = are.0.as_told },
+  all_came seen settings scripts (position + 1) specs boards news parts (omega (
+    arith,
+    long,
+  )) memory.1
+      are.1 gone ran,
+)
+all_came seen settings scripts position (s ∷ specs) (NoMemory link ∷ boards) news parts long memory are gone ran =
+    absurd memory.0
 
-pub boards_came : {L : Type 0} (faults quiets gots held : L → ℕ) (tells : L → Option Telling) (settings : Limits)
-    (scripts : List (List Step)) (specs : List BoardSpec) (boards : List (Greeted L)) (news : List (LaneState L))
-    (parts : List (List ClientPart)) → length boards ≡ length specs → AllByRecursion HasMemory boards
-    → AreReached (shown_by faults quiets gots held tells) settings specs boards
-    → AllThree (HasGoneOn tells scripts) (positions_from 0 boards) (lanes_in boards) news
+pub boards_came : {L : Type 0} (seen : Ghosts L) (settings : Limits) (scripts : List (List Step))
+    (specs : List BoardSpec) (boards : List (Greeted L)) (news : List (LaneState L)) (parts : List (List ClientPart))
+    → length boards ≡ length specs → AllByRecursion HasMemory boards
+    → AreReached (shown_by seen) settings specs boards
+    → AllThree (HasGoneOn seen.telling scripts) (positions_from 0 boards) (lanes_in boards) news
     → HaveParts scripts (positions_from 0 boards) news parts
-    → AreCameOf (shown_by faults quiets gots held tells) settings scripts 0 specs
+    → AreCameOf (shown_by seen) settings scripts 0 specs
     (rejoined (map place_of boards) news parts)
-boards_came faults quiets gots held tells settings scripts specs boards news parts long memory are gone (inl none) =
-    rw none (none_came faults quiets gots held tells settings scripts 0 specs boards news long memory are gone)
-boards_came faults quiets gots held tells settings scripts specs boards news parts long memory are gone (inr ran) =
-    all_came faults quiets gots held tells settings scripts 0 specs boards news parts long memory are gone ran
+boards_came seen settings scripts specs boards news parts long memory are gone (inl none) =
+    rw none (none_came seen settings scripts 0 specs boards news long memory are gone)
+boards_came seen settings scripts specs boards news parts long memory are gone (inr ran) =
+    all_came seen settings scripts 0 specs boards news parts long memory are gone ran

@@ -4,7 +4,7 @@ use Rattle.board_node.specs.declared.spec.BoardSpec.{BoardSpec}
 use Rattle.script_plans.specs.declared.greeting.Greeting.{Greeting}
 use Rattle.script_plans.specs.declared.board_run.BoardRun.{BoardRun}
 use Rattle.script_plans.specs.declared.board_run.ClientPart.{ClientPart}
-pub use Rattle.board_greeting.specs.Boards.{shown_by}
+pub use Rattle.board_greeting.specs.Reports.{shown_by}
 
 -- there is a run, and it is so
 abbrev pub OnRun : {E : Type 0} → Result BoardRun E → (BoardRun → Type 0) → Type 0

@@ -8,3 +8,4 @@ pub mod Faults
 pub mod Room
 pub mod Plans
 pub mod Parts
+pub mod Scripts

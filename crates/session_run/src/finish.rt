@@ -5,7 +5,8 @@ ghost use Rattle.std.specs.List.{AllByRecursion};
 ghost use Rattle.script_steps.specs.Packing.{CanBePacked, HaveFewPieces};
 ghost use Rattle.lane_history.specs.Links.{LinkReport};
 ghost use Rattle.lane_history.specs.Runs.{AreRunsOver, IsRunOver, ShowsLates, ShowsScripts};
-ghost use Rattle.board_greeting.specs.Boards.{HasRoom, IsIdle, shown_by};
+ghost use Rattle.board_greeting.specs.Boards.{HasRoom, IsIdle};
+ghost use Rattle.board_greeting.specs.Reports.{shown_by};
 ghost use Rattle.session_run.specs.Boards.{IsNamed, OnRun};
 ghost use Rattle.session_run.specs.Lanes.{IsRunOn, IsStoppedLane};
 ghost use Rattle.session_run.specs.Links.{AreLeft, IsLeft, Keeps};
@@ -59,8 +60,8 @@ fn finish_live<L: Link>(
     requires stopped { IsStoppedLane settings scripts.now position spec.now (L.telling lane.link) lane }
     requires ran { IfSome parts (λ there. IsRunOn scripts.now position lane there) }
     ensures ran { IfOk result.1 (λ run. IsRunOver settings spec.now position scripts.now run
-        (shown_by L.faults L.quiets L.gots L.held L.telling result.0)) }
-    ensures left { IsLeft spec.now position scripts.now (shown_by L.faults L.quiets L.gots L.held L.telling result.0) }
+        (shown_by L.Link result.0)) }
+    ensures left { IsLeft spec.now position scripts.now (shown_by L.Link result.0) }
 {
     a_finished_lane_is_a_live_run();
     a_lane_sends_a_merge_at_any_moment();
@@ -111,11 +112,10 @@ fn finish_board<L: Link>(
 ) -> (L, Result<BoardRun, NoMemory>)
     requires can { AllByRecursion (AllByRecursion CanBePacked) scripts.now }
     requires few { AllByRecursion HaveFewPieces scripts.now }
-    requires came { IsCameOf (shown_by L.faults L.quiets L.gots L.held L.telling) settings scripts.now
-        position spec.now board }
+    requires came { IsCameOf (shown_by L.Link) settings scripts.now position spec.now board }
     ensures ran { IfOk result.1 (λ run. IsRunOver settings spec.now position scripts.now run
-        (shown_by L.faults L.quiets L.gots L.held L.telling result.0)) }
-    ensures left { IsLeft spec.now position scripts.now (shown_by L.faults L.quiets L.gots L.held L.telling result.0) }
+        (shown_by L.Link result.0)) }
+    ensures left { IsLeft spec.now position scripts.now (shown_by L.Link result.0) }
 {
     a_fresh_link_is_left();
     match board {
@@ -152,12 +152,11 @@ pub(crate) fn finish_boards<R: Rack>(
     requires few_boards { length specs.now < 2 ^ 32 }
     requires can { AllByRecursion (AllByRecursion CanBePacked) scripts.now }
     requires few { AllByRecursion HaveFewPieces scripts.now }
-    requires came { AreCameOf (shown_by R.L.faults R.L.quiets R.L.gots R.L.held R.L.telling) settings
-        scripts.now 0 specs.now boards }
+    requires came { AreCameOf (shown_by R.L.Link) settings scripts.now 0 specs.now boards }
     requires room { HasRoom (length (R.kept rack.old)) (length (R.made rack.old)) (length specs.now) }
-    ensures ran { IfOk result (λ runs. Keeps R.L.faults R.L.quiets R.L.gots R.L.held R.L.telling (R.kept rack.old)
-        (R.kept rack.new) (AreRunsOver settings 0 specs.now scripts.now runs.items)) }
-    ensures left { Keeps R.L.faults R.L.quiets R.L.gots R.L.held R.L.telling (R.kept rack.old) (R.kept rack.new)
+    ensures ran { IfOk result (λ runs. Keeps R.L.Link (R.kept rack.old) (R.kept rack.new)
+        (AreRunsOver settings 0 specs.now scripts.now runs.items)) }
+    ensures left { Keeps R.L.Link (R.kept rack.old) (R.kept rack.new)
         (λ links. AreLeft 0 specs.now scripts.now links × (length links ≡ length specs.now)) }
     ensures made { R.made rack.new ≡ R.made rack.old }
     ensures faults { R.faults rack.new ≡ R.faults rack.old }

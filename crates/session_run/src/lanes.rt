@@ -3,8 +3,7 @@
 ghost use Rattle.std.specs.Prelude.{◌≡◌, ◌<◌, ◌^◌, length, IfOk, IsOkAnd};
 ghost use Rattle.std.specs.List.{AllByRecursion};
 ghost use Rattle.client_threads.specs.Clients.{AreOfClientsFrom, IsPlanFor};
-ghost use Rattle.script_steps.specs.Executable.{AreExecutable};
-ghost use Rattle.script_steps.specs.Packing.{AreWithinLimits, CanBePacked, HaveFewPieces};
+ghost use Rattle.session_run.specs.Scripts.{CanBeRun};
 ghost use Rattle.session_run.specs.Parts.{HasClients, HasLanes, parts_from};
 ghost use Rattle.session_run.specs.Plans.{AskAllFrom};
 ghost use Rattle.board_greeting.specs.Boards.{HasNoEntry};
@@ -39,11 +38,7 @@ fn plan_lanes<L: Link>(
     positions: &[u32],
     scripts: &[Steps],
 ) -> Result<Vec<BoardPlans>, NoMemory>
-    requires few_clients { length scripts.now < 2 ^ 32 }
-    requires can { AllByRecursion (AllByRecursion CanBePacked) scripts.now }
-    requires few { AllByRecursion HaveFewPieces scripts.now }
-    requires executable { AllByRecursion AreExecutable scripts.now }
-    requires limits { AreWithinLimits scripts.now }
+    requires can { CanBeRun scripts.now }
     requires positions { length positions.now ≡ length lanes.old }
     requires unused { AllByRecursion HasNoEntry lanes.old }
     ensures planned { IfOk result (λ boards. AllFour (IsPlannedOn scripts.now) positions.now lanes.old lanes.new
@@ -67,11 +62,7 @@ fn plan_all<L: Link>(
     scripts: &[Steps],
 ) -> Result<(Vec<BoardPlans>, Vec<ClientPlan>), NoMemory>
     requires few_lanes { length positions.now < 2 ^ 32 }
-    requires few_clients { length scripts.now < 2 ^ 32 }
-    requires can { AllByRecursion (AllByRecursion CanBePacked) scripts.now }
-    requires few { AllByRecursion HaveFewPieces scripts.now }
-    requires executable { AllByRecursion AreExecutable scripts.now }
-    requires limits { AreWithinLimits scripts.now }
+    requires can { CanBeRun scripts.now }
     requires positions { length positions.now ≡ length lanes.old }
     requires unused { AllByRecursion HasNoEntry lanes.old }
     ensures planned { IfOk result (λ made. AllFour (IsPlannedOn scripts.now) positions.now lanes.old lanes.new
@@ -112,11 +103,7 @@ pub(crate) fn run_lanes<L: Link + Send + Drop, T: Threads + Wait + Sync, G: Gate
     gate: &G,
 ) -> (Vec<Lane<L>>, Result<Vec<ClientParts>, NoMemory>)
     requires few_lanes { length positions.now < 2 ^ 32 }
-    requires few_clients { length scripts.now < 2 ^ 32 }
-    requires can { AllByRecursion (AllByRecursion CanBePacked) scripts.now }
-    requires few { AllByRecursion HaveFewPieces scripts.now }
-    requires executable { AllByRecursion AreExecutable scripts.now }
-    requires limits { AreWithinLimits scripts.now }
+    requires can { CanBeRun scripts.now }
     requires positions { length positions.now ≡ length lanes.items }
     requires unused { AllByRecursion HasNoEntry lanes.items }
     ensures ran { IfOk result.1 (λ parts. AllThree (IsRunOn scripts.now) positions.now result.0.items parts.items) }

@@ -1,17 +1,16 @@
 //! The bodies of all clients, planned on a lane.
 
-ghost use Rattle.std.specs.Prelude.{◌≡◌, ◌≤◌, ◌<◌, ◌^◌, ◌++◌, ◌∷◌, [], false, length, IfOk, OnErr, OnOk};
+ghost use Rattle.std.specs.Prelude.{◌≡◌, ◌≤◌, ◌++◌, ◌∷◌, [], false, IfOk, OnErr, OnOk};
 ghost use Rattle.std.specs.List.{AllByRecursion};
 ghost use Rattle.ipb_base.specs.Numbers.{payload_of};
 ghost use Rattle.mtu_packer.specs.Packed.{FitsPackets};
 ghost use Rattle.lane_record.specs.Items.{is_sealed, planned};
 ghost use Rattle.lane_record.specs.NextEntry.{the_seal};
-ghost use Rattle.script_steps.specs.Executable.{AreExecutable};
-ghost use Rattle.script_steps.specs.Packing.{AreWithinLimits, CanBePacked, HaveFewPieces};
 ghost use Rattle.script_plans.specs.declared.greeting.Greeting.TheVariants.{Live};
 ghost use Rattle.script_plans.specs.Plan.{plans_on};
 ghost use Rattle.lane_record.specs.Dispatches.{all_plans_from, plans_from};
 ghost use Rattle.lane_history.specs.Records.{IsPartlyPlanned};
+ghost use Rattle.session_run.specs.Scripts.{CanBeRun};
 ghost use Rattle.session_run.specs.Plans.{HasFewBodies};
 ghost use Rattle.session_run.specs.Clients.{KeepsLane, PlannedSome, bodies_of, with_items};
 ghost use Rattle.session_run.specs.Room.{HasRoomFor};
@@ -87,11 +86,7 @@ pub(crate) fn plan_clients<L: Link>(
     position: u32,
     scripts: &[Steps],
 ) -> Result<Vec<Planned>, NoMemory>
-    requires few_clients { length scripts.now < 2 ^ 32 }
-    requires can { AllByRecursion (AllByRecursion CanBePacked) scripts.now }
-    requires few { AllByRecursion HaveFewPieces scripts.now }
-    requires executable { AllByRecursion AreExecutable scripts.now }
-    requires limits { AreWithinLimits scripts.now }
+    requires can { CanBeRun scripts.now }
     requires unused { lane.old.items ≡ [] }
     ensures plans { IfOk result (λ plans. plans.items
         ≡ plans_on position (Live (payload_of lane.old.status.mtu)) scripts.now) }

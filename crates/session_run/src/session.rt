@@ -3,12 +3,12 @@
 ghost use Rattle.std.specs.Prelude.{◌≡◌, ◌≢◌, ◌^◌, ◌<◌, ◌≤◌, [], length, Err, IfOk, OnErr};
 ghost use Rattle.std.specs.List.{AllByRecursion};
 ghost use Rattle.ipb_base.specs.Faults.{Rose};
-ghost use Rattle.script_steps.specs.Executable.{AreExecutable};
-ghost use Rattle.script_steps.specs.Packing.{AreWithinLimits, CanBePacked, HaveFewPieces};
 ghost use Rattle.lane_history.specs.Links.{IsUntouched};
 ghost use Rattle.lane_history.specs.Runs.{AreRunsOver};
-ghost use Rattle.board_greeting.specs.Boards.{AreReached, HasMemory, HasRoom, shown_by};
+ghost use Rattle.board_greeting.specs.Boards.{AreReached, HasMemory, HasRoom};
+ghost use Rattle.board_greeting.specs.Reports.{shown_by};
 ghost use Rattle.board_greeting.specs.Places.{IsSplitOf};
+ghost use Rattle.session_run.specs.Scripts.{CanBeRun};
 ghost use Rattle.session_run.specs.Links.{AreLeft, AreMadeFor, CanBeReached, Keeps};
 
 use crate::finish::finish_boards;
@@ -85,17 +85,12 @@ fn run_split<R: Rack, T: Threads + Wait + Sync, G: Gate>(
     gate: &G,
 ) -> Result<Vec<BoardRun>, NoMemory>
     requires few_boards { length specs.now < 2 ^ 32 }
-    requires few_clients { length scripts.now < 2 ^ 32 }
-    requires can { AllByRecursion (AllByRecursion CanBePacked) scripts.now }
-    requires few { AllByRecursion HaveFewPieces scripts.now }
-    requires executable { AllByRecursion AreExecutable scripts.now }
-    requires limits { AreWithinLimits scripts.now }
-    requires reached { IsSplitOf (shown_by R.L.faults R.L.quiets R.L.gots R.L.held R.L.telling) settings
-        specs.now split }
+    requires can { CanBeRun scripts.now }
+    requires reached { IsSplitOf (shown_by R.L.Link) settings specs.now split }
     requires room { HasRoom (length (R.kept rack.old)) (length (R.made rack.old)) (length specs.now) }
-    ensures ran { IfOk result (λ runs. Keeps R.L.faults R.L.quiets R.L.gots R.L.held R.L.telling (R.kept rack.old)
-        (R.kept rack.new) (AreRunsOver settings 0 specs.now scripts.now runs.items)) }
-    ensures left { Keeps R.L.faults R.L.quiets R.L.gots R.L.held R.L.telling (R.kept rack.old) (R.kept rack.new)
+    ensures ran { IfOk result (λ runs. Keeps R.L.Link (R.kept rack.old) (R.kept rack.new)
+        (AreRunsOver settings 0 specs.now scripts.now runs.items)) }
+    ensures left { Keeps R.L.Link (R.kept rack.old) (R.kept rack.new)
         (λ links. AreLeft 0 specs.now scripts.now links × (length links ≡ length specs.now)) }
     ensures made { R.made rack.new ≡ R.made rack.old }
     ensures faults { R.faults rack.new ≡ R.faults rack.old }
@@ -122,19 +117,14 @@ pub fn run_greeted<R: Rack, T: Threads + Wait + Sync, G: Gate>(
     gate: &G,
 ) -> Result<Vec<BoardRun>, NoMemory>
     requires few_boards { length specs.now < 2 ^ 32 }
-    requires few_clients { length scripts.now < 2 ^ 32 }
-    requires can { AllByRecursion (AllByRecursion CanBePacked) scripts.now }
-    requires few { AllByRecursion HaveFewPieces scripts.now }
-    requires executable { AllByRecursion AreExecutable scripts.now }
-    requires limits { AreWithinLimits scripts.now }
+    requires can { CanBeRun scripts.now }
     requires all { length boards.items ≡ length specs.now }
     requires memory { AllByRecursion HasMemory boards.items }
-    requires reached { AreReached (shown_by R.L.faults R.L.quiets R.L.gots R.L.held R.L.telling) settings
-        specs.now boards.items }
+    requires reached { AreReached (shown_by R.L.Link) settings specs.now boards.items }
     requires room { HasRoom (length (R.kept rack.old)) (length (R.made rack.old)) (length specs.now) }
-    ensures ran { IfOk result (λ runs. Keeps R.L.faults R.L.quiets R.L.gots R.L.held R.L.telling (R.kept rack.old)
-        (R.kept rack.new) (AreRunsOver settings 0 specs.now scripts.now runs.items)) }
-    ensures left { Keeps R.L.faults R.L.quiets R.L.gots R.L.held R.L.telling (R.kept rack.old) (R.kept rack.new)
+    ensures ran { IfOk result (λ runs. Keeps R.L.Link (R.kept rack.old) (R.kept rack.new)
+        (AreRunsOver settings 0 specs.now scripts.now runs.items)) }
+    ensures left { Keeps R.L.Link (R.kept rack.old) (R.kept rack.new)
         (λ links. AreLeft 0 specs.now scripts.now links × (length links ≡ length specs.now)) }
     ensures made { R.made rack.new ≡ R.made rack.old }
     ensures faults { R.faults rack.new ≡ R.faults rack.old }
@@ -161,24 +151,19 @@ pub fn run_session<R: Rack, T: Threads + Wait + Sync, G: Gate>(
     gate: &G,
 ) -> Result<Vec<BoardRun>, RunFault>
     requires few_boards { length specs.now < 2 ^ 32 }
-    requires few_clients { length scripts.now < 2 ^ 32 }
     requires reached { AllByRecursion CanBeReached specs.now }
-    requires can { AllByRecursion (AllByRecursion CanBePacked) scripts.now }
-    requires few { AllByRecursion HaveFewPieces scripts.now }
-    requires executable { AllByRecursion AreExecutable scripts.now }
-    requires limits { AreWithinLimits scripts.now }
+    requires can { CanBeRun scripts.now }
     // What the runs show of each board is what its link bears out.
-    ensures ran { IfOk result (λ runs. Keeps R.L.faults R.L.quiets R.L.gots R.L.held R.L.telling (R.kept rack.old)
-        (R.kept rack.new) (AreRunsOver settings 0 specs.now scripts.now runs.items)) }
+    ensures ran { IfOk result (λ runs. Keeps R.L.Link (R.kept rack.old) (R.kept rack.new)
+        (AreRunsOver settings 0 specs.now scripts.now runs.items)) }
     // Whatever came of it, links were made of the specs of the first boards, and they are given back board by board; what
     // was sent to each board is what the scripts ask of it.
-    ensures left { Keeps R.L.faults R.L.quiets R.L.gots R.L.held R.L.telling (R.kept rack.old) (R.kept rack.new)
-        (AreLeft 0 specs.now scripts.now) }
-    ensures made { Keeps R.L.faults R.L.quiets R.L.gots R.L.held R.L.telling (R.kept rack.old) (R.kept rack.new)
+    ensures left { Keeps R.L.Link (R.kept rack.old) (R.kept rack.new) (AreLeft 0 specs.now scripts.now) }
+    ensures made { Keeps R.L.Link (R.kept rack.old) (R.kept rack.new)
         (λ links. AreMadeFor specs.now (length links) (R.made rack.old) (R.made rack.new)) }
     ensures rack_fault { result ≡ Err RunFault.Rack → Rose (R.faults rack.old) (R.faults rack.new) }
-    ensures untouched { result ≡ Err RunFault.Rack → Keeps R.L.faults R.L.quiets R.L.gots R.L.held R.L.telling
-        (R.kept rack.old) (R.kept rack.new) (AllByRecursion IsUntouched) }
+    ensures untouched { result ≡ Err RunFault.Rack → Keeps R.L.Link (R.kept rack.old) (R.kept rack.new)
+        (AllByRecursion IsUntouched) }
     ensures later { R.faults rack.old ≤ R.faults rack.new }
     ensures unfaulted { result ≢ Err RunFault.Rack → R.faults rack.new ≡ R.faults rack.old }
 {

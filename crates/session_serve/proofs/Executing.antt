@@ -9,7 +9,7 @@ use Rattle.std.proofs.lemmas.Option.{same_Some}
 use Rattle.ipb_base.specs.Lists.{IsPrefix}
 use Rattle.ipb_outside.specs.Pairs.{PairReport}
 use Rattle.packet_codec.specs.declared.packet.Packet.{Packet}
-use Rattle.world_core.specs.Telling.{Telling}
+use Rattle.world_core.specs.declared.link.Link.{Ghosts}
 use Rattle.world_model.specs.Board.{Board, executed}
 use Rattle.world_model.specs.Settings.{Limits}
 use Rattle.board_node.specs.declared.spec.BoardSpec.{BoardSpec}
@@ -36,7 +36,8 @@ use Rattle.hub_session.specs.Exchanges.{LaneRequest, request_in}
 use Rattle.script_plans.specs.declared.greeting.Greeting.{Greeting}
 use Rattle.script_plans.specs.declared.greeting.Greeting.TheVariants as greeting
 use Rattle.client_threads.specs.Running.{AtEach}
-use Rattle.board_greeting.specs.Boards.{AreReached, HasMemory, shown_by}
+use Rattle.board_greeting.specs.Boards.{AreReached, HasMemory}
+use Rattle.board_greeting.specs.Reports.{shown_by}
 use Rattle.board_greeting.specs.Places.{lanes_in, place_of, rejoined}
 use Rattle.board_greeting.specs.declared.rejoined.Board.{Board as Rejoined}
 use Rattle.board_greeting.proofs.Lanes.{lane_back}
@@ -184,16 +185,16 @@ abbrev PlansAt : {L : Type 0} → List Greeting → List (List RequestFrame) →
 PlansAt told connections lane old new = (position : ℕ) → IsLaneAt (states_from 0 told) lane position
     → PlansFrames position connections new.items
 
-module _ (L C : Type 0) (faults quiets gots held : L → ℕ) (tells : L → Option Telling) (settings : Limits)
-    (law : MergeLaw) (told : List Greeting) (connections : List (List RequestFrame)) where
+module _ (L C : Type 0) (seen : Ghosts L) (settings : Limits) (law : MergeLaw) (told : List Greeting)
+    (connections : List (List RequestFrame)) where
   abbrev shows : L → LinkReport
-  shows = shown_by faults quiets gots held tells
+  shows = shown_by seen
 
   executed_only : (position lane : ℕ) (specs : List BoardSpec) (boards : List (Greeted L)) (news : List (LaneState L))
       → length boards ≡ length specs → AllByRecursion HasMemory boards → AreReached shows settings specs boards
-      → StandFrom told position lane boards → SideBySide lane (lanes_in boards) news (λ n. KeepsHead tells)
+      → StandFrom told position lane boards → SideBySide lane (lanes_in boards) news (λ n. KeepsHead seen.telling)
       → SideBySide lane (lanes_in boards) news (PlansAt told connections)
-      → AllByRecursion (IsSound faults quiets gots held tells) (rejoined {P = C} (map place_of boards) news [])
+      → AllByRecursion (IsSound seen) (rejoined {P = C} (map place_of boards) news [])
       → HaveExecutedOnly position connections (map shows
       (map (λ (b : Rejoined L C). link_in b) (rejoined (map place_of boards) news [])))
   executed_only position lane [] [] news long memory are stand heads plans sound = tt
@@ -202,8 +203,8 @@ module _ (L C : Type 0) (faults quiets gots held : L → ℕ) (tells : L → Opt
   executed_only position lane (s ∷ specs) (Ready old ∷ boards) [] long memory are stand heads plans sound =
       absurd (let l = heads.long in omega (arith, l))
   executed_only position lane (s ∷ specs) (Ready old ∷ boards) (n ∷ news) long memory are stand heads plans sound =
-      let to = lane_back tells (shows old.link) settings s old n are.0 refl
-      (first_of lane old (lanes_in boards) n news (λ k. KeepsHead tells) heads) in
+      let to = lane_back seen.telling (shows old.link) settings s old n are.0 refl
+      (first_of lane old (lanes_in boards) n news (λ k. KeepsHead seen.telling) heads) in
       let here : slice_get (states_from 0 told) position ≡ Some (stands.Lane lane) =
       ap (λ k. slice_get (states_from 0 told) k) (let up : position ≡ position + 0 = omega arith in up) ∙ stand 0 in
       let planned = first_of lane old (lanes_in boards) n news (PlansAt told connections) plans position
@@ -212,7 +213,7 @@ module _ (L C : Type 0) (faults quiets gots held : L → ℕ) (tells : L → Opt
             (sound.0.1 settings s to).sound planned,
         executed_only (position + 1) (lane + 1) specs boards news (omega (arith, long)) memory.1 are.1
             (one_later (states_from 0 told) _ position _ stand)
-            (rest_of lane old (lanes_in boards) n news (λ k. KeepsHead tells) heads)
+            (rest_of lane old (lanes_in boards) n news (λ k. KeepsHead seen.telling) heads)
             (rest_of lane old (lanes_in boards) n news (PlansAt told connections) plans) sound.1,
       )
   executed_only position lane (s ∷ specs) (Silent link rounds ∷ boards) news long memory are stand heads plans sound = (
@@ -229,21 +230,20 @@ module _ (L C : Type 0) (faults quiets gots held : L → ℕ) (tells : L → Opt
       absurd memory.0
 
 -- what the boards of lanes that came back executed came in frames
-pub came_in_frames : {L C : Type 0} → MergeLaw → (faults quiets gots held : L → ℕ) (tells : L → Option Telling)
-    (settings : Limits) (specs : List BoardSpec) (boards : List (Greeted L)) (olds news : List (LaneState L))
-    (all : List BoardState) (came back : List PairReport) (ended : List (Rejoined L C))
+pub came_in_frames : {L C : Type 0} → MergeLaw → (seen : Ghosts L) (settings : Limits) (specs : List BoardSpec)
+    (boards : List (Greeted L)) (olds news : List (LaneState L)) (all : List BoardState) (came back : List PairReport)
+    (ended : List (Rejoined L C))
     → ended ≡ rejoined (map place_of boards) news [] → olds ≡ lanes_in boards
     → all ≡ states_from 0 (map (λ (b : Greeted L). told_by b) boards) → length boards ≡ length specs
-    → AllByRecursion HasMemory boards → AreReached (shown_by faults quiets gots held tells) settings specs boards
-    → AtEach olds news (λ lane. KeepsHead tells) → AllByRecursion (IsSound faults quiets gots held tells) ended
+    → AllByRecursion HasMemory boards → AreReached (shown_by seen) settings specs boards
+    → AtEach olds news (λ lane. KeepsHead seen.telling) → AllByRecursion (IsSound seen) ended
     → ArePlannedAt all olds news came back
-    → CameInFrames (map (shown_by faults quiets gots held tells) (map (λ (b : Rejoined L C). link_in b) ended)) came
-    back
-came_in_frames {L} {C} law faults quiets gots held tells settings specs boards olds news all came back ended is lanes
-    states long memory are heads sound at =
+    → CameInFrames (map (shown_by seen) (map (λ (b : Rejoined L C). link_in b) ended)) came back
+came_in_frames {L} {C} law seen settings specs boards olds news all came back ended is lanes states long memory are
+    heads sound at =
     let told = map (λ (b : Greeted L). told_by b) boards in
-    let shows = shown_by faults quiets gots held tells in
-    let here = subst (λ (l : List (LaneState L)). AtEach l news (λ lane. KeepsHead tells)) lanes heads in
+    let shows = shown_by seen in
+    let here = subst (λ (l : List (LaneState L)). AtEach l news (λ lane. KeepsHead seen.telling)) lanes heads in
     let on = subst (λ (l : List (LaneState L)). AtEach l news (PlansAt told at.connections)) lanes
     (subst (λ (a : List BoardState). AtEach olds news (λ lane old new. (position : ℕ) → IsLaneAt a lane position
     → PlansFrames position at.connections new.items)) states at.lanes) in
@@ -252,11 +252,11 @@ came_in_frames {L} {C} law faults quiets gots held tells settings specs boards o
       sent = at.sent;
       executed' = subst (λ (e : List (Rejoined L C)). HaveExecutedOnly 0 at.connections
           (map shows (map (λ (b : Rejoined L C). link_in b) e))) (sym is)
-          (executed_only L C faults quiets gots held tells settings law told at.connections 0 0 specs boards news long
-          memory are (λ i. ap (λ n. slice_get (states_from 0 told) n) (let same : 0 + i ≡ i = omega arith in same))
-          (from_each (lanes_in boards) news (λ lane. KeepsHead tells) here)
+          (executed_only L C seen settings law told at.connections 0 0 specs boards news long memory are
+          (λ i. ap (λ n. slice_get (states_from 0 told) n) (let same : 0 + i ≡ i = omega arith in same))
+          (from_each (lanes_in boards) news (λ lane. KeepsHead seen.telling) here)
           (from_each (lanes_in boards) news (PlansAt told at.connections) on)
-          (subst (AllByRecursion (IsSound faults quiets gots held tells)) is sound));
+          (subst (AllByRecursion (IsSound seen)) is sound));
     }
 
 -- ---- where no connection was let in

@@ -1,42 +1,42 @@
 -- Boards that are finished one after another.
-use Rattle.std.proofs.Common.{◌≡◌, ◌∙◌, ℕ, List, [], ◌∷◌, ◌++◌, map, length, Option, refl, sym, ap, subst, suc, arith}
+use Rattle.std.proofs.Common.{◌≡◌, ◌∙◌, ℕ, List, [], ◌∷◌, ◌++◌, map, length, refl, sym, ap, subst, suc, arith}
 use Rattle.std.proofs.Common.{append_assoc, append-nil}
 use Rattle.std.specs.List.{AllByRecursion}
 use Rattle.std.proofs.lemmas.List.{nil_from_length}
-use Rattle.world_core.specs.Telling.{Telling}
+use Rattle.world_core.specs.declared.link.Link.{Ghosts}
 use Rattle.transcript.specs.declared.line.BoardLine.{BoardLine}
 use Rattle.board_greeting.specs.declared.rejoined.Board.{Board}
 use Rattle.session_serve.specs.Finish.{IsSound, line_in, lines_in, link_in}
 
-pub record FinishedSoFar {L C : Type 0} (faults quiets gots held : L → ℕ) (telling : L → Option Telling)
-    (names : List (List ℕ)) (boards : List (Board L C)) (names_left : List (List ℕ)) (left : List (Board L C))
-    (lines : List BoardLine) (kept kept_now : List L) : Type 0 where
-  pub lines' : lines ++ lines_in names_left left ≡ lines_in names boards
-  pub links : kept_now ++ map (λ (b : Board L C). link_in b) left ≡ kept ++ map (λ (b : Board L C). link_in b) boards
-  pub all : length names_left ≡ length left
-  pub sound : AllByRecursion (IsSound faults quiets gots held telling) left
-      → AllByRecursion (IsSound faults quiets gots held telling) boards
+pub record FinishedSoFar {L C : Type 0} (seen : Ghosts L) (names : List (List ℕ)) (boards : List (Board L C))
+    (names_left : List (List ℕ)) (left : List (Board L C)) (lines : List BoardLine) (kept kept_now : List L) : Type 0
+  where
+    pub lines' : lines ++ lines_in names_left left ≡ lines_in names boards
+    pub links : kept_now ++ map (λ (b : Board L C). link_in b) left ≡ kept ++ map (λ (b : Board L C). link_in b) boards
+    pub all : length names_left ≡ length left
+    pub sound : AllByRecursion (IsSound seen) left
+        → AllByRecursion (IsSound seen) boards
 
-pub none_finished : {L C : Type 0} (faults quiets gots held : L → ℕ) (telling : L → Option Telling)
-    (names : List (List ℕ)) (boards : List (Board L C)) (lines : List BoardLine) (kept : List L)
+pub none_finished : {L C : Type 0} (seen : Ghosts L) (names : List (List ℕ)) (boards : List (Board L C))
+    (lines : List BoardLine) (kept : List L)
     → length names ≡ length boards → lines ≡ []
-    → FinishedSoFar faults quiets gots held telling names boards names boards lines kept kept
-none_finished faults quiets gots held telling names boards lines kept all none = record {
+    → FinishedSoFar seen names boards names boards lines kept kept
+none_finished seen names boards lines kept all none = record {
   lines' = ap (λ (l : List BoardLine). l ++ lines_in names boards) none;
   links = refl;
   all = all;
   sound = λ s. s;
 }
 
-pub one_finished : {L C : Type 0} (faults quiets gots held : L → ℕ) (telling : L → Option Telling)
-    (names : List (List ℕ)) (boards : List (Board L C)) (names_left names_later : List (List ℕ)) (name : List ℕ)
-    (left later : List (Board L C)) (board : Board L C) (lines lines_now : List BoardLine) (kept mid now : List L)
-    → FinishedSoFar faults quiets gots held telling names boards names_left left lines kept mid
+pub one_finished : {L C : Type 0} (seen : Ghosts L) (names : List (List ℕ)) (boards : List (Board L C))
+    (names_left names_later : List (List ℕ)) (name : List ℕ) (left later : List (Board L C)) (board : Board L C)
+    (lines lines_now : List BoardLine) (kept mid now : List L)
+    → FinishedSoFar seen names boards names_left left lines kept mid
     → names_left ≡ name ∷ names_later → left ≡ board ∷ later → lines_now ≡ lines ++ line_in name board ∷ []
-    → now ≡ mid ++ link_in board ∷ [] → IsSound faults quiets gots held telling board
-    → FinishedSoFar faults quiets gots held telling names boards names_later later lines_now kept now
-one_finished {L} {C} faults quiets gots held telling names boards names_left names_later name left later board lines
-    lines_now kept mid now so_far names_are left_is pushed given sound =
+    → now ≡ mid ++ link_in board ∷ [] → IsSound seen board
+    → FinishedSoFar seen names boards names_later later lines_now kept now
+one_finished {L} {C} seen names boards names_left names_later name left later board lines lines_now kept mid now so_far
+    names_are left_is pushed given sound =
     let links = λ (bs : List (Board L C)). map (λ (b : Board L C). link_in b) bs in
     record {
       lines' = ap (λ (l : List BoardLine). l ++ lines_in names_later later) pushed
@@ -48,39 +48,35 @@ one_finished {L} {C} faults quiets gots held telling names boards names_left nam
           ∙ (sym (ap (λ (b : List (Board L C)). mid ++ links b) left_is) ∙ so_far.links));
       all = (let a = so_far.all in let n = ap (λ (l : List (List ℕ)). length l) names_are in
           let b = ap (λ (l : List (Board L C)). length l) left_is in omega (arith, a, n, b));
-      sound = λ rest. so_far.sound (subst (AllByRecursion (IsSound faults quiets gots held telling)) (sym left_is)
+      sound = λ rest. so_far.sound (subst (AllByRecursion (IsSound seen)) (sym left_is)
           (sound, rest));
     }
 
-pub record Finished {L C : Type 0} (faults quiets gots held : L → ℕ) (telling : L → Option Telling)
-    (names : List (List ℕ)) (boards : List (Board L C)) (lines : List BoardLine) (kept kept_now : List L) : Type 0 where
+pub record Finished {L C : Type 0} (seen : Ghosts L) (names : List (List ℕ)) (boards : List (Board L C))
+    (lines : List BoardLine) (kept kept_now : List L) : Type 0 where
   pub lines' : lines ≡ lines_in names boards
   pub links : kept_now ≡ kept ++ map (λ (b : Board L C). link_in b) boards
-  pub sound : AllByRecursion (IsSound faults quiets gots held telling) boards
+  pub sound : AllByRecursion (IsSound seen) boards
 
-pub all_finished : {L C : Type 0} (faults quiets gots held : L → ℕ) (telling : L → Option Telling)
-    (names : List (List ℕ)) (boards : List (Board L C)) (names_left : List (List ℕ)) (left : List (Board L C))
-    (lines : List BoardLine) (kept now : List L)
-    → FinishedSoFar faults quiets gots held telling names boards names_left left lines kept now
-    → length names_left ≡ 0 → Finished faults quiets gots held telling names boards lines kept now
-all_finished {L} {C} faults quiets gots held telling names boards names_left left lines kept now so_far over =
+pub all_finished : {L C : Type 0} (seen : Ghosts L) (names : List (List ℕ)) (boards : List (Board L C))
+    (names_left : List (List ℕ)) (left : List (Board L C)) (lines : List BoardLine) (kept now : List L)
+    → FinishedSoFar seen names boards names_left left lines kept now
+    → length names_left ≡ 0 → Finished seen names boards lines kept now
+all_finished {L} {C} seen names boards names_left left lines kept now so_far over =
     let no_names = nil_from_length names_left over in
     let no_boards = nil_from_length left (let a = so_far.all in omega (arith, a, over)) in
-    let here = subst (λ (b : List (Board L C)). FinishedSoFar faults quiets gots held telling names boards [] b lines
-    kept
-    now) no_boards (subst (λ (n : List (List ℕ)). FinishedSoFar faults quiets gots held telling names boards n left
-    lines
-    kept now) no_names so_far) in
+    let here = subst (λ (b : List (Board L C)). FinishedSoFar seen names boards [] b lines kept now) no_boards
+    (subst (λ (n : List (List ℕ)). FinishedSoFar seen names boards n left lines kept now) no_names so_far) in
     record {
       lines' = sym (append-nil lines) ∙ here.lines';
       links = sym (append-nil now) ∙ here.links;
       sound = here.sound tt;
     }
 
-pub some_left : {L C : Type 0} (faults quiets gots held : L → ℕ) (telling : L → Option Telling)
-    (names : List (List ℕ)) (boards : List (Board L C)) (names_left names_later : List (List ℕ)) (name : List ℕ)
-    (left : List (Board L C)) (lines : List BoardLine) (kept now : List L)
-    → FinishedSoFar faults quiets gots held telling names boards names_left left lines kept now
+pub some_left : {L C : Type 0} (seen : Ghosts L) (names : List (List ℕ)) (boards : List (Board L C))
+    (names_left names_later : List (List ℕ)) (name : List ℕ) (left : List (Board L C)) (lines : List BoardLine)
+    (kept now : List L)
+    → FinishedSoFar seen names boards names_left left lines kept now
     → names_left ≡ name ∷ names_later → length left ≡ suc (length names_later)
-some_left faults quiets gots held telling names boards names_left names_later name left lines kept now so_far is =
+some_left seen names boards names_left names_later name left lines kept now so_far is =
     sym so_far.all ∙ ap (λ (l : List (List ℕ)). length l) is

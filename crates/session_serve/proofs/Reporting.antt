@@ -9,6 +9,7 @@ use Rattle.turn_pass.specs.Pass.{Knowledge}
 use Rattle.turn_pass.specs.Record.{Record}
 use Rattle.ipb_outside.specs.Pairs.{PairReport}
 use Rattle.world_model.specs.Hub.{Hub}
+use Rattle.world_core.specs.declared.link.Link.{Ghosts}
 use Rattle.world_core.specs.Telling.{Telling}
 use Rattle.world_model.specs.Settings.{Limits}
 use Rattle.board_node.specs.declared.spec.BoardSpec.{BoardSpec}
@@ -42,7 +43,8 @@ use Rattle.client_history.specs.Boards.{AreServedOver, IsServedOver, ServedBoard
 use Rattle.client_history.specs.Connections.{WereServedOn, bodies_of, dispatches_of}
 use Rattle.client_history.specs.Planned.{KeepLimits}
 use Rattle.board_greeting.specs.Boards.{AreFreshLinks, AreReached, HasMemory, IsEndedLane, IsLaneTo}
-use Rattle.board_greeting.specs.Boards.{head_shown, shown_by}
+use Rattle.board_greeting.specs.Boards.{head_shown}
+use Rattle.board_greeting.specs.Reports.{shown_by}
 use Rattle.board_greeting.specs.Places.{lanes_in, place_of, rejoined}
 use Rattle.board_greeting.specs.declared.rejoined.Board.{Board}
 use Rattle.board_greeting.proofs.Lanes.{lane_back}
@@ -143,14 +145,14 @@ asked_same all conversations lane (NoMemory link ∷ boards) =
 both_lines : {a b : BoardLine} {x y : List BoardLine} → a ≡ b → x ≡ y → a ∷ x ≡ b ∷ y
 both_lines p q = (λ i. p i ∷ q i)
 
-module _ (L C : Type 0) (faults quiets gots held : L → ℕ) (tells : L → Option Telling) (settings : Limits) where
+module _ (L C : Type 0) (seen : Ghosts L) (settings : Limits) where
   -- the links are those of the boards
   pub links_to : (lane : ℕ) (specs : List BoardSpec) (boards : List (Greeted L)) (news : List (LaneState L))
       → length boards ≡ length specs → AllByRecursion HasMemory boards
-      → AreReached (shown_by faults quiets gots held tells) settings specs boards
-      → SideBySide lane (lanes_in boards) news (λ n. KeepsHead tells)
-      → AllByRecursion (IsSound faults quiets gots held tells) (rejoined {P = C} (map place_of boards) news [])
-      → AreLinksTo specs (map (shown_by faults quiets gots held tells)
+      → AreReached (shown_by seen) settings specs boards
+      → SideBySide lane (lanes_in boards) news (λ n. KeepsHead seen.telling)
+      → AllByRecursion (IsSound seen) (rejoined {P = C} (map place_of boards) news [])
+      → AreLinksTo specs (map (shown_by seen)
       (map (λ (b : Board L C). link_in b) (rejoined (map place_of boards) news [])))
       × (length (rejoined {P = C} (map place_of boards) news []) ≡ length specs)
   links_to lane [] [] news long memory are side sound = (tt, refl)
@@ -160,9 +162,9 @@ module _ (L C : Type 0) (faults quiets gots held : L → ℕ) (tells : L → Opt
       absurd (let l = side.long in omega (arith, l))
   links_to lane (s ∷ specs) (Ready old ∷ boards) (n ∷ news) long memory are side sound =
       let rest = links_to (lane + 1) specs boards news (omega (arith, long)) memory.1 are.1
-      (rest_of lane old (lanes_in boards) n news (λ k. KeepsHead tells) side) sound.1 in
-      let to = lane_back tells (shown_by faults quiets gots held tells old.link) settings s old n are.0 refl
-      (first_of lane old (lanes_in boards) n news (λ k. KeepsHead tells) side) in
+      (rest_of lane old (lanes_in boards) n news (λ k. KeepsHead seen.telling) side) sound.1 in
+      let to = lane_back seen.telling (shown_by seen old.link) settings s old n are.0 refl
+      (first_of lane old (lanes_in boards) n news (λ k. KeepsHead seen.telling) side) in
       (((sound.0.1 settings s to).board', rest.0), ap suc rest.1)
   links_to lane (s ∷ specs) (Silent link rounds ∷ boards) news long memory are side sound =
       let rest = links_to lane specs boards news (omega (arith, long)) memory.1 are.1 side sound.1 in
@@ -176,35 +178,37 @@ module _ (L C : Type 0) (faults quiets gots held : L → ℕ) (tells : L → Opt
       (conversations : List Conversation) where
     -- what is shown of a live board, and its line
     live_served : (lane : ℕ) (spec : BoardSpec) (old new : LaneState L)
-        → IsLaneTo settings spec (tells new.link) new → KeepsHead tells old new
-        → IsServedLane tells (submitted_on all lane conversations) old new
+        → IsLaneTo settings spec (seen.telling new.link) new → KeepsHead seen.telling old new
+        → IsServedLane seen.telling (submitted_on all lane conversations) old new
         → IsLane new.settings new.status new.hub new.items new.outcomes new.lates new.give_ups new.down new.spent
-        (tells new.link) (faults new.link) (quiets new.link)
-        → IsEndedLane settings spec new (shown_by faults quiets gots held tells new.link)
+        (seen.telling new.link) (seen.faults new.link) (seen.quiets new.link)
+        → IsEndedLane settings spec new (shown_by seen new.link)
         → IsServedOver settings spec (served_board all conversations (greeting.Live (payload_of old.status.mtu))
-        (stands.Lane lane)) (shown_by faults quiets gots held tells new.link)
+        (stands.Lane lane)) (shown_by seen new.link)
         × (board_line (run_of spec (served_board all conversations (greeting.Live (payload_of old.status.mtu))
         (stands.Lane lane))) ≡ lane_line spec.name new)
     live_served lane spec old new to heads served is ended =
         let connections = submitted_on all lane conversations in
-        let left = record_law connections (head_shown tells old) (head_shown tells new) new.items served.after
-        (shown tells new) served.served_on served.ended refl in
+        let left = record_law connections (head_shown seen.telling old) (head_shown seen.telling new) new.items
+        served.after
+        (shown seen.telling new) served.served_on served.ended refl in
         let mtu : new.status.mtu ≡ old.status.mtu = ap (λ (h : Head). h.mtu) heads in
         let payload = subst (λ n. TellsPayload spec.link (payload_of n)) mtu ended.payload in (
-          served_law settings spec (shown_by faults quiets gots held tells new.link) (payload_of old.status.mtu)
-              connections new.items new.outcomes new.lates new.give_ups ended.board' payload left ended.sound,
+          served_law settings spec (shown_by seen new.link) (payload_of old.status.mtu) connections new.items
+              new.outcomes new.lates new.give_ups ended.board' payload left ended.sound,
           line_law new.settings new.status new.hub new.items new.outcomes new.lates new.give_ups new.down new.spent
-              (tells new.link) (faults new.link) (quiets new.link) spec (payload_of old.status.mtu) connections is left,
+              (seen.telling new.link) (seen.faults new.link) (seen.quiets new.link) spec (payload_of old.status.mtu)
+              connections is left,
         )
 
     pub all_served_over : (lane : ℕ) (specs : List BoardSpec) (boards : List (Greeted L)) (news : List (LaneState L))
         → length boards ≡ length specs → AllByRecursion HasMemory boards
-        → AreReached (shown_by faults quiets gots held tells) settings specs boards
-        → SideBySide lane (lanes_in boards) news (λ n. KeepsHead tells)
-        → SideBySide lane (lanes_in boards) news (λ n. IsServedLane tells (submitted_on all n conversations))
-        → AllByRecursion (IsSound faults quiets gots held tells) (rejoined {P = C} (map place_of boards) news [])
+        → AreReached (shown_by seen) settings specs boards
+        → SideBySide lane (lanes_in boards) news (λ n. KeepsHead seen.telling)
+        → SideBySide lane (lanes_in boards) news (λ n. IsServedLane seen.telling (submitted_on all n conversations))
+        → AllByRecursion (IsSound seen) (rejoined {P = C} (map place_of boards) news [])
         → AreServedOver settings specs (served_boards all conversations lane boards)
-        (map (shown_by faults quiets gots held tells)
+        (map (shown_by seen)
         (map (λ (b : Board L C). link_in b) (rejoined (map place_of boards) news [])))
         × (lines_in (map (λ (s : BoardSpec). s.name) specs) (rejoined {P = C} (map place_of boards) news [])
         ≡ lines_of specs (served_boards all conversations lane boards))
@@ -214,16 +218,15 @@ module _ (L C : Type 0) (faults quiets gots held : L → ℕ) (tells : L → Opt
     all_served_over lane (s ∷ specs) (Ready old ∷ boards) [] long memory are heads served sound =
         absurd (let l = heads.long in omega (arith, l))
     all_served_over lane (s ∷ specs) (Ready old ∷ boards) (n ∷ news) long memory are heads served sound =
-        let head = first_of lane old (lanes_in boards) n news (λ k. KeepsHead tells) heads in
-        let on = first_of lane old (lanes_in boards) n news (λ k. IsServedLane tells (submitted_on all k conversations))
-        served in
-        let to = lane_back tells (shown_by faults quiets gots held tells old.link) settings s old n are.0 refl
-        head in
+        let head = first_of lane old (lanes_in boards) n news (λ k. KeepsHead seen.telling) heads in
+        let on = first_of lane old (lanes_in boards) n news
+        (λ k. IsServedLane seen.telling (submitted_on all k conversations)) served in
+        let to = lane_back seen.telling (shown_by seen old.link) settings s old n are.0 refl head in
         let one = live_served lane s old n to head on sound.0.0 (sound.0.1 settings s to) in
         let rest = all_served_over (lane + 1) specs boards news (omega (arith, long)) memory.1 are.1
-        (rest_of lane old (lanes_in boards) n news (λ k. KeepsHead tells) heads)
-        (rest_of lane old (lanes_in boards) n news (λ k. IsServedLane tells (submitted_on all k conversations)) served)
-        sound.1 in
+        (rest_of lane old (lanes_in boards) n news (λ k. KeepsHead seen.telling) heads)
+        (rest_of lane old (lanes_in boards) n news (λ k. IsServedLane seen.telling (submitted_on all k conversations))
+        served) sound.1 in
         ((one.0, rest.0), both_lines (sym one.1) rest.1)
     all_served_over lane (s ∷ specs) (Silent link rounds ∷ boards) news long memory are heads served sound =
         let rest = all_served_over lane specs boards news (omega (arith, long)) memory.1 are.1 heads served sound.1 in (
@@ -399,33 +402,30 @@ untouched_links settings (s ∷ specs) (l ∷ links) are =
 
 -- ---- the report
 
-pub are_served : {L C : Type 0} → RecordLaw → ServedLaw → LineLaw → (faults quiets gots held : L → ℕ)
-    (tells : L → Option Telling) (settings : Limits) (specs : List BoardSpec) (boards : List (Greeted L))
+pub are_served : {L C : Type 0} → RecordLaw → ServedLaw → LineLaw
+    → (seen : Ghosts L) (settings : Limits) (specs : List BoardSpec) (boards : List (Greeted L))
     (olds news : List (LaneState L)) (all : List BoardState) (came back : List PairReport) (served : List Served)
     (names : List (List ℕ)) (lines : List BoardLine) (ended : List (Board L C))
     → ended ≡ rejoined (map place_of boards) news [] → olds ≡ lanes_in boards
     → all ≡ states_from 0 (map (λ (b : Greeted L). told_by b) boards)
     → names ≡ map (λ (s : BoardSpec). s.name) specs → lines ≡ lines_in names ended
     → length boards ≡ length specs → AllByRecursion HasMemory boards
-    → AreReached (shown_by faults quiets gots held tells) settings specs boards
-    → AtEach olds news (λ lane. KeepsHead tells) → AllByRecursion (IsSound faults quiets gots held tells) ended
-    → AreServedAt tells all olds news came back served
-    → AreServed settings specs (map (shown_by faults quiets gots held tells) (map (λ (b : Board L C). link_in b) ended))
-    came back served lines
-are_served {L} {C} record_law served_law line_law faults quiets gots held tells settings specs boards olds news all
-    came back
-    served names lines ended is lanes states names_are lines_are long memory are heads sound at =
-    let shows = shown_by faults quiets gots held tells in
+    → AreReached (shown_by seen) settings specs boards
+    → AtEach olds news (λ lane. KeepsHead seen.telling) → AllByRecursion (IsSound seen) ended
+    → AreServedAt seen.telling all olds news came back served
+    → AreServed settings specs (map (shown_by seen) (map (λ (b : Board L C). link_in b) ended)) came back served lines
+are_served {L} {C} record_law served_law line_law seen settings specs boards olds news all came back served names lines
+    ended is lanes states names_are lines_are long memory are heads sound at =
+    let shows = shown_by seen in
     let conversations = at.conversations in
     let shown_boards = served_boards all conversations 0 boards in
-    let here = subst (λ (l : List (LaneState L)). AtEach l news (λ lane. KeepsHead tells)) lanes heads in
-    let on = subst (λ (l : List (LaneState L)). AtEach l news (λ lane. IsServedLane tells (submitted_on all lane
+    let here = subst (λ (l : List (LaneState L)). AtEach l news (λ lane. KeepsHead seen.telling)) lanes heads in
+    let on = subst (λ (l : List (LaneState L)). AtEach l news (λ lane. IsServedLane seen.telling (submitted_on all lane
     conversations))) lanes at.lanes in
-    let over = all_served_over L C faults quiets gots held tells settings record_law served_law line_law all
-    conversations 0
-    specs boards news long memory are (from_each (lanes_in boards) news (λ lane. KeepsHead tells) here)
-    (from_each (lanes_in boards) news (λ lane. IsServedLane tells (submitted_on all lane conversations)) on)
-    (subst (AllByRecursion (IsSound faults quiets gots held tells)) is sound) in
+    let over = all_served_over L C seen settings record_law served_law line_law all conversations 0 specs boards news
+    long memory are (from_each (lanes_in boards) news (λ lane. KeepsHead seen.telling) here)
+    (from_each (lanes_in boards) news (λ lane. IsServedLane seen.telling (submitted_on all lane conversations)) on)
+    (subst (AllByRecursion (IsSound seen)) is sound) in
     let stand : states_of shown_boards ≡ all = ap (states_from 0) (told_same all conversations 0 boards) ∙ sym states in
     let states_at : (position lane : ℕ) → slice_get (states_of shown_boards) position ≡ Some (stands.Lane lane)
     → slice_get (states_from 0 (map (λ (b : Greeted L). told_by b) boards)) position ≡ Some (stands.Lane lane) =

@@ -1,9 +1,11 @@
 -- How boards stand, one more.
 use Rattle.std.proofs.Common.{◌≡◌, ◌∙◌, ℕ, ◌+◌, ◌≤◌, ◌<◌, List, [], ◌∷◌, ◌++◌, map, length, drop, get_or, refl, sym}
 use Rattle.std.proofs.Common.{ap, subst, arith}
-use Rattle.std.proofs.Common.{append_assoc, Bool, Option}
+use Rattle.std.proofs.Common.{append_assoc, Option}
 use Rattle.std.specs.List.{AllByRecursion}
 use Rattle.std.proofs.lemmas.List.{drop_more}
+use Rattle.ipb_outside.specs.declared.sink.Sink.{Ghosts as SinkGhosts}
+use Rattle.ipb_outside.specs.declared.source.Source.{Ghosts as SourceGhosts}
 use Rattle.ipb_outside.specs.Pairs.{GivesBack, PairReport, pair_shown}
 use Rattle.hub_lane.specs.declared.greeting.Greeted.{Greeted}
 use Rattle.hub_lane.specs.declared.greeting.Greeted.TheVariants.{Ready, Silent, Down, NoMemory}
@@ -72,13 +74,13 @@ states_within boards =
     (states_below 0 boards)
 
 -- pairs came and went back where the boards stood as these greetings told
-pub back_as_told : {I O : Type 0} (left : I → Option (List ℕ)) (read_faults : I → ℕ) (written : O → Option (List ℕ))
-    (write_faults : O → ℕ) (ended : O → Bool) (coming coming_now kept kept_now : Option (List (I × O)))
-    (states : List BoardState) (told : List Greeting) → states ≡ states_from 0 told
-    → GivesBack left read_faults written write_faults ended coming coming_now kept kept_now (AreBackFrom states)
-    → GivesBack left read_faults written write_faults ended coming coming_now kept kept_now AreBack
-back_as_told {I} {O} left read_faults written write_faults ended coming coming_now kept kept_now states told is back =
-    let shows : I × O → PairReport = pair_shown left read_faults written write_faults ended in (
+pub back_as_told : {I O : Type 0} (source : SourceGhosts I) (sink : SinkGhosts O)
+    (coming coming_now kept kept_now : Option (List (I × O))) (states : List BoardState) (told : List Greeting)
+    → states ≡ states_from 0 told
+    → GivesBack source sink coming coming_now kept kept_now (AreBackFrom states)
+    → GivesBack source sink coming coming_now kept kept_now AreBack
+back_as_told {I} {O} source sink coming coming_now kept kept_now states told is back =
+    let shows : I × O → PairReport = pair_shown source sink in (
       back.0,
       back.1,
       back.2,

@@ -1,6 +1,6 @@
 -- The boards once their lanes came back. What private functions promise one another; no public clause speaks of these.
-use Rattle.std.specs.Prelude.{ℕ, List, [], ◌∷◌, length, count_by, Option}
-use Rattle.world_core.specs.Telling.{Telling}
+use Rattle.std.specs.Prelude.{ℕ, List, [], ◌∷◌, length, count_by}
+use Rattle.world_core.specs.declared.link.Link.{Ghosts}
 use Rattle.world_model.specs.Settings.{Limits}
 use Rattle.board_node.specs.declared.spec.BoardSpec.{BoardSpec}
 use Rattle.lane_record.specs.Bounds.{timeouts}
@@ -10,7 +10,8 @@ use Rattle.script_plans.specs.declared.greeting.Greeting.{Greeting}
 use Rattle.script_plans.specs.declared.greeting.Greeting.TheVariants as greeting
 use Rattle.transcript.specs.declared.line.BoardLine.{BoardLine}
 use Rattle.transcript.specs.declared.line.BoardLine.TheVariants as line
-use Rattle.board_greeting.specs.Boards.{IsEndedLane, IsLaneTo, shown_by}
+use Rattle.board_greeting.specs.Boards.{IsEndedLane, IsLaneTo}
+use Rattle.board_greeting.specs.Reports.{shown_by}
 use Rattle.board_greeting.specs.declared.rejoined.Board.{Board}
 use Rattle.board_greeting.specs.declared.rejoined.Board.TheVariants.{Live, Idle}
 
@@ -39,10 +40,10 @@ lines_in (name ∷ names) [] = []
 lines_in (name ∷ names) (one ∷ boards) = line_in name one ∷ lines_in names boards
 
 -- Of a live board: its lane keeps what a lane keeps, and has all that the history of its board rests on.
-abbrev pub IsSound : {L C : Type 0} → (L → ℕ) → (L → ℕ) → (L → ℕ) → (L → ℕ) → (L → Option Telling) → Board L C → Type 0
-IsSound faults quiets gots held telling (Live lane came) =
+abbrev pub IsSound : {L C : Type 0} → Ghosts L → Board L C → Type 0
+IsSound seen (Live lane came) =
     IsLane lane.settings lane.status lane.hub lane.items lane.outcomes lane.lates lane.give_ups lane.down lane.spent
-    (telling lane.link) (faults lane.link) (quiets lane.link)
-    × ((settings : Limits) (spec : BoardSpec) → IsLaneTo settings spec (telling lane.link) lane
-    → IsEndedLane settings spec lane (shown_by faults quiets gots held telling lane.link))
-IsSound faults quiets gots held telling (Idle told link) = Unit {0}
+    (seen.telling lane.link) (seen.faults lane.link) (seen.quiets lane.link)
+    × ((settings : Limits) (spec : BoardSpec) → IsLaneTo settings spec (seen.telling lane.link) lane
+    → IsEndedLane settings spec lane (shown_by seen lane.link))
+IsSound seen (Idle told link) = Unit {0}

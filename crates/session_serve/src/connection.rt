@@ -45,8 +45,8 @@ struct AsCame<S: Source + Drop, O: Sink + Drop> {
 
 impl<S: Source + Drop, O: Sink + Drop> Promise<Done<S, O>> for AsCame<S, O> {
     ghost kept_by = { λ came done. IsDone came.states.value came.seat.value done.seat
-        (pair_shown S.left S.faults O.written O.faults O.ended (came.src.value, came.sink.value))
-        (pair_shown S.left S.faults O.written O.faults O.ended (done.src, done.sink)) done.served };
+        (pair_shown S.Source O.Sink (came.src.value, came.sink.value))
+        (pair_shown S.Source O.Sink (done.src, done.sink)) done.served };
 }
 
 fn as_came<S: Source + Drop, O: Sink + Drop>(
@@ -78,8 +78,8 @@ fn serve_owned<L: Link + Send, S: Source + Drop, O: Sink + Drop, T: Wait>(
     requires unused { AllByRecursion IsUnused connection.seat.knows }
     requires lanes { AllByRecursion (IsLaneBelow (length hub.now.turns)) states.now }
     ensures { IsDone states.now connection.seat result.seat
-        (pair_shown S.left S.faults O.written O.faults O.ended (connection.src, connection.sink))
-        (pair_shown S.left S.faults O.written O.faults O.ended (result.src, result.sink)) result.served }
+        (pair_shown S.Source O.Sink (connection.src, connection.sink))
+        (pair_shown S.Source O.Sink (result.src, result.sink)) result.served }
 {
     let Connection {
         mut src,
@@ -129,8 +129,8 @@ impl<S: Source + Drop, O: Sink + Drop> Model for Running<S, O> {
         (λ h. (h.promise.src.value ≡ r.came.src.value) × (h.promise.sink.value ≡ r.came.sink.value)
         × (h.promise.seat.value ≡ r.came.seat.value) × (h.promise.states.value ≡ r.came.states.value))
         (λ done. IsDone r.came.states.value r.came.seat.value done.seat
-        (pair_shown S.left S.faults O.written O.faults O.ended (r.came.src.value, r.came.sink.value))
-        (pair_shown S.left S.faults O.written O.faults O.ended (done.src, done.sink)) done.served) };
+        (pair_shown S.Source O.Sink (r.came.src.value, r.came.sink.value))
+        (pair_shown S.Source O.Sink (done.src, done.sink)) done.served) };
 }
 
 /// Begins to serve a connection in a thread of the scope. Where none can be made it is served here.
@@ -180,9 +180,8 @@ pub(crate) fn begin<
 impl<S: Source + Drop, O: Sink + Drop> Running<S, O> {
     /// Waits until it was served.
     pub(crate) fn finish<T: Threads>(self, rt: &T) -> Done<S, O>
-        ensures { IsDone self.boards self.seat result.seat
-            (pair_shown S.left S.faults O.written O.faults O.ended self.pair)
-            (pair_shown S.left S.faults O.written O.faults O.ended (result.src, result.sink)) result.served }
+        ensures { IsDone self.boards self.seat result.seat (pair_shown S.Source O.Sink self.pair)
+            (pair_shown S.Source O.Sink (result.src, result.sink)) result.served }
     {
         let Running { came: _, place } = self;
         match place {

@@ -27,7 +27,7 @@ fn idle_line(greeting: Greeting, name: Text) -> BoardLine
 fn finish_board<L: Link>(board: Board<L, ()>, name: Text) -> (L, BoardLine)
     ensures link { result.0 ≡ link_in board }
     ensures line { result.1 ≡ line_in name board }
-    ensures sound { IsSound L.faults L.quiets L.gots L.held L.telling board }
+    ensures sound { IsSound L.Link board }
 {
     match board {
         Board::Live { lane, came: _ } => {
@@ -60,7 +60,7 @@ pub(crate) fn finish_boards<R: Rack>(
     requires place { length names.items ≤ vec_capacity lines.old }
     ensures lines { lines.new.items ≡ lines_in names.items boards }
     ensures kept { R.kept rack.new ≡ R.kept rack.old ++ map (λ board. link_in board) boards }
-    ensures sound { AllByRecursion (IsSound R.L.faults R.L.quiets R.L.gots R.L.held R.L.telling) boards }
+    ensures sound { AllByRecursion (IsSound R.L.Link) boards }
     ensures made { R.made rack.new ≡ R.made rack.old }
     ensures faults { R.faults rack.new ≡ R.faults rack.old }
 {

@@ -125,12 +125,11 @@ fn serve_seats<L: Link + Send, D: Door, T: Threads + Wait + Sync>(
     requires known { length master.old.knows ≡ length hub.now.turns }
     requires lanes { AllByRecursion (IsLaneBelow (length hub.now.turns)) states.now }
     requires seats { HasSeats hub.now.turns room }
-    ensures all_back { AllBack (pair_shown D.Incoming.left D.Incoming.faults D.Outgoing.written D.Outgoing.faults
-        D.Outgoing.ended) states.now hub.now.turns room.seats.items master.old master.new (D.coming door.old)
-        (D.coming door.new) (D.kept door.old) (D.kept door.new) }
-    ensures served { IfOk result (λ served. HasServedAll (pair_shown D.Incoming.left D.Incoming.faults
-        D.Outgoing.written D.Outgoing.faults D.Outgoing.ended) states.now hub.now.turns room.seats.items master.old
-        master.new (D.coming door.old) (D.coming door.new) (D.kept door.old) (D.kept door.new) served.items) }
+    ensures all_back { AllBack (pair_shown D.Incoming.Source D.Outgoing.Sink) states.now hub.now.turns room.seats.items
+        master.old master.new (D.coming door.old) (D.coming door.new) (D.kept door.old) (D.kept door.new) }
+    ensures served { IfOk result (λ served. HasServedAll (pair_shown D.Incoming.Source D.Outgoing.Sink) states.now
+        hub.now.turns room.seats.items master.old master.new (D.coming door.old) (D.coming door.new) (D.kept door.old)
+        (D.kept door.new) served.items) }
     ensures all { IfOk result (λ served. length served.items ≡ length room.seats.items) }
     ensures had_memory { IfOk result (λ served. AllByRecursion HadMemory served.items) }
     ensures taken_in { HasTakenIn 1 master.old → HasTakenIn (length room.seats.items + 1) master.new }
@@ -186,14 +185,13 @@ fn serve_under_seats<L: Link + Send, D: Door, T: Threads + Wait + Sync>(
     requires none { master.old.seats ≡ 0 }
     requires opens { AllByRecursion IsOpen master.old.knows }
     requires lanes { AllByRecursion (IsLaneBelow (length hub.now.turns)) states.now }
-    ensures all_back { (seats : _) × AllBack (pair_shown D.Incoming.left D.Incoming.faults D.Outgoing.written
-        D.Outgoing.faults D.Outgoing.ended) states.now hub.now.turns seats (with_seats master.old (length seats))
-        master.new
-        (D.coming door.old) (D.coming door.new) (D.kept door.old) (D.kept door.new) }
-    ensures served { IfOk result (λ served. (seats : _) × HasServedAll (pair_shown D.Incoming.left D.Incoming.faults
-        D.Outgoing.written D.Outgoing.faults D.Outgoing.ended) states.now hub.now.turns seats
-        (with_seats master.old (length seats)) master.new (D.coming door.old) (D.coming door.new)
-        (D.kept door.old) (D.kept door.new) served.items) }
+    ensures all_back { (seats : _) × AllBack (pair_shown D.Incoming.Source D.Outgoing.Sink) states.now hub.now.turns
+        seats (with_seats master.old (length seats)) master.new (D.coming door.old) (D.coming door.new)
+        (D.kept door.old) (D.kept door.new) }
+    ensures served { IfOk result (λ served. (seats : _)
+        × HasServedAll (pair_shown D.Incoming.Source D.Outgoing.Sink) states.now hub.now.turns seats
+        (with_seats master.old (length seats)) master.new (D.coming door.old) (D.coming door.new) (D.kept door.old)
+        (D.kept door.new) served.items) }
     ensures all { IfOk result (λ served. length served.items ≡ count) }
     ensures had_memory { IfOk result (λ served. AllByRecursion HadMemory served.items) }
     ensures taken_in { HasTakenIn 1 master.old → HasTakenIn (master.new.seats + 1) master.new }
@@ -228,14 +226,13 @@ pub(crate) fn serve_at_hub<L: Link + Send + Drop, D: Door, T: Threads + Wait + S
     requires unused { AllByRecursion HasNoEntry lanes.items }
     requires lanes { AllByRecursion (IsLaneBelow (length lanes.items)) states.now }
     ensures heads { AtEach lanes.items result.0.items (λ lane. KeepsHead L.telling) }
-    ensures served { IfOk result.1 (λ served. GivesBack D.Incoming.left D.Incoming.faults D.Outgoing.written
-        D.Outgoing.faults D.Outgoing.ended (D.coming door.old) (D.coming door.new) (D.kept door.old) (D.kept door.new)
+    ensures served { IfOk result.1 (λ served. GivesBack D.Incoming.Source D.Outgoing.Sink (D.coming door.old)
+        (D.coming door.new) (D.kept door.old) (D.kept door.new)
         (λ came back. AreServedAt L.telling states.now lanes.items result.0.items came back served.items)) }
-    ensures pairs { GivesBack D.Incoming.left D.Incoming.faults D.Outgoing.written D.Outgoing.faults D.Outgoing.ended
-        (D.coming door.old) (D.coming door.new) (D.kept door.old) (D.kept door.new) (AreBackFrom states.now) }
-    ensures planned { GivesBack D.Incoming.left D.Incoming.faults D.Outgoing.written D.Outgoing.faults D.Outgoing.ended
-        (D.coming door.old) (D.coming door.new) (D.kept door.old) (D.kept door.new)
-        (ArePlannedAt states.now lanes.items result.0.items) }
+    ensures pairs { GivesBack D.Incoming.Source D.Outgoing.Sink (D.coming door.old) (D.coming door.new)
+        (D.kept door.old) (D.kept door.new) (AreBackFrom states.now) }
+    ensures planned { GivesBack D.Incoming.Source D.Outgoing.Sink (D.coming door.old) (D.coming door.new)
+        (D.kept door.old) (D.kept door.new) (ArePlannedAt states.now lanes.items result.0.items) }
     ensures all { IfOk result.1 (λ served. length served.items ≡ count) }
     ensures had_memory { IfOk result.1 (λ served. AllByRecursion HadMemory served.items) }
     ensures none_out { D.out door.new ≡ D.out door.old }

@@ -80,8 +80,7 @@ fn wait_for_all<S: Source + Drop, O: Sink + Drop, T: Threads>(
 )
     requires empty { done.old.items ≡ [] }
     requires room { length running.items ≤ vec_capacity done.old }
-    ensures { AllZip (IsDoneOf (pair_shown S.left S.faults O.written O.faults O.ended)) running.items
-        done.new.items }
+    ensures { AllZip (IsDoneOf (pair_shown S.Source O.Sink)) running.items done.new.items }
 {
     for one in running {
         done.push_reserved(one.finish(rt));
@@ -99,8 +98,8 @@ fn serve_in_scope<'s, E, L: Link + Send + 's, D: Door, T: Threads + Wait + Sync 
 where
     D::Incoming: 's,
     D::Outgoing: 's,
-    ensures served { HasServed (pair_shown D.Incoming.left D.Incoming.faults D.Outgoing.written D.Outgoing.faults
-        D.Outgoing.ended) work.entry.boards work.entry.seats (D.coming door.old) (D.coming door.new) result }
+    ensures served { HasServed (pair_shown D.Incoming.Source D.Outgoing.Sink) work.entry.boards work.entry.seats
+        (D.coming door.old) (D.coming door.new) result }
     ensures fault { result.is_whole ≡ false → Rose (D.faults door.old) (D.faults door.new) }
     ensures unfaulted { result.is_whole ≡ true → D.faults door.new ≡ D.faults door.old }
     ensures later { D.faults door.old ≤ D.faults door.new }
@@ -158,8 +157,8 @@ pub(crate) fn serve_all<L: Link + Send, D: Door, T: Threads + Wait + Sync>(
     requires none_done { done.items ≡ [] }
     requires room_running { length (into_iter_items seats) ≤ vec_capacity running }
     requires room_done { length (into_iter_items seats) ≤ vec_capacity done }
-    ensures served { HasServed (pair_shown D.Incoming.left D.Incoming.faults D.Outgoing.written D.Outgoing.faults
-        D.Outgoing.ended) states.now (into_iter_items seats) (D.coming door.old) (D.coming door.new) result }
+    ensures served { HasServed (pair_shown D.Incoming.Source D.Outgoing.Sink) states.now (into_iter_items seats)
+        (D.coming door.old) (D.coming door.new) result }
     ensures fault { result.is_whole ≡ false → Rose (D.faults door.old) (D.faults door.new) }
     ensures unfaulted { result.is_whole ≡ true → D.faults door.new ≡ D.faults door.old }
     ensures later { D.faults door.old ≤ D.faults door.new }
@@ -179,8 +178,7 @@ pub(crate) fn serve_all<L: Link + Send, D: Door, T: Threads + Wait + Sync>(
         rt,
         move |scope| -> (&mut D, Ended<D::Incoming, D::Outgoing>)
             ensures same { result.0.ghost_name ≡ door.entry.ghost_name }
-            ensures served { HasServed (pair_shown D.Incoming.left D.Incoming.faults D.Outgoing.written
-                D.Outgoing.faults D.Outgoing.ended) work.entry.boards work.entry.seats
+            ensures served { HasServed (pair_shown D.Incoming.Source D.Outgoing.Sink) work.entry.boards work.entry.seats
                 (D.coming door.entry.now) (D.coming result.0.now) result.1 }
             ensures fault { result.1.is_whole ≡ false → Rose (D.faults door.entry.now) (D.faults result.0.now) }
             ensures unfaulted { result.1.is_whole ≡ true → D.faults result.0.now ≡ D.faults door.entry.now }

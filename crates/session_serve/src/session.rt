@@ -6,7 +6,8 @@ ghost use Rattle.ipb_base.specs.Faults.{Rose};
 ghost use Rattle.ipb_outside.specs.Doors.{Listens};
 ghost use Rattle.ipb_outside.specs.Pairs.{GivesBack};
 ghost use Rattle.lane_history.specs.Links.{IsUntouched};
-ghost use Rattle.board_greeting.specs.Boards.{AreReached, HasMemory, HasRoom, shown_by};
+ghost use Rattle.board_greeting.specs.Boards.{AreReached, HasMemory, HasRoom};
+ghost use Rattle.board_greeting.specs.Reports.{shown_by};
 ghost use Rattle.board_greeting.specs.Links.{AreMadeFor, CanBeReached, Keeps};
 ghost use Rattle.session_serve.specs.Boards.{AreLinksTo};
 ghost use Rattle.session_serve.specs.Executed.{CameInFrames};
@@ -46,22 +47,21 @@ fn serve_split<R: Rack, D: Door, T: Threads + Wait + Sync>(
     rack: &mut R,
     door: &mut D,
 ) -> Result<ServeReport, ServeFault>
-    requires ready { IsReady (shown_by R.L.faults R.L.quiets R.L.gots R.L.held R.L.telling) settings
-        specs.now split prepared }
+    requires ready { IsReady (shown_by R.L.Link) settings specs.now split prepared }
     requires room { HasRoom (length (R.kept rack.old)) (length (R.made rack.old)) (length specs.now) }
-    ensures served { IfOk result (λ report. Keeps R.L.faults R.L.quiets R.L.gots R.L.held R.L.telling
-        (R.kept rack.old) (R.kept rack.new) (λ links. GivesBack D.Incoming.left D.Incoming.faults D.Outgoing.written
-        D.Outgoing.faults D.Outgoing.ended (D.coming door.old) (D.coming door.new) (D.kept door.old) (D.kept door.new)
-        (λ came back. AreServed settings specs.now links came back report.connections.items report.boards.items))) }
+    ensures served { IfOk result (λ report. Keeps R.L.Link (R.kept rack.old) (R.kept rack.new)
+        (λ links. GivesBack D.Incoming.Source D.Outgoing.Sink (D.coming door.old) (D.coming door.new) (D.kept door.old)
+        (D.kept door.new) (λ came back. AreServed settings specs.now links came back report.connections.items
+        report.boards.items))) }
     ensures all { IfOk result (λ report. length report.connections.items ≡ count) }
     ensures had_memory { IfOk result (λ report. AllByRecursion HadMemory report.connections.items) }
-    ensures links { Keeps R.L.faults R.L.quiets R.L.gots R.L.held R.L.telling (R.kept rack.old) (R.kept rack.new)
+    ensures links { Keeps R.L.Link (R.kept rack.old) (R.kept rack.new)
         (λ links. AreLinksTo specs.now links × (length links ≡ length specs.now)) }
-    ensures pairs { GivesBack D.Incoming.left D.Incoming.faults D.Outgoing.written D.Outgoing.faults D.Outgoing.ended
-        (D.coming door.old) (D.coming door.new) (D.kept door.old) (D.kept door.new) AreBack }
-    ensures in_frames { Keeps R.L.faults R.L.quiets R.L.gots R.L.held R.L.telling (R.kept rack.old) (R.kept rack.new)
-        (λ links. GivesBack D.Incoming.left D.Incoming.faults D.Outgoing.written D.Outgoing.faults D.Outgoing.ended
-        (D.coming door.old) (D.coming door.new) (D.kept door.old) (D.kept door.new) (CameInFrames links)) }
+    ensures pairs { GivesBack D.Incoming.Source D.Outgoing.Sink (D.coming door.old) (D.coming door.new)
+        (D.kept door.old) (D.kept door.new) AreBack }
+    ensures in_frames { Keeps R.L.Link (R.kept rack.old) (R.kept rack.new)
+        (λ links. GivesBack D.Incoming.Source D.Outgoing.Sink (D.coming door.old) (D.coming door.new) (D.kept door.old)
+        (D.kept door.new) (CameInFrames links)) }
     ensures none_out { D.out door.new ≡ D.out door.old }
     ensures listens { Listens port (IsOk result) (D.ports door.old) (D.ports door.new) }
     ensures made { R.made rack.new ≡ R.made rack.old }
@@ -112,22 +112,21 @@ fn serve_greeted<R: Rack, D: Door, T: Threads + Wait + Sync>(
     requires few_boards { length specs.now < 2 ^ 32 }
     requires all { length boards.items ≡ length specs.now }
     requires memory { AllByRecursion HasMemory boards.items }
-    requires reached { AreReached (shown_by R.L.faults R.L.quiets R.L.gots R.L.held R.L.telling) settings
-        specs.now boards.items }
+    requires reached { AreReached (shown_by R.L.Link) settings specs.now boards.items }
     requires room { HasRoom (length (R.kept rack.old)) (length (R.made rack.old)) (length specs.now) }
-    ensures served { IfOk result (λ report. Keeps R.L.faults R.L.quiets R.L.gots R.L.held R.L.telling
-        (R.kept rack.old) (R.kept rack.new) (λ links. GivesBack D.Incoming.left D.Incoming.faults D.Outgoing.written
-        D.Outgoing.faults D.Outgoing.ended (D.coming door.old) (D.coming door.new) (D.kept door.old) (D.kept door.new)
-        (λ came back. AreServed settings specs.now links came back report.connections.items report.boards.items))) }
+    ensures served { IfOk result (λ report. Keeps R.L.Link (R.kept rack.old) (R.kept rack.new)
+        (λ links. GivesBack D.Incoming.Source D.Outgoing.Sink (D.coming door.old) (D.coming door.new) (D.kept door.old)
+        (D.kept door.new) (λ came back. AreServed settings specs.now links came back report.connections.items
+        report.boards.items))) }
     ensures all { IfOk result (λ report. length report.connections.items ≡ count) }
     ensures had_memory { IfOk result (λ report. AllByRecursion HadMemory report.connections.items) }
-    ensures links { Keeps R.L.faults R.L.quiets R.L.gots R.L.held R.L.telling (R.kept rack.old) (R.kept rack.new)
+    ensures links { Keeps R.L.Link (R.kept rack.old) (R.kept rack.new)
         (λ links. AreLinksTo specs.now links × (length links ≡ length specs.now)) }
-    ensures pairs { GivesBack D.Incoming.left D.Incoming.faults D.Outgoing.written D.Outgoing.faults D.Outgoing.ended
-        (D.coming door.old) (D.coming door.new) (D.kept door.old) (D.kept door.new) AreBack }
-    ensures in_frames { Keeps R.L.faults R.L.quiets R.L.gots R.L.held R.L.telling (R.kept rack.old) (R.kept rack.new)
-        (λ links. GivesBack D.Incoming.left D.Incoming.faults D.Outgoing.written D.Outgoing.faults D.Outgoing.ended
-        (D.coming door.old) (D.coming door.new) (D.kept door.old) (D.kept door.new) (CameInFrames links)) }
+    ensures pairs { GivesBack D.Incoming.Source D.Outgoing.Sink (D.coming door.old) (D.coming door.new)
+        (D.kept door.old) (D.kept door.new) AreBack }
+    ensures in_frames { Keeps R.L.Link (R.kept rack.old) (R.kept rack.new)
+        (λ links. GivesBack D.Incoming.Source D.Outgoing.Sink (D.coming door.old) (D.coming door.new) (D.kept door.old)
+        (D.kept door.new) (CameInFrames links)) }
     ensures none_out { D.out door.new ≡ D.out door.old }
     ensures listens { Listens port (IsOk result) (D.ports door.old) (D.ports door.new) }
     ensures made { R.made rack.new ≡ R.made rack.old }
@@ -176,34 +175,34 @@ pub fn serve_session<R: Rack, D: Door, T: Threads + Wait + Sync>(
     requires reached { AllByRecursion CanBeReached specs.now }
 
     // What is reported of each board is what its link bears out, and of each connection what its pair does.
-    ensures served { IfOk result (λ report. Keeps R.L.faults R.L.quiets R.L.gots R.L.held R.L.telling
-        (R.kept rack.old) (R.kept rack.new) (λ links. GivesBack D.Incoming.left D.Incoming.faults D.Outgoing.written
-        D.Outgoing.faults D.Outgoing.ended (D.coming door.old) (D.coming door.new) (D.kept door.old) (D.kept door.new)
-        (λ came back. AreServed settings specs.now links came back report.connections.items report.boards.items))) }
+    ensures served { IfOk result (λ report. Keeps R.L.Link (R.kept rack.old) (R.kept rack.new)
+        (λ links. GivesBack D.Incoming.Source D.Outgoing.Sink (D.coming door.old) (D.coming door.new) (D.kept door.old)
+        (D.kept door.new) (λ came back. AreServed settings specs.now links came back report.connections.items
+        report.boards.items))) }
     ensures all { IfOk result (λ report. length report.connections.items ≡ count) }
     ensures had_memory { IfOk result (λ report. AllByRecursion HadMemory report.connections.items) }
 
     // Whatever came of it, links were made of the specs of the first boards, and each is given back once, in board
     // order, and each connection that was let in once, in the order of acceptance.
-    ensures links { Keeps R.L.faults R.L.quiets R.L.gots R.L.held R.L.telling (R.kept rack.old) (R.kept rack.new)
-        (λ links. AreLinksTo specs.now links
-        × AreMadeFor specs.now (length links) (R.made rack.old) (R.made rack.new)) }
-    ensures pairs { GivesBack D.Incoming.left D.Incoming.faults D.Outgoing.written D.Outgoing.faults D.Outgoing.ended
-        (D.coming door.old) (D.coming door.new) (D.kept door.old) (D.kept door.new) AreBack }
+    ensures links { Keeps R.L.Link (R.kept rack.old) (R.kept rack.new)
+        (λ links. AreLinksTo specs.now links × AreMadeFor specs.now (length links) (R.made rack.old)
+        (R.made rack.new)) }
+    ensures pairs { GivesBack D.Incoming.Source D.Outgoing.Sink (D.coming door.old) (D.coming door.new)
+        (D.kept door.old) (D.kept door.new) AreBack }
     ensures none_out { D.out door.new ≡ D.out door.old }
 
     // Whatever came of it, over a link that tells no board executed a body that no frame of a connection had for it.
-    ensures in_frames { Keeps R.L.faults R.L.quiets R.L.gots R.L.held R.L.telling (R.kept rack.old) (R.kept rack.new)
-        (λ links. GivesBack D.Incoming.left D.Incoming.faults D.Outgoing.written D.Outgoing.faults D.Outgoing.ended
-        (D.coming door.old) (D.coming door.new) (D.kept door.old) (D.kept door.new) (CameInFrames links)) }
+    ensures in_frames { Keeps R.L.Link (R.kept rack.old) (R.kept rack.new)
+        (λ links. GivesBack D.Incoming.Source D.Outgoing.Sink (D.coming door.old) (D.coming door.new) (D.kept door.old)
+        (D.kept door.new) (CameInFrames links)) }
 
     // The door listened on the port once, and on no other; where there is no report, once or not at all.
     ensures listens { Listens port (IsOk result) (D.ports door.old) (D.ports door.new) }
 
     // The faults of the rack and of the door come only from them. Where the rack failed the door was not called.
     ensures rack_fault { result ≡ Err ServeFault.Rack → Rose (R.faults rack.old) (R.faults rack.new) }
-    ensures untouched { result ≡ Err ServeFault.Rack → Keeps R.L.faults R.L.quiets R.L.gots R.L.held R.L.telling
-        (R.kept rack.old) (R.kept rack.new) (AllByRecursion IsUntouched) }
+    ensures untouched { result ≡ Err ServeFault.Rack → Keeps R.L.Link (R.kept rack.old) (R.kept rack.new)
+        (AllByRecursion IsUntouched) }
     ensures not_listened { result ≡ Err ServeFault.Rack → door.new ≡ door.old }
     ensures rack_later { R.faults rack.old ≤ R.faults rack.new }
     ensures rack_unfaulted { result ≢ Err ServeFault.Rack → R.faults rack.new ≡ R.faults rack.old }

@@ -10,6 +10,6 @@ greet-requires-clause-begins g c =
 
 pub returns-clause-reached : goal.returns-clause-reached
 returns-clause-reached g c =
-    is_reached g.R.L.Link.faults g.R.L.Link.quiets g.R.L.Link.gots g.R.L.Link.held g.R.L.Link.telling c.args.settings
-    c.args.spec.now c.in_ok-link.link c.greet.result c.in_ok-link.ensures.told c.greet.ensures.fresh
-    c.greet.ensures.ready c.greet.ensures.told c.greet.ensures.silent c.greet.ensures.silent_told c.greet.ensures.down
+    is_reached g.R.L.Link c.args.settings c.args.spec.now c.in_ok-link.link c.greet.result c.in_ok-link.ensures.told
+    c.greet.ensures.fresh c.greet.ensures.ready c.greet.ensures.told c.greet.ensures.silent c.greet.ensures.silent_told
+    c.greet.ensures.down

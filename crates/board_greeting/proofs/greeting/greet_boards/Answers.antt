@@ -1,7 +1,7 @@
 use Rattle.std.proofs.Common.{◌∙◌, ◌++◌, [], ap, append-nil, length, map, refl, sym}
 use Rattle.std.proofs.lemmas.List.{length-map}
 use Rattle.hub_lane.specs.Greeting.{link_of}
-use Rattle.board_greeting.specs.Boards.{shown_by}
+use Rattle.board_greeting.specs.Reports.{shown_by}
 use Rattle.board_greeting.proofs.Boards.{fresh_links, made_still, none_made}
 use Rattle.board_greeting.proofs.greeting.greet_boards.Goals as goal
 
@@ -16,7 +16,7 @@ pub returns-in-Err-clause-left : goal.returns-in-Err-clause-left
 returns-in-Err-clause-left g c =
     let boards = c.greet_into.new.boards.items in
     let links = map (λ board. link_of board) boards in
-    let shows = shown_by g.R.L.Link.faults g.R.L.Link.quiets g.R.L.Link.gots g.R.L.Link.held g.R.L.Link.telling in (
+    let shows = shown_by g.R.L.Link in (
       links,
       c.keep_all.ensures.kept ∙ ap (λ kept. kept ++ links) c.greet_into.ensures.kept,
       (

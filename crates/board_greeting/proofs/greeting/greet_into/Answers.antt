@@ -3,13 +3,14 @@ use Rattle.std.specs.List.{AllByRecursion, slice_get}
 use Rattle.std.proofs.lemmas.Option.{slice_get-get_or}
 use Rattle.board_node.specs.declared.spec.BoardSpec.{BoardSpec}
 use Rattle.ipb_base.proofs.AllLemmas.{AllByRecursion-append}
-use Rattle.board_greeting.specs.Boards.{AreReached, HasMemory, HasRoom, shown_by}
+use Rattle.board_greeting.specs.Boards.{AreReached, HasMemory, HasRoom}
+use Rattle.board_greeting.specs.Reports.{shown_by}
 use Rattle.board_greeting.proofs.Boards.{made_more, made_still, one_more_made, reached_more, room_for_more}
 use Rattle.board_greeting.proofs.greeting.greet_into.Goals as goal
 
 pub returns-then-is_last-clause-reached : goal.returns-then-is_last-clause-reached
 returns-then-is_last-clause-reached g c =
-    let shows = shown_by g.R.L.Link.faults g.R.L.Link.quiets g.R.L.Link.gots g.R.L.Link.held g.R.L.Link.telling in
+    let shows = shown_by g.R.L.Link in
     let there : slice_get c.args.specs.now (length c.loop-spec.boards.items) ≡ Some c.spec-item.result =
     ap (slice_get c.args.specs.now) c.loop-spec.invariant.many
     ∙ (slice_get-get_or c.args.specs.now c.loop-spec.spec-index c.spec-item.result (let test = c.loop-spec-test.true in
@@ -56,7 +57,7 @@ returns-in_err-board-clause-made g c =
 
 pub loop-spec-preserved : goal.loop-spec-preserved
 loop-spec-preserved g c =
-    let shows = shown_by g.R.L.Link.faults g.R.L.Link.quiets g.R.L.Link.gots g.R.L.Link.held g.R.L.Link.telling in
+    let shows = shown_by g.R.L.Link in
     let boards = c.loop-spec.boards.items in
     let board = c.in_ok-board.board in
     let pushed = c.push_reserved.ensures.items in

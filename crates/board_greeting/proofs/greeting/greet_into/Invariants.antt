@@ -1,7 +1,8 @@
 use Rattle.std.proofs.Common.{◌≡◌, ◌+◌, ◌-◌, ◌≤◌, length}
 use Rattle.std.specs.List.{AllByRecursion}
 use Rattle.std.specs.Vec.{vec_capacity, vec_len}
-use Rattle.board_greeting.specs.Boards.{AreReached, HasMemory, HasRoom, shown_by}
+use Rattle.board_greeting.specs.Boards.{AreReached, HasMemory, HasRoom}
+use Rattle.board_greeting.specs.Reports.{shown_by}
 use Rattle.board_greeting.specs.Links.{AreMadeFor}
 use Rattle.board_greeting.proofs.greeting.greet_into.Given as goal
 
@@ -9,8 +10,7 @@ use Rattle.board_greeting.proofs.greeting.greet_into.Given as goal
 abbrev pub invariant-loop-spec : goal.invariant-loop-spec
 invariant-loop-spec g l = record {
   many : length l.boards.items ≡ l.spec-index;
-  reached : AreReached (shown_by g.R.L.Link.faults g.R.L.Link.quiets g.R.L.Link.gots
-      g.R.L.Link.held g.R.L.Link.telling) l.settings l.specs l.boards.items;
+  reached : AreReached (shown_by g.R.L.Link) l.settings l.specs l.boards.items;
   memory : AllByRecursion HasMemory l.boards.items;
   faults : g.R.Rack.faults l.rack ≡ g.R.Rack.faults l.initial.rack;
   kept : g.R.Rack.kept l.rack ≡ g.R.Rack.kept l.initial.rack;

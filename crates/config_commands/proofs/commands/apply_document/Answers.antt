@@ -1,7 +1,7 @@
 use Rattle.std.proofs.Common.{◌<◌, ◌^◌, length, map, rules, subst, arith}
 use Rattle.session_run.specs.declared.session.RunFault.TheVariants.{NoMemory, Rack}
 use Rattle.session_run.specs.Faults.{IsRunFailure}
-use Rattle.board_greeting.specs.Boards.{shown_by}
+use Rattle.board_greeting.specs.Reports.{shown_by}
 use Rattle.command_terms.specs.Outside.{NoneCame}
 use Rattle.command_terms.proofs.Leaving.{error_left, failure_left, none_came, refusal_left}
 use Rattle.run_laws.specs.Steps.{MayRun}
@@ -28,14 +28,14 @@ write_configuration-requires-clause-runs g c κs within =
 pub returns-in_err-refused-in-Err-Refused-clause-leaves :
     goal.returns-in_err-refused-in-Err-Refused-clause-leaves
 returns-in_err-refused-in-Err-Refused-clause-leaves g c =
-    let shown = shown_by g.R.L.Link.faults g.R.L.Link.quiets g.R.L.Link.gots g.R.L.Link.held g.R.L.Link.telling in
+    let shown = shown_by g.R.L.Link in
     failure_left NoneCame none_came IsRunFailure Rack shown _ apply_terms c.args.bytes.now _
     c.from_residual.result NoMemory c.from_residual.ensures.0 c.from_residual.ensures.1 (λ failed. failed)
 
 pub returns-in-Ok-clause-leaves : goal.returns-in-Ok-clause-leaves
 returns-in-Ok-clause-leaves g c =
     let left = c.write_configuration.ensures.leaves in
-    let shown = shown_by g.R.L.Link.faults g.R.L.Link.quiets g.R.L.Link.gots g.R.L.Link.held g.R.L.Link.telling in
+    let shown = shown_by g.R.L.Link in
     let made = g.R.Rack.made c.args.rack.now in
     let makes = g.R.Rack.made c.write_configuration.new.rack in
     let session = c.in-Ok.read.session in
@@ -58,7 +58,7 @@ returns-in-Ok-clause-refused g c =
 pub returns-in_ok-refused-in-Err-Refused-clause-leaves :
     goal.returns-in_ok-refused-in-Err-Refused-clause-leaves
 returns-in_ok-refused-in-Err-Refused-clause-leaves g c =
-    let shown = shown_by g.R.L.Link.faults g.R.L.Link.quiets g.R.L.Link.gots g.R.L.Link.held g.R.L.Link.telling in
+    let shown = shown_by g.R.L.Link in
     let deserved : BreaksInApply c.args.bytes.now c.in-Err-Refused.refusal = search rules in
     let answer = c.in_ok-refused-in-Err-Refused.field-0 in
     let refused : IsRefusedBy apply_command c.args.bytes.now answer.text.items =
@@ -72,5 +72,5 @@ returns-in_ok-refused-in-Err-Refused-clause-leaves g c =
 
 pub returns-in-Err-NoMemory-clause-leaves : goal.returns-in-Err-NoMemory-clause-leaves
 returns-in-Err-NoMemory-clause-leaves g c =
-    let shown = shown_by g.R.L.Link.faults g.R.L.Link.quiets g.R.L.Link.gots g.R.L.Link.held g.R.L.Link.telling in
+    let shown = shown_by g.R.L.Link in
     error_left NoneCame none_came IsRunFailure Rack shown _ apply_terms c.args.bytes.now _ NoMemory (λ failed. failed)

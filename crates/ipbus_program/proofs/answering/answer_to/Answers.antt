@@ -7,7 +7,7 @@ use Rattle.session_serve.specs.declared.report.ServeFault.TheVariants as serve
 use Rattle.session_serve.proofs.Standing.{none_served}
 use Rattle.std.specs.Result.{IsOkAnd}
 use Rattle.ipb_outside.specs.Doors.{Listens}
-use Rattle.board_greeting.specs.Boards.{shown_by}
+use Rattle.board_greeting.specs.Reports.{shown_by}
 use Rattle.command_words.specs.declared.command.Command.TheVariants.{Check, Run}
 use Rattle.command_terms.specs.Leaving.{Leaves}
 use Rattle.command_terms.specs.Outside.{NoneCame, no_pairs}
@@ -24,14 +24,12 @@ use Rattle.ipbus_program.proofs.answering.answer_to.Goals as goal
 
 pub returns-in_err-run_document-in-Run-clause-leaves : goal.returns-in_err-run_document-in-Run-clause-leaves
 returns-in_err-run_document-in-Run-clause-leaves g c =
-    let shown = shown_by g.R.L.Link.faults g.R.L.Link.quiets g.R.L.Link.gots g.R.L.Link.held g.R.L.Link.telling in
+    let shown = shown_by g.R.L.Link in
     let made = g.R.Rack.made c.args.rack.now in
     let makes = g.R.Rack.made c.run_document.new.rack in
     let left = c.in_err-run_document-in-Run.ensures.leaves in
     let result = c.from_residual.result in
-    without_pairs shown g.D.Incoming.Source.left g.D.Incoming.Source.faults
-    g.D.Outgoing.Sink.written g.D.Outgoing.Sink.faults g.D.Outgoing.Sink.ended
-    _ _ _ _ _ _ refl refl
+    without_pairs shown g.D.Incoming.Source g.D.Outgoing.Sink _ _ _ _ _ _ refl refl
     (Leaves AreBack IsFailure RackFault (terms_of c.args.command.now) c.args.bytes.now made makes result) (
       left.0,
       left.1,
@@ -45,14 +43,12 @@ returns-in_err-run_document-in-Run-clause-leaves g c =
 
 pub returns-in_ok-run_document-in-Run-clause-leaves : goal.returns-in_ok-run_document-in-Run-clause-leaves
 returns-in_ok-run_document-in-Run-clause-leaves g c =
-    let shown = shown_by g.R.L.Link.faults g.R.L.Link.quiets g.R.L.Link.gots g.R.L.Link.held g.R.L.Link.telling in
+    let shown = shown_by g.R.L.Link in
     let made = g.R.Rack.made c.args.rack.now in
     let makes = g.R.Rack.made c.run_document.new.rack in
     let left = c.in_ok-run_document-in-Run.ensures.leaves in
     let answer = c.in_ok-run_document-in-Run.field-0 in
-    without_pairs shown g.D.Incoming.Source.left g.D.Incoming.Source.faults
-    g.D.Outgoing.Sink.written g.D.Outgoing.Sink.faults g.D.Outgoing.Sink.ended
-    _ _ _ _ _ _ refl refl
+    without_pairs shown g.D.Incoming.Source g.D.Outgoing.Sink _ _ _ _ _ _ refl refl
     (Leaves AreBack IsFailure RackFault (terms_of c.args.command.now) c.args.bytes.now made makes (Ok answer)) (
       left.0,
       left.1,
@@ -68,11 +64,9 @@ returns-in_err-run_document-in-Run-clause-serves g c = λ door.
 
 pub returns-in_err-check_document-in-Check-clause-leaves : goal.returns-in_err-check_document-in-Check-clause-leaves
 returns-in_err-check_document-in-Check-clause-leaves g c =
-    let shown = shown_by g.R.L.Link.faults g.R.L.Link.quiets g.R.L.Link.gots g.R.L.Link.held g.R.L.Link.telling in
+    let shown = shown_by g.R.L.Link in
     let made = g.R.Rack.made c.args.rack.now in
-    without_pairs shown g.D.Incoming.Source.left g.D.Incoming.Source.faults
-    g.D.Outgoing.Sink.written g.D.Outgoing.Sink.faults g.D.Outgoing.Sink.ended
-    _ _ _ _ _ _ refl refl
+    without_pairs shown g.D.Incoming.Source g.D.Outgoing.Sink _ _ _ _ _ _ refl refl
     (Leaves AreBack IsFailure RackFault (terms_of c.args.command.now) c.args.bytes.now made made _)
     (failure_left AreBack none_served IsFailure RackFault shown _ (terms_of c.args.command.now) c.args.bytes.now _ _
     NoMemory c.from_residual-in_err-check_document-in-Check.ensures.0
@@ -80,13 +74,11 @@ returns-in_err-check_document-in-Check-clause-leaves g c =
 
 pub returns-in_ok-check_document-in-Check-clause-leaves : goal.returns-in_ok-check_document-in-Check-clause-leaves
 returns-in_ok-check_document-in-Check-clause-leaves g c =
-    let shown = shown_by g.R.L.Link.faults g.R.L.Link.quiets g.R.L.Link.gots g.R.L.Link.held g.R.L.Link.telling in
+    let shown = shown_by g.R.L.Link in
     let made = g.R.Rack.made c.args.rack.now in
     let answer = c.in_ok-check_document-in-Check.field-0 in
     let same = ap Check c.as_str.ensures ∙ sym c.in-Check.is in
-    without_pairs shown g.D.Incoming.Source.left g.D.Incoming.Source.faults
-    g.D.Outgoing.Sink.written g.D.Outgoing.Sink.faults g.D.Outgoing.Sink.ended
-    _ _ _ _ _ _ refl refl
+    without_pairs shown g.D.Incoming.Source g.D.Outgoing.Sink _ _ _ _ _ _ refl refl
     (Leaves AreBack IsFailure RackFault (terms_of c.args.command.now) c.args.bytes.now made made _)
     (nothing_left AreBack none_served IsFailure RackFault shown _ (terms_of c.args.command.now) c.args.bytes.now _ _
     (subst (λ command. Owes (terms_of command) c.args.bytes.now (no_pairs []) answer.status answer.text.items) same
@@ -95,13 +87,11 @@ returns-in_ok-check_document-in-Check-clause-leaves g c =
 
 pub returns-in_err-serve_document-in-Serve-clause-leaves : goal.returns-in_err-serve_document-in-Serve-clause-leaves
 returns-in_err-serve_document-in-Serve-clause-leaves g c =
-    let shown = shown_by g.R.L.Link.faults g.R.L.Link.quiets g.R.L.Link.gots g.R.L.Link.held g.R.L.Link.telling in
+    let shown = shown_by g.R.L.Link in
     let made = g.R.Rack.made c.args.rack.now in
     let makes = g.R.Rack.made c.serve_document.new.rack in
     let result = c.from_residual-in_err-serve_document-in-Serve.result in
-    therefore shown g.D.Incoming.Source.left g.D.Incoming.Source.faults
-    g.D.Outgoing.Sink.written g.D.Outgoing.Sink.faults g.D.Outgoing.Sink.ended
-    _ _ _ _ _ _
+    therefore shown g.D.Incoming.Source g.D.Outgoing.Sink _ _ _ _ _ _
     (Leaves AreBack IsServeFailure serve.Rack _ c.args.bytes.now made makes _)
     (Leaves AreBack IsFailure RackFault (terms_of c.args.command.now) c.args.bytes.now made makes result)
     (λ given leaves. subst (λ command. Leaves AreBack IsFailure RackFault (terms_of command) c.args.bytes.now made makes
@@ -114,13 +104,11 @@ returns-in_err-serve_document-in-Serve-clause-leaves g c =
 
 pub returns-in_ok-serve_document-in-Serve-clause-leaves : goal.returns-in_ok-serve_document-in-Serve-clause-leaves
 returns-in_ok-serve_document-in-Serve-clause-leaves g c =
-    let shown = shown_by g.R.L.Link.faults g.R.L.Link.quiets g.R.L.Link.gots g.R.L.Link.held g.R.L.Link.telling in
+    let shown = shown_by g.R.L.Link in
     let made = g.R.Rack.made c.args.rack.now in
     let makes = g.R.Rack.made c.serve_document.new.rack in
     let answer = c.in_ok-serve_document-in-Serve.field-0 in
-    therefore shown g.D.Incoming.Source.left g.D.Incoming.Source.faults
-    g.D.Outgoing.Sink.written g.D.Outgoing.Sink.faults g.D.Outgoing.Sink.ended
-    _ _ _ _ _ _
+    therefore shown g.D.Incoming.Source g.D.Outgoing.Sink _ _ _ _ _ _
     (Leaves AreBack IsServeFailure serve.Rack _ c.args.bytes.now made makes (Ok answer))
     (Leaves AreBack IsFailure RackFault (terms_of c.args.command.now) c.args.bytes.now made makes (Ok answer))
     (λ given leaves. subst (λ command. Leaves AreBack IsFailure RackFault (terms_of command) c.args.bytes.now made makes
@@ -131,14 +119,12 @@ returns-in_ok-serve_document-in-Serve-clause-leaves g c =
 
 pub returns-in_err-answer_load-in-Load-clause-leaves : goal.returns-in_err-answer_load-in-Load-clause-leaves
 returns-in_err-answer_load-in-Load-clause-leaves g c =
-    let shown = shown_by g.R.L.Link.faults g.R.L.Link.quiets g.R.L.Link.gots g.R.L.Link.held g.R.L.Link.telling in
+    let shown = shown_by g.R.L.Link in
     let made = g.R.Rack.made c.args.rack.now in
     let makes = g.R.Rack.made c.answer_load.new.rack in
     let left = c.in_err-answer_load-in-Load.ensures.leaves c.args.bytes.now in
     let result = c.from_residual-in_err-answer_load-in-Load.result in
-    without_pairs shown g.D.Incoming.Source.left g.D.Incoming.Source.faults
-    g.D.Outgoing.Sink.written g.D.Outgoing.Sink.faults g.D.Outgoing.Sink.ended
-    _ _ _ _ _ _ refl refl
+    without_pairs shown g.D.Incoming.Source g.D.Outgoing.Sink _ _ _ _ _ _ refl refl
     (Leaves AreBack IsFailure RackFault (terms_of c.args.command.now) c.args.bytes.now made makes result) (
       left.0,
       left.1,
@@ -153,14 +139,12 @@ returns-in_err-answer_load-in-Load-clause-leaves g c =
 
 pub returns-in_ok-answer_load-in-Load-clause-leaves : goal.returns-in_ok-answer_load-in-Load-clause-leaves
 returns-in_ok-answer_load-in-Load-clause-leaves g c =
-    let shown = shown_by g.R.L.Link.faults g.R.L.Link.quiets g.R.L.Link.gots g.R.L.Link.held g.R.L.Link.telling in
+    let shown = shown_by g.R.L.Link in
     let made = g.R.Rack.made c.args.rack.now in
     let makes = g.R.Rack.made c.answer_load.new.rack in
     let left = c.in_ok-answer_load-in-Load.ensures.leaves c.args.bytes.now in
     let answer = c.in_ok-answer_load-in-Load.field-0 in
-    without_pairs shown g.D.Incoming.Source.left g.D.Incoming.Source.faults
-    g.D.Outgoing.Sink.written g.D.Outgoing.Sink.faults g.D.Outgoing.Sink.ended
-    _ _ _ _ _ _ refl refl
+    without_pairs shown g.D.Incoming.Source g.D.Outgoing.Sink _ _ _ _ _ _ refl refl
     (Leaves AreBack IsFailure RackFault (terms_of c.args.command.now) c.args.bytes.now made makes (Ok answer)) (
       left.0,
       left.1,
@@ -172,11 +156,9 @@ returns-in_ok-answer_load-in-Load-clause-leaves g c =
 
 pub returns-in_err-audit_answer-in-Audit-clause-leaves : goal.returns-in_err-audit_answer-in-Audit-clause-leaves
 returns-in_err-audit_answer-in-Audit-clause-leaves g c =
-    let shown = shown_by g.R.L.Link.faults g.R.L.Link.quiets g.R.L.Link.gots g.R.L.Link.held g.R.L.Link.telling in
+    let shown = shown_by g.R.L.Link in
     let made = g.R.Rack.made c.args.rack.now in
-    without_pairs shown g.D.Incoming.Source.left g.D.Incoming.Source.faults
-    g.D.Outgoing.Sink.written g.D.Outgoing.Sink.faults g.D.Outgoing.Sink.ended
-    _ _ _ _ _ _ refl refl
+    without_pairs shown g.D.Incoming.Source g.D.Outgoing.Sink _ _ _ _ _ _ refl refl
     (Leaves AreBack IsFailure RackFault (terms_of c.args.command.now) c.args.bytes.now made made _)
     (failure_left AreBack none_served IsFailure RackFault shown _ (terms_of c.args.command.now) c.args.bytes.now _ _ NoMemory
     c.from_residual-in_err-audit_answer-in-Audit.ensures.0 c.from_residual-in_err-audit_answer-in-Audit.ensures.1
@@ -184,12 +166,10 @@ returns-in_err-audit_answer-in-Audit-clause-leaves g c =
 
 pub returns-in_ok-audit_answer-in-Audit-clause-leaves : goal.returns-in_ok-audit_answer-in-Audit-clause-leaves
 returns-in_ok-audit_answer-in-Audit-clause-leaves g c =
-    let shown = shown_by g.R.L.Link.faults g.R.L.Link.quiets g.R.L.Link.gots g.R.L.Link.held g.R.L.Link.telling in
+    let shown = shown_by g.R.L.Link in
     let made = g.R.Rack.made c.args.rack.now in
     let answer = c.in_ok-audit_answer-in-Audit.field-0 in
-    without_pairs shown g.D.Incoming.Source.left g.D.Incoming.Source.faults
-    g.D.Outgoing.Sink.written g.D.Outgoing.Sink.faults g.D.Outgoing.Sink.ended
-    _ _ _ _ _ _ refl refl
+    without_pairs shown g.D.Incoming.Source g.D.Outgoing.Sink _ _ _ _ _ _ refl refl
     (Leaves AreBack IsFailure RackFault (terms_of c.args.command.now) c.args.bytes.now made made _)
     (nothing_left AreBack none_served IsFailure RackFault shown _ (terms_of c.args.command.now) c.args.bytes.now _ _
     (subst (λ command. Owes (terms_of command) c.args.bytes.now (no_pairs []) answer.status answer.text.items)
@@ -198,11 +178,9 @@ returns-in_ok-audit_answer-in-Audit-clause-leaves g c =
 
 pub returns-in_err-describe_answer-in-Describe-clause-leaves : goal.returns-in_err-describe_answer-in-Describe-clause-leaves
 returns-in_err-describe_answer-in-Describe-clause-leaves g c =
-    let shown = shown_by g.R.L.Link.faults g.R.L.Link.quiets g.R.L.Link.gots g.R.L.Link.held g.R.L.Link.telling in
+    let shown = shown_by g.R.L.Link in
     let made = g.R.Rack.made c.args.rack.now in
-    without_pairs shown g.D.Incoming.Source.left g.D.Incoming.Source.faults
-    g.D.Outgoing.Sink.written g.D.Outgoing.Sink.faults g.D.Outgoing.Sink.ended
-    _ _ _ _ _ _ refl refl
+    without_pairs shown g.D.Incoming.Source g.D.Outgoing.Sink _ _ _ _ _ _ refl refl
     (Leaves AreBack IsFailure RackFault (terms_of c.args.command.now) c.args.bytes.now made made _)
     (failure_left AreBack none_served IsFailure RackFault shown _ (terms_of c.args.command.now) c.args.bytes.now _ _
     NoMemory c.from_residual-in_err-describe_answer-in-Describe.ensures.0
@@ -210,12 +188,10 @@ returns-in_err-describe_answer-in-Describe-clause-leaves g c =
 
 pub returns-in_ok-describe_answer-in-Describe-clause-leaves : goal.returns-in_ok-describe_answer-in-Describe-clause-leaves
 returns-in_ok-describe_answer-in-Describe-clause-leaves g c =
-    let shown = shown_by g.R.L.Link.faults g.R.L.Link.quiets g.R.L.Link.gots g.R.L.Link.held g.R.L.Link.telling in
+    let shown = shown_by g.R.L.Link in
     let made = g.R.Rack.made c.args.rack.now in
     let answer = c.in_ok-describe_answer-in-Describe.field-0 in
-    without_pairs shown g.D.Incoming.Source.left g.D.Incoming.Source.faults
-    g.D.Outgoing.Sink.written g.D.Outgoing.Sink.faults g.D.Outgoing.Sink.ended
-    _ _ _ _ _ _ refl refl
+    without_pairs shown g.D.Incoming.Source g.D.Outgoing.Sink _ _ _ _ _ _ refl refl
     (Leaves AreBack IsFailure RackFault (terms_of c.args.command.now) c.args.bytes.now made made _)
     (nothing_left AreBack none_served IsFailure RackFault shown _ (terms_of c.args.command.now) c.args.bytes.now _ _
     (subst (λ command. Owes (terms_of command) c.args.bytes.now (no_pairs []) answer.status answer.text.items)
@@ -224,11 +200,9 @@ returns-in_ok-describe_answer-in-Describe-clause-leaves g c =
 
 pub returns-in_err-undescribe_answer-in-Undescribe-clause-leaves : goal.returns-in_err-undescribe_answer-in-Undescribe-clause-leaves
 returns-in_err-undescribe_answer-in-Undescribe-clause-leaves g c =
-    let shown = shown_by g.R.L.Link.faults g.R.L.Link.quiets g.R.L.Link.gots g.R.L.Link.held g.R.L.Link.telling in
+    let shown = shown_by g.R.L.Link in
     let made = g.R.Rack.made c.args.rack.now in
-    without_pairs shown g.D.Incoming.Source.left g.D.Incoming.Source.faults
-    g.D.Outgoing.Sink.written g.D.Outgoing.Sink.faults g.D.Outgoing.Sink.ended
-    _ _ _ _ _ _ refl refl
+    without_pairs shown g.D.Incoming.Source g.D.Outgoing.Sink _ _ _ _ _ _ refl refl
     (Leaves AreBack IsFailure RackFault (terms_of c.args.command.now) c.args.bytes.now made made _)
     (failure_left AreBack none_served IsFailure RackFault shown _ (terms_of c.args.command.now) c.args.bytes.now _ _
     NoMemory c.from_residual-in_err-undescribe_answer-in-Undescribe.ensures.0
@@ -236,12 +210,10 @@ returns-in_err-undescribe_answer-in-Undescribe-clause-leaves g c =
 
 pub returns-in_ok-undescribe_answer-in-Undescribe-clause-leaves : goal.returns-in_ok-undescribe_answer-in-Undescribe-clause-leaves
 returns-in_ok-undescribe_answer-in-Undescribe-clause-leaves g c =
-    let shown = shown_by g.R.L.Link.faults g.R.L.Link.quiets g.R.L.Link.gots g.R.L.Link.held g.R.L.Link.telling in
+    let shown = shown_by g.R.L.Link in
     let made = g.R.Rack.made c.args.rack.now in
     let answer = c.in_ok-undescribe_answer-in-Undescribe.field-0 in
-    without_pairs shown g.D.Incoming.Source.left g.D.Incoming.Source.faults
-    g.D.Outgoing.Sink.written g.D.Outgoing.Sink.faults g.D.Outgoing.Sink.ended
-    _ _ _ _ _ _ refl refl
+    without_pairs shown g.D.Incoming.Source g.D.Outgoing.Sink _ _ _ _ _ _ refl refl
     (Leaves AreBack IsFailure RackFault (terms_of c.args.command.now) c.args.bytes.now made made _)
     (nothing_left AreBack none_served IsFailure RackFault shown _ (terms_of c.args.command.now) c.args.bytes.now _ _
     (subst (λ command. Owes (terms_of command) c.args.bytes.now (no_pairs []) answer.status answer.text.items)
@@ -250,14 +222,12 @@ returns-in_ok-undescribe_answer-in-Undescribe-clause-leaves g c =
 
 pub returns-in_err-record_document-in-Record-clause-leaves : goal.returns-in_err-record_document-in-Record-clause-leaves
 returns-in_err-record_document-in-Record-clause-leaves g c =
-    let shown = shown_by g.R.L.Link.faults g.R.L.Link.quiets g.R.L.Link.gots g.R.L.Link.held g.R.L.Link.telling in
+    let shown = shown_by g.R.L.Link in
     let made = g.R.Rack.made c.args.rack.now in
     let makes = g.R.Rack.made c.record_document.new.rack in
     let left = c.in_err-record_document-in-Record.ensures.leaves in
     let result = c.from_residual-in_err-record_document-in-Record.result in
-    without_pairs shown g.D.Incoming.Source.left g.D.Incoming.Source.faults
-    g.D.Outgoing.Sink.written g.D.Outgoing.Sink.faults g.D.Outgoing.Sink.ended
-    _ _ _ _ _ _ refl refl
+    without_pairs shown g.D.Incoming.Source g.D.Outgoing.Sink _ _ _ _ _ _ refl refl
     (Leaves AreBack IsFailure RackFault (terms_of c.args.command.now) c.args.bytes.now made makes result) (
       left.0,
       left.1,
@@ -272,14 +242,12 @@ returns-in_err-record_document-in-Record-clause-leaves g c =
 
 pub returns-in_ok-record_document-in-Record-clause-leaves : goal.returns-in_ok-record_document-in-Record-clause-leaves
 returns-in_ok-record_document-in-Record-clause-leaves g c =
-    let shown = shown_by g.R.L.Link.faults g.R.L.Link.quiets g.R.L.Link.gots g.R.L.Link.held g.R.L.Link.telling in
+    let shown = shown_by g.R.L.Link in
     let made = g.R.Rack.made c.args.rack.now in
     let makes = g.R.Rack.made c.record_document.new.rack in
     let left = c.in_ok-record_document-in-Record.ensures.leaves in
     let answer = c.in_ok-record_document-in-Record.field-0 in
-    without_pairs shown g.D.Incoming.Source.left g.D.Incoming.Source.faults
-    g.D.Outgoing.Sink.written g.D.Outgoing.Sink.faults g.D.Outgoing.Sink.ended
-    _ _ _ _ _ _ refl refl
+    without_pairs shown g.D.Incoming.Source g.D.Outgoing.Sink _ _ _ _ _ _ refl refl
     (Leaves AreBack IsFailure RackFault (terms_of c.args.command.now) c.args.bytes.now made makes (Ok answer)) (
       left.0,
       left.1,
@@ -291,14 +259,12 @@ returns-in_ok-record_document-in-Record-clause-leaves g c =
 
 pub returns-in_err-save_document-in-Save-clause-leaves : goal.returns-in_err-save_document-in-Save-clause-leaves
 returns-in_err-save_document-in-Save-clause-leaves g c =
-    let shown = shown_by g.R.L.Link.faults g.R.L.Link.quiets g.R.L.Link.gots g.R.L.Link.held g.R.L.Link.telling in
+    let shown = shown_by g.R.L.Link in
     let made = g.R.Rack.made c.args.rack.now in
     let makes = g.R.Rack.made c.save_document.new.rack in
     let left = c.in_err-save_document-in-Save.ensures.leaves in
     let result = c.from_residual-in_err-save_document-in-Save.result in
-    without_pairs shown g.D.Incoming.Source.left g.D.Incoming.Source.faults
-    g.D.Outgoing.Sink.written g.D.Outgoing.Sink.faults g.D.Outgoing.Sink.ended
-    _ _ _ _ _ _ refl refl
+    without_pairs shown g.D.Incoming.Source g.D.Outgoing.Sink _ _ _ _ _ _ refl refl
     (Leaves AreBack IsFailure RackFault (terms_of c.args.command.now) c.args.bytes.now made makes result) (
       left.0,
       left.1,
@@ -313,14 +279,12 @@ returns-in_err-save_document-in-Save-clause-leaves g c =
 
 pub returns-in_ok-save_document-in-Save-clause-leaves : goal.returns-in_ok-save_document-in-Save-clause-leaves
 returns-in_ok-save_document-in-Save-clause-leaves g c =
-    let shown = shown_by g.R.L.Link.faults g.R.L.Link.quiets g.R.L.Link.gots g.R.L.Link.held g.R.L.Link.telling in
+    let shown = shown_by g.R.L.Link in
     let made = g.R.Rack.made c.args.rack.now in
     let makes = g.R.Rack.made c.save_document.new.rack in
     let left = c.in_ok-save_document-in-Save.ensures.leaves in
     let answer = c.in_ok-save_document-in-Save.field-0 in
-    without_pairs shown g.D.Incoming.Source.left g.D.Incoming.Source.faults
-    g.D.Outgoing.Sink.written g.D.Outgoing.Sink.faults g.D.Outgoing.Sink.ended
-    _ _ _ _ _ _ refl refl
+    without_pairs shown g.D.Incoming.Source g.D.Outgoing.Sink _ _ _ _ _ _ refl refl
     (Leaves AreBack IsFailure RackFault (terms_of c.args.command.now) c.args.bytes.now made makes (Ok answer)) (
       left.0,
       left.1,
@@ -332,14 +296,12 @@ returns-in_ok-save_document-in-Save-clause-leaves g c =
 
 pub returns-in_err-apply_document-in-Apply-clause-leaves : goal.returns-in_err-apply_document-in-Apply-clause-leaves
 returns-in_err-apply_document-in-Apply-clause-leaves g c =
-    let shown = shown_by g.R.L.Link.faults g.R.L.Link.quiets g.R.L.Link.gots g.R.L.Link.held g.R.L.Link.telling in
+    let shown = shown_by g.R.L.Link in
     let made = g.R.Rack.made c.args.rack.now in
     let makes = g.R.Rack.made c.apply_document.new.rack in
     let left = c.in_err-apply_document-in-Apply.ensures.leaves in
     let result = c.from_residual-in_err-apply_document-in-Apply.result in
-    without_pairs shown g.D.Incoming.Source.left g.D.Incoming.Source.faults
-    g.D.Outgoing.Sink.written g.D.Outgoing.Sink.faults g.D.Outgoing.Sink.ended
-    _ _ _ _ _ _ refl refl
+    without_pairs shown g.D.Incoming.Source g.D.Outgoing.Sink _ _ _ _ _ _ refl refl
     (Leaves AreBack IsFailure RackFault (terms_of c.args.command.now) c.args.bytes.now made makes result) (
       left.0,
       left.1,
@@ -354,14 +316,12 @@ returns-in_err-apply_document-in-Apply-clause-leaves g c =
 
 pub returns-in_ok-apply_document-in-Apply-clause-leaves : goal.returns-in_ok-apply_document-in-Apply-clause-leaves
 returns-in_ok-apply_document-in-Apply-clause-leaves g c =
-    let shown = shown_by g.R.L.Link.faults g.R.L.Link.quiets g.R.L.Link.gots g.R.L.Link.held g.R.L.Link.telling in
+    let shown = shown_by g.R.L.Link in
     let made = g.R.Rack.made c.args.rack.now in
     let makes = g.R.Rack.made c.apply_document.new.rack in
     let left = c.in_ok-apply_document-in-Apply.ensures.leaves in
     let answer = c.in_ok-apply_document-in-Apply.field-0 in
-    without_pairs shown g.D.Incoming.Source.left g.D.Incoming.Source.faults
-    g.D.Outgoing.Sink.written g.D.Outgoing.Sink.faults g.D.Outgoing.Sink.ended
-    _ _ _ _ _ _ refl refl
+    without_pairs shown g.D.Incoming.Source g.D.Outgoing.Sink _ _ _ _ _ _ refl refl
     (Leaves AreBack IsFailure RackFault (terms_of c.args.command.now) c.args.bytes.now made makes (Ok answer)) (
       left.0,
       left.1,

@@ -1,5 +1,5 @@
 use Rattle.std.proofs.Common.{[], sym, ◌∙◌}
-use Rattle.board_greeting.specs.Boards.{shown_by}
+use Rattle.board_greeting.specs.Reports.{shown_by}
 use Rattle.session_serve.specs.Serving.{AreBack}
 use Rattle.command_terms.specs.Leaving.{Leaves}
 use Rattle.command_terms.proofs.Pairs.{therefore}
@@ -11,14 +11,12 @@ use Rattle.ipbus_program.proofs.program.answer_command.Goals as goal
 
 pub returns-in-None-clause-leaves : goal.returns-in-None-clause-leaves
 returns-in-None-clause-leaves g c =
-    let shown = shown_by g.R.L.Link.faults g.R.L.Link.quiets g.R.L.Link.gots g.R.L.Link.held g.R.L.Link.telling in
+    let shown = shown_by g.R.L.Link in
     let before = g.S.Source.left c.args.input.now in
     let made = g.R.Rack.made c.args.rack.now in
     let makes = g.R.Rack.made c.answer_to.new.rack in
     let terms = terms_of c.args.command.now in
-    therefore shown g.D.Incoming.Source.left g.D.Incoming.Source.faults
-    g.D.Outgoing.Sink.written g.D.Outgoing.Sink.faults g.D.Outgoing.Sink.ended
-    _ _ _ _ _ _
+    therefore shown g.D.Incoming.Source g.D.Outgoing.Sink _ _ _ _ _ _
     (Leaves AreBack IsFailure RackFault terms [] made makes c.answer_to.result)
     (InputLeaves terms before before made makes c.answer_to.result)
     (λ given leaves. unread_left terms (c.terms_are_terms.ensures c.args.command.now)

@@ -1,7 +1,7 @@
 use Rattle.std.proofs.Common.{◌≡◌, ◌+◌, ◌≤◌, ◌∙◌, inl, refl, sym, ap, length, vec_len, arith, subst, [], Ok, Err, rules}
 use Rattle.std.proofs.Common.{append-nil}
 use Rattle.ipb_outside.specs.Told.{TakesAtMost, TakesCount}
-use Rattle.board_greeting.specs.Boards.{shown_by}
+use Rattle.board_greeting.specs.Reports.{shown_by}
 use Rattle.session_serve.specs.Executed.{CameInFrames}
 use Rattle.session_serve.specs.Serving.{AreBack}
 use Rattle.session_serve.proofs.Executing.{none_executed}
@@ -18,7 +18,7 @@ use Rattle.ipbus_program.proofs.program.answer_input.Goals as goal
 
 pub returns-in-Ok-clause-leaves : goal.returns-in-Ok-clause-leaves
 returns-in-Ok-clause-leaves g c =
-    let shown = shown_by g.R.L.Link.faults g.R.L.Link.quiets g.R.L.Link.gots g.R.L.Link.held g.R.L.Link.telling in
+    let shown = shown_by g.R.L.Link in
     let before = g.S.Source.left c.args.input.now in
     let now = g.S.Source.left c.read_all.new.src in
     let made = g.R.Rack.made c.args.rack.now in
@@ -26,9 +26,7 @@ returns-in-Ok-clause-leaves g c =
     let as_long : length c.in-Ok.bytes.items ≡ vec_len c.in-Ok.bytes =
     sym (ap length c.deref.ensures.value) ∙ c.deref.ensures.len in
     let within : length c.in-Ok.bytes.items ≤ c.args.limit = omega (arith, as_long, c.in-Ok.ensures.within) in
-    therefore shown g.D.Incoming.Source.left g.D.Incoming.Source.faults
-    g.D.Outgoing.Sink.written g.D.Outgoing.Sink.faults g.D.Outgoing.Sink.ended
-    _ _ _ _ _ _
+    therefore shown g.D.Incoming.Source g.D.Outgoing.Sink _ _ _ _ _ _
     (Leaves AreBack IsFailure RackFault (terms_of c.args.command.now) c.deref.result.now made makes c.answer_to.result)
     (InputLeaves (terms_of c.args.command.now) before now made makes c.answer_to.result)
     (λ given leaves. input_left (terms_of c.args.command.now) c.args.limit c.requires.reads before now
@@ -40,16 +38,14 @@ returns-in-Ok-clause-leaves g c =
 
 pub returns-in_ok-too_long-in-Err-TooLong-clause-leaves : goal.returns-in_ok-too_long-in-Err-TooLong-clause-leaves
 returns-in_ok-too_long-in-Err-TooLong-clause-leaves g c =
-    let shown = shown_by g.R.L.Link.faults g.R.L.Link.quiets g.R.L.Link.gots g.R.L.Link.held g.R.L.Link.telling in
+    let shown = shown_by g.R.L.Link in
     let before = g.S.Source.left c.args.input.now in
     let now = g.S.Source.left c.read_all.new.src in
     let made = g.R.Rack.made c.args.rack.now in
     let answer = c.in_ok-too_long-in-Err-TooLong.field-0 in
     let took : TakesCount (c.args.limit + 1) before now = search rules in
     let most : TakesAtMost (c.args.limit + 1) before now = search rules in
-    without_pairs shown g.D.Incoming.Source.left g.D.Incoming.Source.faults
-    g.D.Outgoing.Sink.written g.D.Outgoing.Sink.faults g.D.Outgoing.Sink.ended
-    _ _ _ _ _ _ refl refl
+    without_pairs shown g.D.Incoming.Source g.D.Outgoing.Sink _ _ _ _ _ _ refl refl
     (InputLeaves (terms_of c.args.command.now) before now made made (Ok answer))
     (input_untouched (terms_of c.args.command.now) c.args.limit c.requires.reads before now shown _ _ (Ok answer) most
     (long_answered (terms_of c.args.command.now) (c.terms_are_terms.ensures c.args.command.now) c.args.limit
@@ -59,41 +55,35 @@ returns-in_ok-too_long-in-Err-TooLong-clause-leaves g c =
 
 pub returns-in_err-too_long-in-Err-TooLong-clause-leaves : goal.returns-in_err-too_long-in-Err-TooLong-clause-leaves
 returns-in_err-too_long-in-Err-TooLong-clause-leaves g c =
-    let shown = shown_by g.R.L.Link.faults g.R.L.Link.quiets g.R.L.Link.gots g.R.L.Link.held g.R.L.Link.telling in
+    let shown = shown_by g.R.L.Link in
     let before = g.S.Source.left c.args.input.now in
     let now = g.S.Source.left c.read_all.new.src in
     let made = g.R.Rack.made c.args.rack.now in
     let most : TakesAtMost (c.args.limit + 1) before now = search rules in
-    without_pairs shown g.D.Incoming.Source.left g.D.Incoming.Source.faults
-    g.D.Outgoing.Sink.written g.D.Outgoing.Sink.faults g.D.Outgoing.Sink.ended
-    _ _ _ _ _ _ refl refl
+    without_pairs shown g.D.Incoming.Source g.D.Outgoing.Sink _ _ _ _ _ _ refl refl
     (InputLeaves (terms_of c.args.command.now) before now made made c.from_residual.result)
     (failure_untouched (terms_of c.args.command.now) c.args.limit c.requires.reads before now shown _ _
     c.from_residual.result c.from_residual.ensures.0 c.from_residual.ensures.1 most)
 
 pub returns-in-Err-Failed-clause-leaves : goal.returns-in-Err-Failed-clause-leaves
 returns-in-Err-Failed-clause-leaves g c =
-    let shown = shown_by g.R.L.Link.faults g.R.L.Link.quiets g.R.L.Link.gots g.R.L.Link.held g.R.L.Link.telling in
+    let shown = shown_by g.R.L.Link in
     let before = g.S.Source.left c.args.input.now in
     let now = g.S.Source.left c.read_all.new.src in
     let made = g.R.Rack.made c.args.rack.now in
     let most : TakesAtMost (c.args.limit + 1) before now = search rules in
-    without_pairs shown g.D.Incoming.Source.left g.D.Incoming.Source.faults
-    g.D.Outgoing.Sink.written g.D.Outgoing.Sink.faults g.D.Outgoing.Sink.ended
-    _ _ _ _ _ _ refl refl
+    without_pairs shown g.D.Incoming.Source g.D.Outgoing.Sink _ _ _ _ _ _ refl refl
     (InputLeaves (terms_of c.args.command.now) before now made made (Err ReadFault))
     (error_untouched (terms_of c.args.command.now) c.args.limit c.requires.reads before now shown _ _ ReadFault (λ failed. failed) most)
 
 pub returns-in-Err-NoMemory-clause-leaves : goal.returns-in-Err-NoMemory-clause-leaves
 returns-in-Err-NoMemory-clause-leaves g c =
-    let shown = shown_by g.R.L.Link.faults g.R.L.Link.quiets g.R.L.Link.gots g.R.L.Link.held g.R.L.Link.telling in
+    let shown = shown_by g.R.L.Link in
     let before = g.S.Source.left c.args.input.now in
     let now = g.S.Source.left c.read_all.new.src in
     let made = g.R.Rack.made c.args.rack.now in
     let most : TakesAtMost (c.args.limit + 1) before now = search rules in
-    without_pairs shown g.D.Incoming.Source.left g.D.Incoming.Source.faults
-    g.D.Outgoing.Sink.written g.D.Outgoing.Sink.faults g.D.Outgoing.Sink.ended
-    _ _ _ _ _ _ refl refl
+    without_pairs shown g.D.Incoming.Source g.D.Outgoing.Sink _ _ _ _ _ _ refl refl
     (InputLeaves (terms_of c.args.command.now) before now made made (Err NoMemory))
     (error_untouched (terms_of c.args.command.now) c.args.limit c.requires.reads before now shown _ _ NoMemory (λ failed. failed) most)
 
@@ -108,32 +98,24 @@ returns-in_err-too_long-in-Err-TooLong-clause-listens g c port count asked =
 
 pub returns-in_ok-too_long-in-Err-TooLong-clause-in_frames : goal.returns-in_ok-too_long-in-Err-TooLong-clause-in_frames
 returns-in_ok-too_long-in-Err-TooLong-clause-in_frames g c port count asked =
-    let shown = shown_by g.R.L.Link.faults g.R.L.Link.quiets g.R.L.Link.gots g.R.L.Link.held g.R.L.Link.telling in
-    without_pairs shown g.D.Incoming.Source.left g.D.Incoming.Source.faults
-    g.D.Outgoing.Sink.written g.D.Outgoing.Sink.faults g.D.Outgoing.Sink.ended
-    _ _ _ _ _ _ refl refl
+    let shown = shown_by g.R.L.Link in
+    without_pairs shown g.D.Incoming.Source g.D.Outgoing.Sink _ _ _ _ _ _ refl refl
     (λ given. CameInFrames given.links given.came given.back) ([], sym (append-nil _), none_executed [] tt)
 
 pub returns-in_err-too_long-in-Err-TooLong-clause-in_frames : goal.returns-in_err-too_long-in-Err-TooLong-clause-in_frames
 returns-in_err-too_long-in-Err-TooLong-clause-in_frames g c port count asked =
-    let shown = shown_by g.R.L.Link.faults g.R.L.Link.quiets g.R.L.Link.gots g.R.L.Link.held g.R.L.Link.telling in
-    without_pairs shown g.D.Incoming.Source.left g.D.Incoming.Source.faults
-    g.D.Outgoing.Sink.written g.D.Outgoing.Sink.faults g.D.Outgoing.Sink.ended
-    _ _ _ _ _ _ refl refl
+    let shown = shown_by g.R.L.Link in
+    without_pairs shown g.D.Incoming.Source g.D.Outgoing.Sink _ _ _ _ _ _ refl refl
     (λ given. CameInFrames given.links given.came given.back) ([], sym (append-nil _), none_executed [] tt)
 
 pub returns-in-Err-Failed-clause-in_frames : goal.returns-in-Err-Failed-clause-in_frames
 returns-in-Err-Failed-clause-in_frames g c port count asked =
-    let shown = shown_by g.R.L.Link.faults g.R.L.Link.quiets g.R.L.Link.gots g.R.L.Link.held g.R.L.Link.telling in
-    without_pairs shown g.D.Incoming.Source.left g.D.Incoming.Source.faults
-    g.D.Outgoing.Sink.written g.D.Outgoing.Sink.faults g.D.Outgoing.Sink.ended
-    _ _ _ _ _ _ refl refl
+    let shown = shown_by g.R.L.Link in
+    without_pairs shown g.D.Incoming.Source g.D.Outgoing.Sink _ _ _ _ _ _ refl refl
     (λ given. CameInFrames given.links given.came given.back) ([], sym (append-nil _), none_executed [] tt)
 
 pub returns-in-Err-NoMemory-clause-in_frames : goal.returns-in-Err-NoMemory-clause-in_frames
 returns-in-Err-NoMemory-clause-in_frames g c port count asked =
-    let shown = shown_by g.R.L.Link.faults g.R.L.Link.quiets g.R.L.Link.gots g.R.L.Link.held g.R.L.Link.telling in
-    without_pairs shown g.D.Incoming.Source.left g.D.Incoming.Source.faults
-    g.D.Outgoing.Sink.written g.D.Outgoing.Sink.faults g.D.Outgoing.Sink.ended
-    _ _ _ _ _ _ refl refl
+    let shown = shown_by g.R.L.Link in
+    without_pairs shown g.D.Incoming.Source g.D.Outgoing.Sink _ _ _ _ _ _ refl refl
     (λ given. CameInFrames given.links given.came given.back) ([], sym (append-nil _), none_executed [] tt)

@@ -1,7 +1,7 @@
 use Rattle.std.proofs.Common.{string_bytes, Some, Ok, Err, [], ◌∙◌, ◌≤◌, ℕ, List, inl, map, length, ap}
 use Rattle.std.proofs.Common.{append-nil, sym, subst, arith, rules, refl}
 use Rattle.ipb_outside.specs.Told.{TakesCount}
-use Rattle.board_greeting.specs.Boards.{shown_by}
+use Rattle.board_greeting.specs.Reports.{shown_by}
 use Rattle.session_serve.specs.Executed.{CameInFrames}
 use Rattle.session_serve.proofs.Executing.{none_executed}
 use Rattle.command_words.specs.declared.command.Command.TheVariants.{Serve}
@@ -25,13 +25,11 @@ use Rattle.ipbus_program.proofs.program.control.Goals as goal
 
 pub returns-in-Ok-None-clause-ended : goal.returns-in-Ok-None-clause-ended
 returns-in-Ok-None-clause-ended g c =
-    let shown = shown_by g.R.L.Link.faults g.R.L.Link.quiets g.R.L.Link.gots g.R.L.Link.held g.R.L.Link.telling in
+    let shown = shown_by g.R.L.Link in
     let none : AreNoCommand c.args.words.now = search rules in
     let left = g.S.Source.left c.args.input.now in
     let made = g.R.Rack.made c.args.rack.now in
-    without_pairs shown g.D.Incoming.Source.left g.D.Incoming.Source.faults
-    g.D.Outgoing.Sink.written g.D.Outgoing.Sink.faults g.D.Outgoing.Sink.ended
-    _ _ _ _ _ _ refl refl
+    without_pairs shown g.D.Incoming.Source g.D.Outgoing.Sink _ _ _ _ _ _ refl refl
     (λ given. Ended c.args.words.now (record {
       left = left;
       left_now = left;
@@ -50,13 +48,11 @@ returns-in-Ok-None-clause-ended g c =
 
 pub returns-in-Err-clause-ended : goal.returns-in-Err-clause-ended
 returns-in-Err-clause-ended g c =
-    let shown = shown_by g.R.L.Link.faults g.R.L.Link.quiets g.R.L.Link.gots g.R.L.Link.held g.R.L.Link.telling in
+    let shown = shown_by g.R.L.Link in
     let left = g.S.Source.left c.args.input.now in
     let made = g.R.Rack.made c.args.rack.now in
     let written = g.O.Sink.written c.args.out.now in
-    without_pairs shown g.D.Incoming.Source.left g.D.Incoming.Source.faults
-    g.D.Outgoing.Sink.written g.D.Outgoing.Sink.faults g.D.Outgoing.Sink.ended
-    _ _ _ _ _ _ refl refl
+    without_pairs shown g.D.Incoming.Source g.D.Outgoing.Sink _ _ _ _ _ _ refl refl
     (λ given. Ended c.args.words.now (record {
       left = left;
       left_now = left;
@@ -70,7 +66,7 @@ returns-in-Err-clause-ended g c =
 
 pub returns-in-Ok-clause-ended : goal.returns-in-Ok-clause-ended
 returns-in-Ok-clause-ended g c =
-    let shown = shown_by g.R.L.Link.faults g.R.L.Link.quiets g.R.L.Link.gots g.R.L.Link.held g.R.L.Link.telling in
+    let shown = shown_by g.R.L.Link in
     let are : AreCommand c.args.words.now c.in-Ok-Some.command = search rules in
     let laws = c.terms_are_terms.ensures c.in-Ok-Some.command in
     let before = g.S.Source.left c.args.input.now in
@@ -79,9 +75,7 @@ returns-in-Ok-clause-ended g c =
     let makes = g.R.Rack.made c.answer_command.new.rack in
     let written = g.O.Sink.written c.args.out.now in
     let written_now = g.O.Sink.written c.deliver-in-Ok.new.out in
-    therefore shown g.D.Incoming.Source.left g.D.Incoming.Source.faults
-    g.D.Outgoing.Sink.written g.D.Outgoing.Sink.faults g.D.Outgoing.Sink.ended
-    _ _ _ _ _ _
+    therefore shown g.D.Incoming.Source g.D.Outgoing.Sink _ _ _ _ _ _
     (InputLeaves (terms_of c.in-Ok-Some.command) before now made makes (Ok c.in-Ok.answer))
     (λ given. Ended c.args.words.now (outside c.args.words.now c.in-Ok-Some.command laws are before now made makes written
     written_now given) c.deliver-in-Ok.result)
@@ -92,7 +86,7 @@ returns-in-Ok-clause-ended g c =
 
 pub returns-in-Err-ReadFault-clause-ended : goal.returns-in-Err-ReadFault-clause-ended
 returns-in-Err-ReadFault-clause-ended g c =
-    let shown = shown_by g.R.L.Link.faults g.R.L.Link.quiets g.R.L.Link.gots g.R.L.Link.held g.R.L.Link.telling in
+    let shown = shown_by g.R.L.Link in
     let are : AreCommand c.args.words.now c.in-Ok-Some.command = search rules in
     let laws = c.terms_are_terms.ensures c.in-Ok-Some.command in
     let before = g.S.Source.left c.args.input.now in
@@ -100,9 +94,7 @@ returns-in-Err-ReadFault-clause-ended g c =
     let made = g.R.Rack.made c.args.rack.now in
     let makes = g.R.Rack.made c.answer_command.new.rack in
     let written = g.O.Sink.written c.args.out.now in
-    therefore shown g.D.Incoming.Source.left g.D.Incoming.Source.faults
-    g.D.Outgoing.Sink.written g.D.Outgoing.Sink.faults g.D.Outgoing.Sink.ended
-    _ _ _ _ _ _
+    therefore shown g.D.Incoming.Source g.D.Outgoing.Sink _ _ _ _ _ _
     (InputLeaves (terms_of c.in-Ok-Some.command) before now made makes (Err c.in-Err-ReadFault.field-0))
     (λ given. Ended c.args.words.now (outside c.args.words.now c.in-Ok-Some.command laws are before now made makes written
     written given) read_fault_status)
@@ -112,7 +104,7 @@ returns-in-Err-ReadFault-clause-ended g c =
 
 pub returns-in-Err-RackFault-clause-ended : goal.returns-in-Err-RackFault-clause-ended
 returns-in-Err-RackFault-clause-ended g c =
-    let shown = shown_by g.R.L.Link.faults g.R.L.Link.quiets g.R.L.Link.gots g.R.L.Link.held g.R.L.Link.telling in
+    let shown = shown_by g.R.L.Link in
     let are : AreCommand c.args.words.now c.in-Ok-Some.command = search rules in
     let laws = c.terms_are_terms.ensures c.in-Ok-Some.command in
     let before = g.S.Source.left c.args.input.now in
@@ -120,9 +112,7 @@ returns-in-Err-RackFault-clause-ended g c =
     let made = g.R.Rack.made c.args.rack.now in
     let makes = g.R.Rack.made c.answer_command.new.rack in
     let written = g.O.Sink.written c.args.out.now in
-    therefore shown g.D.Incoming.Source.left g.D.Incoming.Source.faults
-    g.D.Outgoing.Sink.written g.D.Outgoing.Sink.faults g.D.Outgoing.Sink.ended
-    _ _ _ _ _ _
+    therefore shown g.D.Incoming.Source g.D.Outgoing.Sink _ _ _ _ _ _
     (InputLeaves (terms_of c.in-Ok-Some.command) before now made makes (Err c.in-Err-RackFault.field-0))
     (λ given. Ended c.args.words.now (outside c.args.words.now c.in-Ok-Some.command laws are before now made makes written
     written given) rack_fault_status)
@@ -132,7 +122,7 @@ returns-in-Err-RackFault-clause-ended g c =
 
 pub returns-in-Err-DoorFault-clause-ended : goal.returns-in-Err-DoorFault-clause-ended
 returns-in-Err-DoorFault-clause-ended g c =
-    let shown = shown_by g.R.L.Link.faults g.R.L.Link.quiets g.R.L.Link.gots g.R.L.Link.held g.R.L.Link.telling in
+    let shown = shown_by g.R.L.Link in
     let are : AreCommand c.args.words.now c.in-Ok-Some.command = search rules in
     let laws = c.terms_are_terms.ensures c.in-Ok-Some.command in
     let before = g.S.Source.left c.args.input.now in
@@ -140,9 +130,7 @@ returns-in-Err-DoorFault-clause-ended g c =
     let made = g.R.Rack.made c.args.rack.now in
     let makes = g.R.Rack.made c.answer_command.new.rack in
     let written = g.O.Sink.written c.args.out.now in
-    therefore shown g.D.Incoming.Source.left g.D.Incoming.Source.faults
-    g.D.Outgoing.Sink.written g.D.Outgoing.Sink.faults g.D.Outgoing.Sink.ended
-    _ _ _ _ _ _
+    therefore shown g.D.Incoming.Source g.D.Outgoing.Sink _ _ _ _ _ _
     (InputLeaves (terms_of c.in-Ok-Some.command) before now made makes (Err c.in-Err-DoorFault.field-0))
     (λ given. Ended c.args.words.now (outside c.args.words.now c.in-Ok-Some.command laws are before now made makes written
     written given) door_fault_status)
@@ -152,7 +140,7 @@ returns-in-Err-DoorFault-clause-ended g c =
 
 pub returns-clause-ended : goal.returns-clause-ended
 returns-clause-ended g c =
-    let shown = shown_by g.R.L.Link.faults g.R.L.Link.quiets g.R.L.Link.gots g.R.L.Link.held g.R.L.Link.telling in
+    let shown = shown_by g.R.L.Link in
     let are : AreCommand c.args.words.now c.in-Ok-Some.command = search rules in
     let laws = c.terms_are_terms.ensures c.in-Ok-Some.command in
     let before = g.S.Source.left c.args.input.now in
@@ -160,9 +148,7 @@ returns-clause-ended g c =
     let made = g.R.Rack.made c.args.rack.now in
     let makes = g.R.Rack.made c.answer_command.new.rack in
     let written = g.O.Sink.written c.args.out.now in
-    therefore shown g.D.Incoming.Source.left g.D.Incoming.Source.faults
-    g.D.Outgoing.Sink.written g.D.Outgoing.Sink.faults g.D.Outgoing.Sink.ended
-    _ _ _ _ _ _
+    therefore shown g.D.Incoming.Source g.D.Outgoing.Sink _ _ _ _ _ _
     (InputLeaves (terms_of c.in-Ok-Some.command) before now made makes (Err c.in-Err-NoMemory.field-0))
     (λ given. Ended c.args.words.now (outside c.args.words.now c.in-Ok-Some.command laws are before now made makes written
     written given) no_memory_status)
@@ -529,10 +515,8 @@ returns-in-Ok-None-clause-in_frames g c port count asked =
 
 pub returns-in-Err-clause-in_frames : goal.returns-in-Err-clause-in_frames
 returns-in-Err-clause-in_frames g c port count asked =
-    let shown = shown_by g.R.L.Link.faults g.R.L.Link.quiets g.R.L.Link.gots g.R.L.Link.held g.R.L.Link.telling in
-    without_pairs shown g.D.Incoming.Source.left g.D.Incoming.Source.faults
-    g.D.Outgoing.Sink.written g.D.Outgoing.Sink.faults g.D.Outgoing.Sink.ended
-    _ _ _ _ _ _ refl refl
+    let shown = shown_by g.R.L.Link in
+    without_pairs shown g.D.Incoming.Source g.D.Outgoing.Sink _ _ _ _ _ _ refl refl
     (λ given. CameInFrames given.links given.came given.back) ([], sym (append-nil _), none_executed [] tt)
 
 pub returns-in-Ok-clause-in_frames : goal.returns-in-Ok-clause-in_frames

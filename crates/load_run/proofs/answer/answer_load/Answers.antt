@@ -1,12 +1,12 @@
 use Rattle.std.proofs.Common.{map}
-use Rattle.board_greeting.specs.Boards.{shown_by}
+use Rattle.board_greeting.specs.Reports.{shown_by}
 use Rattle.load_run.proofs.Answered.{load_done, load_stopped}
 use Rattle.load_run.proofs.answer.answer_load.Goals as goal
 
 pub returns-in_err-load-clause-leaves : goal.returns-in_err-load-clause-leaves
 returns-in_err-load-clause-leaves g c = λ bytes.
     let left = c.in_err-load.ensures.leaves in
-    let shown = shown_by g.R.L.Link.faults g.R.L.Link.quiets g.R.L.Link.gots g.R.L.Link.held g.R.L.Link.telling in (
+    let shown = shown_by g.R.L.Link in (
       left.0,
       left.1,
       load_stopped c.args.count bytes (g.R.Rack.made c.args.rack.now) (g.R.Rack.made c.run_load.new.rack)
@@ -17,7 +17,7 @@ returns-in_err-load-clause-leaves g c = λ bytes.
 pub returns-clause-leaves : goal.returns-clause-leaves
 returns-clause-leaves g c = λ bytes.
     let left = c.in_ok-load.ensures.leaves in
-    let shown = shown_by g.R.L.Link.faults g.R.L.Link.quiets g.R.L.Link.gots g.R.L.Link.held g.R.L.Link.telling in (
+    let shown = shown_by g.R.L.Link in (
       left.0,
       left.1,
       load_done c.args.count bytes (g.R.Rack.made c.args.rack.now) (g.R.Rack.made c.run_load.new.rack) (map shown left.0)

@@ -1,6 +1,6 @@
 use Rattle.std.proofs.Common.{◌≡◌, List, length, map, Err, refl, ap, subst}
 use Rattle.std.specs.List.{AllByRecursion}
-use Rattle.board_greeting.specs.Boards.{shown_by}
+use Rattle.board_greeting.specs.Reports.{shown_by}
 use Rattle.board_node.specs.declared.spec.BoardSpec.{BoardSpec}
 use Rattle.world_model.specs.Settings.{Limits}
 use Rattle.script_steps.specs.declared.operation.Step.{Step}
@@ -19,7 +19,7 @@ use Rattle.load_run.proofs.run.run_generated.Goals as goal
 pub returns-in_err-runs-clause-leaves : goal.returns-in_err-runs-clause-leaves
 returns-in_err-runs-clause-leaves g c =
     let left = c.run_session.ensures.left in
-    let shown = shown_by g.R.L.Link.faults g.R.L.Link.quiets g.R.L.Link.gots g.R.L.Link.held g.R.L.Link.telling in
+    let shown = shown_by g.R.L.Link in
     let links = map shown left.0 in
     let made = g.R.Rack.made c.args.rack.now in
     let makes = g.R.Rack.made c.run_session.new.rack in (
@@ -39,7 +39,7 @@ returns-in_err-runs-clause-leaves g c =
 pub returns-in_err-printed-clause-leaves : goal.returns-in_err-printed-clause-leaves
 returns-in_err-printed-clause-leaves g c =
     let left = c.run_session.ensures.left in
-    let shown = shown_by g.R.L.Link.faults g.R.L.Link.quiets g.R.L.Link.gots g.R.L.Link.held g.R.L.Link.telling in
+    let shown = shown_by g.R.L.Link in
     let links = map shown left.0 in
     let made = g.R.Rack.made c.args.rack.now in
     let makes = g.R.Rack.made c.run_session.new.rack in (
@@ -58,7 +58,7 @@ returns-in_err-printed-clause-leaves g c =
 pub returns-clause-leaves : goal.returns-clause-leaves
 returns-clause-leaves g c =
     let left = c.run_session.ensures.left in
-    let shown = shown_by g.R.L.Link.faults g.R.L.Link.quiets g.R.L.Link.gots g.R.L.Link.held g.R.L.Link.telling in
+    let shown = shown_by g.R.L.Link in
     let links = map shown left.0 in
     let made = g.R.Rack.made c.args.rack.now in
     let makes = g.R.Rack.made c.run_session.new.rack in

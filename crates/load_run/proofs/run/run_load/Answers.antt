@@ -1,5 +1,5 @@
 use Rattle.std.proofs.Common.{List, map, refl, sym, subst, arith, ◌∙◌}
-use Rattle.board_greeting.specs.Boards.{shown_by}
+use Rattle.board_greeting.specs.Reports.{shown_by}
 use Rattle.board_node.specs.declared.spec.BoardSpec.{BoardSpec}
 use Rattle.world_model.specs.Settings.{Limits}
 use Rattle.script_steps.specs.declared.operation.Step.{Step}
@@ -19,12 +19,14 @@ run_generated-requires-after_bounds g c κs bounds =
       specs' = refl;
       scripts' = refl;
       few_boards = omega (arith, one);
-      few_clients = omega (arith, four);
       reached = reached_of (boards count) (can.here count c.requires) (can.words count);
-      packed = can.packed count;
-      few = can.few count c.requires;
-      executable = can.executable count;
-      within = can.within count c.requires;
+      can = record {
+        few_clients = omega (arith, four);
+        packed = can.packed count;
+        few = can.few count c.requires;
+        executable = can.executable count;
+        limits = can.within count c.requires;
+      };
       short = can.short count c.requires;
     } in
     subst (λ (limits : Limits). IsGenerated count limits c.as_slice-boards.result.now c.as_slice-steps.result.now)
@@ -36,12 +38,12 @@ run_generated-requires-after_bounds g c κs bounds =
 
 pub returns-in_err-session-clause-leaves : goal.returns-in_err-session-clause-leaves
 returns-in_err-session-clause-leaves g c =
-    let shown = shown_by g.R.L.Link.faults g.R.L.Link.quiets g.R.L.Link.gots g.R.L.Link.held g.R.L.Link.telling in
+    let shown = shown_by g.R.L.Link in
     no_load shown _ IsLoadOf c.args.count _ c.from_residual.result c.from_residual.ensures.0 c.from_residual.ensures.1
 
 pub returns-clause-leaves : goal.returns-clause-leaves
 returns-clause-leaves g c =
-    let shown = shown_by g.R.L.Link.faults g.R.L.Link.quiets g.R.L.Link.gots g.R.L.Link.held g.R.L.Link.telling in
+    let shown = shown_by g.R.L.Link in
     let left = c.run_generated.ensures.leaves in (
       left.0,
       left.1,

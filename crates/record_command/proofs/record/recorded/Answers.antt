@@ -2,7 +2,8 @@ use Rattle.std.proofs.Common.{◌≡◌, ◌∙◌, ◌++◌, ◌+◌, [], ◌�
 use Rattle.std.proofs.Common.{Err, Some, slice_index_or}
 use Rattle.board_node.specs.declared.spec.BoardSpec.{BoardSpec}
 use Rattle.hub_lane.specs.Greeting.{link_of}
-use Rattle.board_greeting.specs.Boards.{IsReached, shown_by}
+use Rattle.board_greeting.specs.Boards.{IsReached}
+use Rattle.board_greeting.specs.Reports.{shown_by}
 use Rattle.board_greeting.proofs.Boards.{made_still, none_made, one_made}
 use Rattle.session_run.specs.declared.session.RunFault.TheVariants.{NoMemory}
 use Rattle.session_run.specs.Faults.{run_fault}
@@ -47,7 +48,7 @@ pub run_tapped-tap-requires-clause-reached : goal.run_tapped-tap-requires-clause
 run_tapped-tap-requires-clause-reached g c κs within = λ spec is.
     let it = g.R.L.Link in
     let board = c.index-boards-0.result in
-    let shows = shown_by (tapped it.faults) (tapped it.quiets) (tapped it.gots) (tapped it.held) (tapped it.telling) in
+    let shows = shown_by (tapped it) in
     let same : board ≡ spec = c.index-boards-0.is ∙ ap (λ (bs : List BoardSpec). slice_index_or bs 0 board) is in
     subst (λ (s : BoardSpec). IsReached c.args.session.now.settings s c.in_ok-greeted.greeted
     (shows (link_of c.in_ok-greeted.greeted))) same c.in_ok-greeted.ensures.reached
@@ -75,8 +76,7 @@ run_tapped-tap-requires-clause-one g c κs within =
 
 pub returns-in_err-written-clause-leaves : goal.returns-in_err-written-clause-leaves
 returns-in_err-written-clause-leaves g c =
-    let it = g.R.L.Link in
-    let shows = shown_by it.faults it.quiets it.gots it.held it.telling in
+    let shows = shown_by g.R.L.Link in
     let link = c.into_parts-link.result.0 in
     let boards = c.as_slice-boards.ensures in
     let session = c.args.session.now in
@@ -101,8 +101,7 @@ returns-in_err-written-clause-leaves g c =
 
 pub returns-clause-leaves : goal.returns-clause-leaves
 returns-clause-leaves g c =
-    let it = g.R.L.Link in
-    let shows = shown_by it.faults it.quiets it.gots it.held it.telling in
+    let shows = shown_by g.R.L.Link in
     let link = c.into_parts-link.result.0 in
     let boards = c.as_slice-boards.ensures in
     let session = c.args.session.now in

@@ -7,7 +7,7 @@ use Rattle.session_run.specs.Links.{AreLeft, AreMadeFor}
 use Rattle.session_run.proofs.Faults.{no_memory_is_no_rack}
 use Rattle.transcript.specs.Lines.{transcript_of, run_status}
 use Rattle.transcript.specs.Text.{transcript_text}
-use Rattle.board_greeting.specs.Boards.{shown_by}
+use Rattle.board_greeting.specs.Reports.{shown_by}
 use Rattle.command_terms.proofs.Leaving.{at_links}
 use Rattle.run_command.proofs.Leaving.{run_failed, run_printed}
 use Rattle.run_command.proofs.run.transcript.Goals as goal
@@ -15,7 +15,7 @@ use Rattle.run_command.proofs.run.transcript.Goals as goal
 pub returns-in_err-runs-clause-leaves : goal.returns-in_err-runs-clause-leaves
 returns-in_err-runs-clause-leaves g c =
     let left = c.run_session.ensures.left in
-    let shown = shown_by g.R.L.Link.faults g.R.L.Link.quiets g.R.L.Link.gots g.R.L.Link.held g.R.L.Link.telling in
+    let shown = shown_by g.R.L.Link in
     let links = map shown left.0 in
     let made = g.R.Rack.made c.args.rack.now in
     let makes = g.R.Rack.made c.run_session.new.rack in (
@@ -34,7 +34,7 @@ returns-in_err-runs-clause-leaves g c =
 pub returns-in_err-printed-clause-leaves : goal.returns-in_err-printed-clause-leaves
 returns-in_err-printed-clause-leaves g c =
     let left = c.run_session.ensures.left in
-    let shown = shown_by g.R.L.Link.faults g.R.L.Link.quiets g.R.L.Link.gots g.R.L.Link.held g.R.L.Link.telling in
+    let shown = shown_by g.R.L.Link in
     let links = map shown left.0 in
     let made = g.R.Rack.made c.args.rack.now in
     let makes = g.R.Rack.made c.run_session.new.rack in (
@@ -52,7 +52,7 @@ returns-in_err-printed-clause-leaves g c =
 pub returns-clause-leaves : goal.returns-clause-leaves
 returns-clause-leaves g c =
     let left = c.run_session.ensures.left in
-    let shown = shown_by g.R.L.Link.faults g.R.L.Link.quiets g.R.L.Link.gots g.R.L.Link.held g.R.L.Link.telling in
+    let shown = shown_by g.R.L.Link in
     let links = map shown left.0 in
     let made = g.R.Rack.made c.args.rack.now in
     let makes = g.R.Rack.made c.run_session.new.rack in

@@ -6,12 +6,14 @@ pub returns : goal.returns
 returns c = λ session steps can few_clients packed few limits short.
     let within = c.a_session_keeps_its_limits.ensures can.document session can.is_session in record {
       few_boards = let few_boards = within.few_boards in omega arith;
-      few_clients = few_clients;
       reached = all_reached session.boards (all_made session.boards within.boards can.buses)
           (c.the_ranges_of_a_session_name_words.ensures can.document session can.is_session);
-      packed = packed;
-      few = few;
-      executable = can.executable;
-      limits = limits;
+      can = record {
+        few_clients = few_clients;
+        packed = packed;
+        few = few;
+        executable = can.executable;
+        limits = limits;
+      };
       short = short;
     }

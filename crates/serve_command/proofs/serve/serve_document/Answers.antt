@@ -1,6 +1,6 @@
 use Rattle.std.proofs.Common.{[], append-nil, inl, refl, rules, sym}
 use Rattle.session_input.specs.Deserved.{BreaksInServe, Deserves}
-use Rattle.board_greeting.specs.Boards.{shown_by}
+use Rattle.board_greeting.specs.Reports.{shown_by}
 use Rattle.session_serve.specs.declared.report.ServeFault.TheVariants.{NoMemory, Rack}
 use Rattle.session_serve.specs.Faults.{IsServeFailure}
 use Rattle.session_serve.specs.Executed.{CameInFrames}
@@ -26,23 +26,19 @@ served-requires-after_bounds g c κs within =
 
 pub returns-in_err-refused-in-Err-Refused-clause-leaves : goal.returns-in_err-refused-in-Err-Refused-clause-leaves
 returns-in_err-refused-in-Err-Refused-clause-leaves g c =
-    let shown = shown_by g.R.L.Link.faults g.R.L.Link.quiets g.R.L.Link.gots g.R.L.Link.held g.R.L.Link.telling in
+    let shown = shown_by g.R.L.Link in
     let made = g.R.Rack.made c.args.rack.now in
-    without_pairs shown g.D.Incoming.Source.left g.D.Incoming.Source.faults
-    g.D.Outgoing.Sink.written g.D.Outgoing.Sink.faults g.D.Outgoing.Sink.ended
-    _ _ _ _ _ _ refl refl
+    without_pairs shown g.D.Incoming.Source g.D.Outgoing.Sink _ _ _ _ _ _ refl refl
     (Leaves AreBack IsServeFailure Rack (serve_terms c.args.count) c.args.bytes.now made made c.from_residual.result)
     (failure_left AreBack none_served IsServeFailure Rack shown _ (serve_terms c.args.count) c.args.bytes.now _
     c.from_residual.result NoMemory c.from_residual.ensures.0 c.from_residual.ensures.1 (λ failed. failed))
 
 pub returns-in-Ok-clause-leaves : goal.returns-in-Ok-clause-leaves
 returns-in-Ok-clause-leaves g c =
-    let shown = shown_by g.R.L.Link.faults g.R.L.Link.quiets g.R.L.Link.gots g.R.L.Link.held g.R.L.Link.telling in
+    let shown = shown_by g.R.L.Link in
     let made = g.R.Rack.made c.args.rack.now in
     let makes = g.R.Rack.made c.served.new.rack in
-    therefore shown g.D.Incoming.Source.left g.D.Incoming.Source.faults
-    g.D.Outgoing.Sink.written g.D.Outgoing.Sink.faults g.D.Outgoing.Sink.ended
-    _ _ _ _ _ _
+    therefore shown g.D.Incoming.Source g.D.Outgoing.Sink _ _ _ _ _ _
     (ServeLeaves c.in-Ok.session c.args.count made makes c.served.result)
     (Leaves AreBack IsServeFailure Rack (serve_terms c.args.count) c.args.bytes.now made makes c.served.result)
     (λ given leaves. serve_leaves c.serve_laws.ensures c.args.count c.args.bytes.now c.in-Ok.session
@@ -51,15 +47,13 @@ returns-in-Ok-clause-leaves g c =
 
 pub returns-in-Ok-clause-refused : goal.returns-in-Ok-clause-refused
 returns-in-Ok-clause-refused g c =
-    let shown = shown_by g.R.L.Link.faults g.R.L.Link.quiets g.R.L.Link.gots g.R.L.Link.held g.R.L.Link.telling in
-    not_refused shown g.D.Incoming.Source.left g.D.Incoming.Source.faults
-    g.D.Outgoing.Sink.written g.D.Outgoing.Sink.faults g.D.Outgoing.Sink.ended
-    _ _ _ _ _ _ c.in-Ok.session c.args.count
+    let shown = shown_by g.R.L.Link in
+    not_refused shown g.D.Incoming.Source g.D.Outgoing.Sink _ _ _ _ _ _ c.in-Ok.session c.args.count
     (g.R.Rack.made c.args.rack.now) (g.R.Rack.made c.served.new.rack) _ c.served.result c.served.ensures.leaves
 
 pub returns-in_ok-refused-in-Err-Refused-clause-leaves : goal.returns-in_ok-refused-in-Err-Refused-clause-leaves
 returns-in_ok-refused-in-Err-Refused-clause-leaves g c =
-    let shown = shown_by g.R.L.Link.faults g.R.L.Link.quiets g.R.L.Link.gots g.R.L.Link.held g.R.L.Link.telling in
+    let shown = shown_by g.R.L.Link in
     let made = g.R.Rack.made c.args.rack.now in
     let deserved : Deserves BreaksInServe c.args.bytes.now c.in-Err-Refused.refusal = search rules in
     let answer = c.in_ok-refused-in-Err-Refused.field-0 in
@@ -69,20 +63,16 @@ returns-in_ok-refused-in-Err-Refused-clause-leaves g c =
       deserved = deserved;
       spelled = c.in_ok-refused-in-Err-Refused.ensures.text;
     } in
-    without_pairs shown g.D.Incoming.Source.left g.D.Incoming.Source.faults
-    g.D.Outgoing.Sink.written g.D.Outgoing.Sink.faults g.D.Outgoing.Sink.ended
-    _ _ _ _ _ _ refl refl
+    without_pairs shown g.D.Incoming.Source g.D.Outgoing.Sink _ _ _ _ _ _ refl refl
     (Leaves AreBack IsServeFailure Rack (serve_terms c.args.count) c.args.bytes.now made made _)
     (refusal_left AreBack none_served IsServeFailure Rack shown _ (serve_terms c.args.count) c.args.bytes.now _
     answer refused c.in_ok-refused-in-Err-Refused.ensures.status)
 
 pub returns-in-Err-NoMemory-clause-leaves : goal.returns-in-Err-NoMemory-clause-leaves
 returns-in-Err-NoMemory-clause-leaves g c =
-    let shown = shown_by g.R.L.Link.faults g.R.L.Link.quiets g.R.L.Link.gots g.R.L.Link.held g.R.L.Link.telling in
+    let shown = shown_by g.R.L.Link in
     let made = g.R.Rack.made c.args.rack.now in
-    without_pairs shown g.D.Incoming.Source.left g.D.Incoming.Source.faults
-    g.D.Outgoing.Sink.written g.D.Outgoing.Sink.faults g.D.Outgoing.Sink.ended
-    _ _ _ _ _ _ refl refl
+    without_pairs shown g.D.Incoming.Source g.D.Outgoing.Sink _ _ _ _ _ _ refl refl
     (Leaves AreBack IsServeFailure Rack (serve_terms c.args.count) c.args.bytes.now made made _)
     (error_left AreBack none_served IsServeFailure Rack shown _ (serve_terms c.args.count) c.args.bytes.now _ NoMemory
     (λ failed. failed))
@@ -103,24 +93,18 @@ returns-in_err-refused-in-Err-Refused-clause-listens g c =
 
 pub returns-in_err-refused-in-Err-Refused-clause-in_frames : goal.returns-in_err-refused-in-Err-Refused-clause-in_frames
 returns-in_err-refused-in-Err-Refused-clause-in_frames g c =
-    let shown = shown_by g.R.L.Link.faults g.R.L.Link.quiets g.R.L.Link.gots g.R.L.Link.held g.R.L.Link.telling in
-    without_pairs shown g.D.Incoming.Source.left g.D.Incoming.Source.faults
-    g.D.Outgoing.Sink.written g.D.Outgoing.Sink.faults g.D.Outgoing.Sink.ended
-    _ _ _ _ _ _ refl refl
+    let shown = shown_by g.R.L.Link in
+    without_pairs shown g.D.Incoming.Source g.D.Outgoing.Sink _ _ _ _ _ _ refl refl
     (λ given. CameInFrames given.links given.came given.back) ([], sym (append-nil _), none_executed [] tt)
 
 pub returns-in_ok-refused-in-Err-Refused-clause-in_frames : goal.returns-in_ok-refused-in-Err-Refused-clause-in_frames
 returns-in_ok-refused-in-Err-Refused-clause-in_frames g c =
-    let shown = shown_by g.R.L.Link.faults g.R.L.Link.quiets g.R.L.Link.gots g.R.L.Link.held g.R.L.Link.telling in
-    without_pairs shown g.D.Incoming.Source.left g.D.Incoming.Source.faults
-    g.D.Outgoing.Sink.written g.D.Outgoing.Sink.faults g.D.Outgoing.Sink.ended
-    _ _ _ _ _ _ refl refl
+    let shown = shown_by g.R.L.Link in
+    without_pairs shown g.D.Incoming.Source g.D.Outgoing.Sink _ _ _ _ _ _ refl refl
     (λ given. CameInFrames given.links given.came given.back) ([], sym (append-nil _), none_executed [] tt)
 
 pub returns-in-Err-NoMemory-clause-in_frames : goal.returns-in-Err-NoMemory-clause-in_frames
 returns-in-Err-NoMemory-clause-in_frames g c =
-    let shown = shown_by g.R.L.Link.faults g.R.L.Link.quiets g.R.L.Link.gots g.R.L.Link.held g.R.L.Link.telling in
-    without_pairs shown g.D.Incoming.Source.left g.D.Incoming.Source.faults
-    g.D.Outgoing.Sink.written g.D.Outgoing.Sink.faults g.D.Outgoing.Sink.ended
-    _ _ _ _ _ _ refl refl
+    let shown = shown_by g.R.L.Link in
+    without_pairs shown g.D.Incoming.Source g.D.Outgoing.Sink _ _ _ _ _ _ refl refl
     (λ given. CameInFrames given.links given.came given.back) ([], sym (append-nil _), none_executed [] tt)

@@ -1,7 +1,7 @@
 use Rattle.std.proofs.Common.{◌≡◌, length, map, Ok, Err, ap, refl, subst}
 use Rattle.std.specs.List.{AllByRecursion}
 use Rattle.lane_history.specs.Links.{IsUntouched}
-use Rattle.board_greeting.specs.Boards.{shown_by}
+use Rattle.board_greeting.specs.Reports.{shown_by}
 use Rattle.board_greeting.specs.Links.{AreMadeFor}
 use Rattle.session_serve.specs.Boards.{AreLinksTo}
 use Rattle.session_serve.specs.Serving.{AreServed}
@@ -15,7 +15,7 @@ use Rattle.serve_command.proofs.serve.served.Goals as goal
 
 pub returns-in_err-report-clause-leaves : goal.returns-in_err-report-clause-leaves
 returns-in_err-report-clause-leaves g c =
-    let shown = shown_by g.R.L.Link.faults g.R.L.Link.quiets g.R.L.Link.gots g.R.L.Link.held g.R.L.Link.telling in
+    let shown = shown_by g.R.L.Link in
     let made = g.R.Rack.made c.args.rack.now in
     let makes = g.R.Rack.made c.serve_session.new.rack in
     let left = c.serve_session.ensures.links in
@@ -40,7 +40,7 @@ returns-in_err-report-clause-leaves g c =
 
 pub returns-in_err-printed-clause-leaves : goal.returns-in_err-printed-clause-leaves
 returns-in_err-printed-clause-leaves g c =
-    let shown = shown_by g.R.L.Link.faults g.R.L.Link.quiets g.R.L.Link.gots g.R.L.Link.held g.R.L.Link.telling in
+    let shown = shown_by g.R.L.Link in
     let made = g.R.Rack.made c.args.rack.now in
     let makes = g.R.Rack.made c.serve_session.new.rack in
     let left = c.serve_session.ensures.links in
@@ -63,7 +63,7 @@ returns-in_err-printed-clause-leaves g c =
 
 pub returns-clause-leaves : goal.returns-clause-leaves
 returns-clause-leaves g c =
-    let shown = shown_by g.R.L.Link.faults g.R.L.Link.quiets g.R.L.Link.gots g.R.L.Link.held g.R.L.Link.telling in
+    let shown = shown_by g.R.L.Link in
     let made = g.R.Rack.made c.args.rack.now in
     let makes = g.R.Rack.made c.serve_session.new.rack in
     let session : Session = c.args.session.now in
@@ -71,9 +71,7 @@ returns-clause-leaves g c =
     let answer = c.in_ok-printed.field-0 in
     let connections = c.in_ok-report.report.connections.items in
     let lines = c.in_ok-report.report.boards.items in
-    with_links shown g.D.Incoming.Source.left g.D.Incoming.Source.faults
-    g.D.Outgoing.Sink.written g.D.Outgoing.Sink.faults g.D.Outgoing.Sink.ended
-    _ _ _ _ _ _
+    with_links shown g.D.Incoming.Source g.D.Outgoing.Sink _ _ _ _ _ _
     (λ links. AreLinksTo boards links × AreMadeFor boards (length links) made makes)
     (λ given. AreServed session.settings boards given.links given.came given.back connections lines)
     (ServeLeaves session c.args.count made makes (Ok answer))

@@ -2,7 +2,7 @@ use Rattle.std.proofs.Common.{◌≡◌, subst}
 use Rattle.script_plans.specs.declared.board_run.BoardRun.{BoardRun}
 use Rattle.lane_history.specs.Links.{LinkReport}
 use Rattle.lane_history.specs.Runs.{IsRunOver, ShowsLates, ShowsScripts}
-use Rattle.board_greeting.specs.Boards.{shown_by}
+use Rattle.board_greeting.specs.Reports.{shown_by}
 use Rattle.board_greeting.specs.Places.{IsIdleBoard}
 use Rattle.session_run.specs.Places.{IsCameOf}
 use Rattle.session_run.proofs.Idle.{idle_over, of_three}
@@ -11,7 +11,7 @@ use Rattle.session_run.proofs.finish.finish_board.Goals as goal
 pub returns-in-Idle-clause-ran : goal.returns-in-Idle-clause-ran
 returns-in-Idle-clause-ran g c =
     let link = g.L.Link in
-    let shows = shown_by link.faults link.quiets link.gots link.held link.telling in
+    let shows = shown_by link in
     let settings = c.args.settings in
     let spec = c.args.spec.now in
     let position = c.args.position in
@@ -28,8 +28,7 @@ returns-in-Idle-clause-ran g c =
 
 pub returns-in-Idle-clause-left : goal.returns-in-Idle-clause-left
 returns-in-Idle-clause-left g c =
-    let link = g.L.Link in
-    let shows = shown_by link.faults link.quiets link.gots link.held link.telling in
+    let shows = shown_by g.L.Link in
     let spec = c.args.spec.now in
     let scripts = c.args.scripts.now in
     let came : IsIdleBoard c.args.settings spec c.in-Idle.greeting (shows c.in-Idle.link) =

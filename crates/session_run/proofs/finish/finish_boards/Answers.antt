@@ -3,14 +3,13 @@ use Rattle.std.proofs.lemmas.List.{take_all}
 use Rattle.board_node.specs.declared.spec.BoardSpec.{BoardSpec}
 use Rattle.board_node.specs.declared.spec.LinkSpec.{LinkSpec}
 use Rattle.lane_history.specs.Runs.{AreRunsOver}
-use Rattle.board_greeting.specs.Boards.{shown_by}
+use Rattle.board_greeting.specs.Reports.{shown_by}
 use Rattle.session_run.proofs.Sessions.{board_more, next_board, none_ran, room_for_one, some_left}
 use Rattle.session_run.proofs.finish.finish_boards.Goals as goal
 
 pub loop-position-init : goal.loop-position-init
 loop-position-init g c =
-    let link = g.R.L.Link in
-    let shows = shown_by link.faults link.quiets link.gots link.held link.telling in
+    let shows = shown_by g.R.L.Link in
     record {
       so_far = rw c.new-runs.ensures.items (none_ran shows c.args.settings c.args.specs.now c.args.scripts.now
           (g.R.Rack.kept c.args.rack.now));
@@ -21,15 +20,13 @@ loop-position-init g c =
 
 pub next-board-requires : goal.next-board-requires
 next-board-requires g c =
-    let link = g.R.L.Link in
-    let shows = shown_by link.faults link.quiets link.gots link.held link.telling in
+    let shows = shown_by g.R.L.Link in
     some_left shows c.args.settings c.args.scripts.now c.loop-position.position c.args.specs.now
     c.loop-position.boards c.loop-position.invariant.left c.loop-position-test.true
 
 pub keep-requires : goal.keep-requires
 keep-requires g c =
-    let link = g.R.L.Link in
-    let shows = shown_by link.faults link.quiets link.gots link.held link.telling in
+    let shows = shown_by g.R.L.Link in
     let made = ap (λ (l : List LinkSpec). length l) c.loop-position.invariant.made in
     let less = room_for_one shows c.args.settings c.loop-position.position c.args.specs.now c.args.scripts.now
     c.loop-position.runs.items c.loop-position.is_whole (g.R.Rack.kept c.args.rack.now)
@@ -39,16 +36,14 @@ keep-requires g c =
 
 pub finish_board-link-requires-clause-came : goal.finish_board-link-requires-clause-came
 finish_board-link-requires-clause-came g c =
-    let link = g.R.L.Link in
-    let shows = shown_by link.faults link.quiets link.gots link.held link.telling in
+    let shows = shown_by g.R.L.Link in
     (next_board shows c.args.settings c.args.scripts.now c.loop-position.position c.args.specs.now
     c.index-specs-position.result c.loop-position.boards c.next-board.new.self c.next-board.result
     c.loop-position.invariant.left c.loop-position-test.true c.index-specs-position.is c.next-board.ensures).came
 
 pub loop-position-preserved : goal.loop-position-preserved
 loop-position-preserved g c =
-    let link = g.R.L.Link in
-    let shows = shown_by link.faults link.quiets link.gots link.held link.telling in
+    let shows = shown_by g.R.L.Link in
     let k = c.loop-position.position in
     let next = next_board shows c.args.settings c.args.scripts.now k c.args.specs.now
     c.index-specs-position.result c.loop-position.boards c.next-board.new.self c.next-board.result
@@ -68,8 +63,7 @@ loop-position-preserved g c =
 
 pub returns-then-is_whole-clause-ran : goal.returns-then-is_whole-clause-ran
 returns-then-is_whole-clause-ran g c =
-    let link = g.R.L.Link in
-    let shows = shown_by link.faults link.quiets link.gots link.held link.telling in
+    let shows = shown_by g.R.L.Link in
     let so_far = c.loop-position.invariant.so_far in (
       so_far.links,
       so_far.grown,

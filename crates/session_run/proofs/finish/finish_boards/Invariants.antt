@@ -1,5 +1,5 @@
 use Rattle.std.proofs.Common.{◌≡◌, drop}
-use Rattle.board_greeting.specs.Boards.{shown_by}
+use Rattle.board_greeting.specs.Reports.{shown_by}
 use Rattle.session_run.specs.Places.{AreCameOf}
 use Rattle.session_run.proofs.Sessions.{RanBoards}
 use Rattle.session_run.proofs.finish.finish_boards.Given as goal
@@ -7,8 +7,7 @@ use Rattle.session_run.proofs.finish.finish_boards.Given as goal
 -- the boards so far, and those that are left
 abbrev pub invariant-loop-position : goal.invariant-loop-position
 invariant-loop-position g l =
-    let link = g.R.L.Link in
-    let shows = shown_by link.faults link.quiets link.gots link.held link.telling in
+    let shows = shown_by g.R.L.Link in
     record {
       so_far : RanBoards shows l.settings l.position l.specs l.scripts l.runs.items l.is_whole
           (g.R.Rack.kept l.initial.rack) (g.R.Rack.kept l.rack);

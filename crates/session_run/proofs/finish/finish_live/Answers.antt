@@ -7,7 +7,7 @@ use Rattle.script_plans.specs.declared.greeting.Greeting.TheVariants.{Live}
 use Rattle.lane_history.specs.Runs.{IsRunOver}
 use Rattle.lane_history.proofs.Shown.{some_then}
 use Rattle.hub_lane.specs.Standing.{IsStanding}
-use Rattle.board_greeting.specs.Boards.{shown_by}
+use Rattle.board_greeting.specs.Reports.{shown_by}
 use Rattle.session_run.specs.Boards.{IsNamed}
 use Rattle.session_run.specs.Links.{HasStood}
 use Rattle.session_run.proofs.BoardRuns.{runs_live, stopped_at}
@@ -17,7 +17,7 @@ pub returns-clause-ran : goal.returns-clause-ran
 returns-clause-ran g c =
     let link = g.L.Link in
     let lane = c.args.lane in
-    let shown = shown_by link.faults link.quiets link.gots link.held link.telling c.close_lane.result in
+    let shown = shown_by link c.close_lane.result in
     let spec = c.args.spec.now in
     let scripts = c.args.scripts.now in
     let ended = c.close_lane.ensures.ended c.args.settings spec (stopped_at c.args.settings scripts c.args.position spec

@@ -103,7 +103,8 @@ plan_bodies-requires-clause-room g c =
     subst (HasRoomFor c.loop-steps.lane.items) (sym asked)
     (room_for_client c.plans_are_short.ensures.bodies c.plans_are_short.ensures.words payload c.args.position
     c.loop-steps.steps-index c.args.scripts.now c.steps-item.result c.loop-steps.lane.items plans low high
-    c.requires.executable c.requires.limits c.loop-steps-test.true c.steps-item.is c.loop-steps.invariant.plans' items)
+    c.requires.can.executable c.requires.can.limits c.loop-steps-test.true c.steps-item.is
+    c.loop-steps.invariant.plans' items)
 
 pub returns-clause-few : goal.returns-clause-few
 returns-clause-few g c =
@@ -115,5 +116,5 @@ returns-clause-few g c =
     subst (AllByRecursion HasFewBodies)
     (sym (c.loop-steps.invariant.plans'
     ∙ ap (plans_on c.args.position told) (take_all c.loop-steps.steps-index scripts c.loop-steps-test.false)))
-    (few_planned c.plans_are_short.ensures.bodies payload c.args.position scripts low high c.requires.executable
-    c.requires.limits)
+    (few_planned c.plans_are_short.ensures.bodies payload c.args.position scripts low high c.requires.can.executable
+    c.requires.can.limits)

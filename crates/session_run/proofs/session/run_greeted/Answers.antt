@@ -2,7 +2,8 @@ use Rattle.std.proofs.Common.{◌≡◌, ◌∙◌, ℕ, List, Vec, ap, length, 
 use Rattle.std.proofs.lemmas.List.{length-map}
 use Rattle.hub_lane.specs.declared.greeting.Greeted.{Greeted}
 use Rattle.hub_lane.specs.Greeting.{link_of}
-use Rattle.board_greeting.specs.Boards.{AreReached, HasRoom, shown_by}
+use Rattle.board_greeting.specs.Boards.{AreReached, HasRoom}
+use Rattle.board_greeting.specs.Reports.{shown_by}
 use Rattle.board_greeting.proofs.Boards.{fresh_links}
 use Rattle.session_run.proofs.Sessions.{fresh_are_left}
 use Rattle.session_run.proofs.session.run_greeted.Goals as goal
@@ -23,8 +24,7 @@ keep_all-requires-clause-room g c κs within =
 
 pub returns-in-Err-clause-left : goal.returns-in-Err-clause-left
 returns-in-Err-clause-left g c =
-    let link = g.R.L.Link in
-    let shows = shown_by link.faults link.quiets link.gots link.held link.telling in
+    let shows = shown_by g.R.L.Link in
     let boards = c.in-Err.boards.items in
     let links = map (λ (b : Greeted _). link_of b) boards in
     let same : boards ≡ c.args.boards.items =

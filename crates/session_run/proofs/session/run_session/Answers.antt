@@ -1,13 +1,12 @@
 use Rattle.std.proofs.Common.{◌∙◌, ◌++◌, ap, length, map}
-use Rattle.board_greeting.specs.Boards.{shown_by}
+use Rattle.board_greeting.specs.Reports.{shown_by}
 use Rattle.board_greeting.proofs.Boards.{made_still}
 use Rattle.session_run.proofs.Sessions.{fresh_are_left, untouched_all}
 use Rattle.session_run.proofs.session.run_session.Goals as goal
 
 pub returns-in_err-boards-clause-left : goal.returns-in_err-boards-clause-left
 returns-in_err-boards-clause-left g c =
-    let link = g.R.L.Link in
-    let shows = shown_by link.faults link.quiets link.gots link.held link.telling in
+    let shows = shown_by g.R.L.Link in
     let left = c.in_err-boards.ensures.left in (
       left.0,
       left.1,
@@ -17,8 +16,7 @@ returns-in_err-boards-clause-left g c =
 
 pub returns-in_err-boards-clause-untouched : goal.returns-in_err-boards-clause-untouched
 returns-in_err-boards-clause-untouched g c =
-    let link = g.R.L.Link in
-    let shows = shown_by link.faults link.quiets link.gots link.held link.telling in
+    let shows = shown_by g.R.L.Link in
     let left = c.in_err-boards.ensures.left in
     λ fault. (left.0, left.1, untouched_all c.args.settings c.args.specs.now (map shows left.0) left.2.0)
 
@@ -33,8 +31,7 @@ returns-clause-left g c =
 
 pub returns-clause-made : goal.returns-clause-made
 returns-clause-made g c =
-    let link = g.R.L.Link in
-    let shows = shown_by link.faults link.quiets link.gots link.held link.telling in
+    let shows = shown_by g.R.L.Link in
     let left = c.run_greeted.ensures.left in (
       left.0,
       left.1 ∙ ap (λ kept. kept ++ left.0) c.in_ok-boards.ensures.kept,

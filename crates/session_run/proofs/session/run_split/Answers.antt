@@ -1,7 +1,7 @@
 use Rattle.std.proofs.Common.{◌≡◌, ◌∙◌, ℕ, List, ap, arith, length, subst, sym}
 use Rattle.std.specs.List.{AllByRecursion}
 use Rattle.std.specs.Prelude.{IfOk}
-use Rattle.board_greeting.specs.Boards.{shown_by}
+use Rattle.board_greeting.specs.Reports.{shown_by}
 use Rattle.board_greeting.specs.Boards.{HasNoEntry}
 use Rattle.session_run.specs.Lanes.{AllThree, HasGoneOn, IsRunOn}
 use Rattle.board_greeting.specs.Places.{HaveLanes, positions_from, rejoined}
@@ -30,7 +30,7 @@ pub run_lanes-lanes-requires-clause-unused : goal.run_lanes-lanes-requires-claus
 run_lanes-lanes-requires-clause-unused g c κs within =
     let link = g.R.L.Link in
     let tells = link.telling in
-    let shows = shown_by link.faults link.quiets link.gots link.held tells in
+    let shows = shown_by link in
     let scripts = c.args.scripts.now in
     let reached = c.requires.reached in
     let boards = reached.boards in
@@ -42,7 +42,7 @@ pub of-boards-requires : goal.of-boards-requires
 of-boards-requires g c =
     let link = g.R.L.Link in
     let tells = link.telling in
-    let shows = shown_by link.faults link.quiets link.gots link.held tells in
+    let shows = shown_by link in
     let scripts = c.args.scripts.now in
     let reached = c.requires.reached in
     let boards = reached.boards in
@@ -58,7 +58,7 @@ pub finish_boards-requires-clause-came : goal.finish_boards-requires-clause-came
 finish_boards-requires-clause-came g c κs within =
     let link = g.R.L.Link in
     let tells = link.telling in
-    let shows = shown_by link.faults link.quiets link.gots link.held tells in
+    let shows = shown_by link in
     let scripts = c.args.scripts.now in
     let reached = c.requires.reached in
     let boards = reached.boards in
@@ -77,6 +77,5 @@ finish_boards-requires-clause-came g c κs within =
     ran in
     subst (AreCameOf shows c.args.settings scripts 0 c.args.specs.now)
     (sym (c.of-boards.ensures ∙ ap (λ l. rejoined l news parts) apart.places'))
-    (boards_came link.faults link.quiets link.gots link.held tells c.args.settings scripts c.args.specs.now boards
-    news parts
-    reached.all reached.memory reached.reached gone there)
+    (boards_came link c.args.settings scripts c.args.specs.now boards news parts reached.all reached.memory
+    reached.reached gone there)

@@ -1,5 +1,6 @@
 use Rattle.std.proofs.Common.{subst, sym}
-use Rattle.board_greeting.specs.Boards.{IsEndedLane, shown_by}
+use Rattle.board_greeting.specs.Boards.{IsEndedLane}
+use Rattle.board_greeting.specs.Reports.{shown_by}
 use Rattle.session_serve.specs.Finish.{IsSound}
 use Rattle.session_serve.proofs.finish.finish_board.Goals as goal
 
@@ -7,8 +8,8 @@ pub returns-in-Live-clause-sound : goal.returns-in-Live-clause-sound
 returns-in-Live-clause-sound g c =
     let link = g.L.Link in
     let lane = c.in-Live.lane in
-    subst (IsSound link.faults link.quiets link.gots link.held link.telling) (sym c.in-Live.is) (
+    subst (IsSound link) (sym c.in-Live.is) (
       c.is_sound.ensures,
-      λ settings spec to. subst (λ (l : g.row.L.Denot). IsEndedLane settings spec lane (shown_by link.faults link.quiets
-          link.gots link.held link.telling l)) c.close_lane.ensures.link (c.close_lane.ensures.ended settings spec to),
+      λ settings spec to. subst (λ (l : g.row.L.Denot). IsEndedLane settings spec lane (shown_by link l))
+          c.close_lane.ensures.link (c.close_lane.ensures.ended settings spec to),
     )

@@ -16,8 +16,9 @@ loop-name-init g c =
     let none = ap (λ l. length l) c.requires.empty in
     let many = ap (λ (l : List (List ℕ)). length l) same in
     record {
-      so_far = rw same (none_finished link.faults link.quiets link.gots link.held link.telling c.args.names.items
-          c.args.boards c.args.lines.now.items (g.R.Rack.kept c.args.rack.now) c.requires.all c.requires.empty);
+      so_far =
+          rw same (none_finished link c.args.names.items c.args.boards c.args.lines.now.items
+          (g.R.Rack.kept c.args.rack.now) c.requires.all c.requires.empty);
       room = c.requires.room;
       place = omega (arith, place, none, many);
       made = refl;
@@ -27,7 +28,7 @@ loop-name-init g c =
 pub next-board-requires : goal.next-board-requires
 next-board-requires g c =
     let link = g.R.L.Link in
-    let some = some_left link.faults link.quiets link.gots link.held link.telling c.args.names.items c.args.boards
+    let some = some_left link c.args.names.items c.args.boards
     (into_iter_items c.loop-name.name-iterator) (into_iter_items c.next.new.self) c.in-Some.name c.loop-name.boards
     c.loop-name.lines.items (g.R.Rack.kept c.args.rack.now) (g.R.Rack.kept c.loop-name.rack)
     c.loop-name.invariant.so_far c.in-Some.ensures.steps.0 in
@@ -54,7 +55,7 @@ loop-name-preserved g c =
     ap (λ l. length l) given ∙ length-append kept (link_in board ∷ []) in
     let steps = ap (λ (l : List (List ℕ)). length l) c.in-Some.ensures.steps.0 in
     record {
-      so_far = one_finished link.faults link.quiets link.gots link.held link.telling c.args.names.items c.args.boards
+      so_far = one_finished link c.args.names.items c.args.boards
           (into_iter_items c.loop-name.name-iterator) (into_iter_items c.next.new.self) c.in-Some.name
           c.loop-name.boards c.next-board.new.self board c.loop-name.lines.items c.push_reserved.new.self.items
           (g.R.Rack.kept c.args.rack.now) kept (g.R.Rack.kept c.keep.new.self) c.loop-name.invariant.so_far
@@ -73,20 +74,20 @@ loop-name-preserved g c =
 pub returns-clause-lines : goal.returns-clause-lines
 returns-clause-lines g c =
     let link = g.R.L.Link in
-    (all_finished link.faults link.quiets link.gots link.held link.telling c.args.names.items c.args.boards
+    (all_finished link c.args.names.items c.args.boards
     (into_iter_items c.loop-name.name-iterator) c.loop-name.boards c.loop-name.lines.items
     (g.R.Rack.kept c.args.rack.now) (g.R.Rack.kept c.loop-name.rack) c.loop-name.invariant.so_far (search rules)).lines'
 
 pub returns-clause-kept : goal.returns-clause-kept
 returns-clause-kept g c =
     let link = g.R.L.Link in
-    (all_finished link.faults link.quiets link.gots link.held link.telling c.args.names.items c.args.boards
+    (all_finished link c.args.names.items c.args.boards
     (into_iter_items c.loop-name.name-iterator) c.loop-name.boards c.loop-name.lines.items
     (g.R.Rack.kept c.args.rack.now) (g.R.Rack.kept c.loop-name.rack) c.loop-name.invariant.so_far (search rules)).links
 
 pub returns-clause-sound : goal.returns-clause-sound
 returns-clause-sound g c =
     let link = g.R.L.Link in
-    (all_finished link.faults link.quiets link.gots link.held link.telling c.args.names.items c.args.boards
+    (all_finished link c.args.names.items c.args.boards
     (into_iter_items c.loop-name.name-iterator) c.loop-name.boards c.loop-name.lines.items
     (g.R.Rack.kept c.args.rack.now) (g.R.Rack.kept c.loop-name.rack) c.loop-name.invariant.so_far (search rules)).sound

@@ -34,9 +34,7 @@ returns-in-Ok-clause-heads g c =
 
 pub returns-in-Ok-clause-served : goal.returns-in-Ok-clause-served
 returns-in-Ok-clause-served g c =
-    let shows = pair_shown g.D.Incoming.Source.left g.D.Incoming.Source.faults g.D.Outgoing.Sink.written
-    g.D.Outgoing.Sink.faults
-    g.D.Outgoing.Sink.ended in
+    let shows = pair_shown g.D.Incoming.Source g.D.Outgoing.Sink in
     let door = c.serve_under_seats-served.new.door in
     let coming = g.D.Door.coming in
     let kept = g.D.Door.kept in
@@ -48,8 +46,8 @@ returns-in-Ok-clause-served g c =
     (with_seats m (length seats)) end' (coming c.args.door.now) (coming door) (kept c.args.door.now) (kept door)
     served.items)
     × AllByRecursion HadMemory served.items)
-    (λ (served : Vec Served Global). GivesBack g.D.Incoming.Source.left g.D.Incoming.Source.faults
-    g.D.Outgoing.Sink.written g.D.Outgoing.Sink.faults g.D.Outgoing.Sink.ended (coming c.args.door.now) (coming door)
+    (λ (served : Vec Served Global). GivesBack g.D.Incoming.Source g.D.Outgoing.Sink (coming c.args.door.now)
+    (coming door)
     (kept c.args.door.now) (kept door) (λ came back. AreServedAt g.L.Link.telling c.args.states.now c.args.lanes.items
     c.finish.result.items came back served.items))
     (λ served is. (let h = is.0.1 in (
@@ -74,9 +72,7 @@ returns-in-Ok-clause-served g c =
 
 pub returns-in-Ok-clause-pairs : goal.returns-in-Ok-clause-pairs
 returns-in-Ok-clause-pairs g c =
-    let shows = pair_shown g.D.Incoming.Source.left g.D.Incoming.Source.faults g.D.Outgoing.Sink.written
-    g.D.Outgoing.Sink.faults
-    g.D.Outgoing.Sink.ended in
+    let shows = pair_shown g.D.Incoming.Source g.D.Outgoing.Sink in
     let b = c.serve_under_seats-served.ensures.all_back.1 in (
       b.came,
       pairs_of b.dones,
@@ -105,9 +101,7 @@ returns-in-Err-clause-pairs g c = (
 
 pub returns-in-Ok-clause-planned : goal.returns-in-Ok-clause-planned
 returns-in-Ok-clause-planned g c =
-    let shows = pair_shown g.D.Incoming.Source.left g.D.Incoming.Source.faults g.D.Outgoing.Sink.written
-    g.D.Outgoing.Sink.faults
-    g.D.Outgoing.Sink.ended in
+    let shows = pair_shown g.D.Incoming.Source g.D.Outgoing.Sink in
     let door = c.serve_under_seats-served.new.door in
     let coming = g.D.Door.coming in
     let kept = g.D.Door.kept in

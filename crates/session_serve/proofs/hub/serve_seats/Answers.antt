@@ -16,9 +16,7 @@ use Rattle.session_serve.proofs.hub.serve_seats.Goals as goal
 
 pub returns-then-is_err-clause-all_back : goal.returns-then-is_err-clause-all_back
 returns-then-is_err-clause-all_back g c =
-    let shows = pair_shown g.D.Incoming.Source.left g.D.Incoming.Source.faults g.D.Outgoing.Sink.written
-    g.D.Outgoing.Sink.faults
-    g.D.Outgoing.Sink.ended in
+    let shows = pair_shown g.D.Incoming.Source g.D.Outgoing.Sink in
     none_back shows c.args.states.now c.args.hub.now.turns c.args.room.seats.items c.args.master.now
     c.join_all.new.master (g.D.Door.coming c.args.door.now) (g.D.Door.coming c.listen.new.self)
     (g.D.Door.kept c.args.door.now) (g.D.Door.kept c.listen.new.self) c.listen.ensures.coming_kept
@@ -27,9 +25,7 @@ returns-then-is_err-clause-all_back g c =
 
 pub give_back-requires-clause-back : goal.give_back-requires-clause-back
 give_back-requires-clause-back g c κs within =
-    let shows = pair_shown g.D.Incoming.Source.left g.D.Incoming.Source.faults g.D.Outgoing.Sink.written
-    g.D.Outgoing.Sink.faults
-    g.D.Outgoing.Sink.ended in
+    let shows = pair_shown g.D.Incoming.Source g.D.Outgoing.Sink in
     let turns = c.args.hub.now.turns in
     let ended = c.serve_all-ended.result in
     let h = c.serve_all-ended.ensures.served in
@@ -40,9 +36,7 @@ give_back-requires-clause-back g c κs within =
 
 pub give_back-requires-clause-room : goal.give_back-requires-clause-room
 give_back-requires-clause-room g c κs within =
-    let shows = pair_shown g.D.Incoming.Source.left g.D.Incoming.Source.faults g.D.Outgoing.Sink.written
-    g.D.Outgoing.Sink.faults
-    g.D.Outgoing.Sink.ended in
+    let shows = pair_shown g.D.Incoming.Source g.D.Outgoing.Sink in
     let ended = c.serve_all-ended.result in
     let h = c.serve_all-ended.ensures.served in
     let long = each_long shows c.args.states.now h.befores h.came ended.done.items h.each in
@@ -53,9 +47,7 @@ give_back-requires-clause-room g c κs within =
 
 pub join_all-requires-2-clause-back : goal.join_all-requires-2-clause-back
 join_all-requires-2-clause-back g c κs within =
-    let shows = pair_shown g.D.Incoming.Source.left g.D.Incoming.Source.faults g.D.Outgoing.Sink.written
-    g.D.Outgoing.Sink.faults
-    g.D.Outgoing.Sink.ended in
+    let shows = pair_shown g.D.Incoming.Source g.D.Outgoing.Sink in
     let turns = c.args.hub.now.turns in
     let ended = c.serve_all-ended.result in
     let h = c.serve_all-ended.ensures.served in
@@ -66,9 +58,7 @@ join_all-requires-2-clause-back g c κs within =
 
 pub returns-clause-all_back : goal.returns-clause-all_back
 returns-clause-all_back g c =
-    let shows = pair_shown g.D.Incoming.Source.left g.D.Incoming.Source.faults g.D.Outgoing.Sink.written
-    g.D.Outgoing.Sink.faults
-    g.D.Outgoing.Sink.ended in
+    let shows = pair_shown g.D.Incoming.Source g.D.Outgoing.Sink in
     let turns = c.args.hub.now.turns in
     let ended = c.serve_all-ended.result in
     let coming = g.D.Door.coming in
@@ -86,9 +76,7 @@ returns-clause-all_back g c =
 
 pub returns-clause-served : goal.returns-clause-served
 returns-clause-served g c =
-    let shows = pair_shown g.D.Incoming.Source.left g.D.Incoming.Source.faults g.D.Outgoing.Sink.written
-    g.D.Outgoing.Sink.faults
-    g.D.Outgoing.Sink.ended in
+    let shows = pair_shown g.D.Incoming.Source g.D.Outgoing.Sink in
     let turns = c.args.hub.now.turns in
     let coming = g.D.Door.coming in
     let kept = g.D.Door.kept in
@@ -114,9 +102,7 @@ returns-clause-served g c =
 
 pub returns-clause-all : goal.returns-clause-all
 returns-clause-all g c =
-    let shows = pair_shown g.D.Incoming.Source.left g.D.Incoming.Source.faults g.D.Outgoing.Sink.written
-    g.D.Outgoing.Sink.faults
-    g.D.Outgoing.Sink.ended in
+    let shows = pair_shown g.D.Incoming.Source g.D.Outgoing.Sink in
     let seats = c.args.room.seats.items in
     let ended = c.serve_all-ended.result in
     let h = c.serve_all-ended.ensures.served in
@@ -143,9 +129,7 @@ returns-clause-all g c =
 
 pub returns-clause-taken_in : goal.returns-clause-taken_in
 returns-clause-taken_in g c =
-    let shows = pair_shown g.D.Incoming.Source.left g.D.Incoming.Source.faults g.D.Outgoing.Sink.written
-    g.D.Outgoing.Sink.faults
-    g.D.Outgoing.Sink.ended in
+    let shows = pair_shown g.D.Incoming.Source g.D.Outgoing.Sink in
     let coming = g.D.Door.coming in
     let ended = c.serve_all-ended.result in
     let same = c.into_iter-2.ensures.rest in

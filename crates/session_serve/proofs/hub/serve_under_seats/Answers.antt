@@ -11,9 +11,7 @@ use Rattle.session_serve.proofs.hub.serve_under_seats.Goals as goal
 
 pub returns-in_err-room-clause-all_back : goal.returns-in_err-room-clause-all_back
 returns-in_err-room-clause-all_back g c =
-    let shows = pair_shown g.D.Incoming.Source.left g.D.Incoming.Source.faults g.D.Outgoing.Sink.written
-    g.D.Outgoing.Sink.faults
-    g.D.Outgoing.Sink.ended in
+    let shows = pair_shown g.D.Incoming.Source g.D.Outgoing.Sink in
     let m = c.args.master.now in (
       [],
       none_back shows c.args.states.now c.args.hub.now.turns [] (with_seats m 0) m
@@ -30,9 +28,7 @@ join_all-requires-clause-back g c κs within =
 
 pub returns-in-Ok-clause-all_back : goal.returns-in-Ok-clause-all_back
 returns-in-Ok-clause-all_back g c =
-    let shows = pair_shown g.D.Incoming.Source.left g.D.Incoming.Source.faults g.D.Outgoing.Sink.written
-    g.D.Outgoing.Sink.faults
-    g.D.Outgoing.Sink.ended in
+    let shows = pair_shown g.D.Incoming.Source g.D.Outgoing.Sink in
     let seats = c.seat_all.new.seats.items in (
       seats,
       subst (λ (s : MasterState). AllBack shows c.args.states.now c.args.hub.now.turns seats s c.serve_seats.new.master
@@ -50,9 +46,7 @@ returns-in-Ok-clause-taken_in g c =
 
 pub returns-in-Err-clause-all_back : goal.returns-in-Err-clause-all_back
 returns-in-Err-clause-all_back g c =
-    let shows = pair_shown g.D.Incoming.Source.left g.D.Incoming.Source.faults g.D.Outgoing.Sink.written
-    g.D.Outgoing.Sink.faults
-    g.D.Outgoing.Sink.ended in
+    let shows = pair_shown g.D.Incoming.Source g.D.Outgoing.Sink in
     let turns = c.args.hub.now.turns in
     let seats = c.seat_all.new.seats.items in
     let rest = c.into_iter.ensures.rest in

@@ -6,8 +6,6 @@ use Rattle.session_serve.proofs.serving.serve_all.Goals as goal
 
 pub returns-clause-served : goal.returns-clause-served
 returns-clause-served g c =
-    let shows = pair_shown g.D.Incoming.Source.left g.D.Incoming.Source.faults g.D.Outgoing.Sink.written
-    g.D.Outgoing.Sink.faults
-    g.D.Outgoing.Sink.ended in
+    let shows = pair_shown g.D.Incoming.Source g.D.Outgoing.Sink in
     subst (λ (now : Option (List _)). HasServed shows c.args.states.now (into_iter_items c.args.seats)
     (g.D.Door.coming c.args.door.now) now c.scoped-back.result.1) (search rules) c.scoped-back.ensures.1.1.0

@@ -12,9 +12,7 @@ pub returns-clause-served : goal.returns-clause-served
 returns-clause-served g c =
     let accepted = c.accept_all-is_whole in
     let running = accepted.new.running.items in
-    let shows = pair_shown g.D.Incoming.Source.left g.D.Incoming.Source.faults g.D.Outgoing.Sink.written
-    g.D.Outgoing.Sink.faults
-    g.D.Outgoing.Sink.ended in
+    let shows = pair_shown g.D.Incoming.Source g.D.Outgoing.Sink in
     let boards : c.work.inside.states.now ≡ c.args.work.boards = search rules in
     let seats : into_iter_items c.work.inside.seats ≡ c.args.work.seats = search rules in
     record {
@@ -30,9 +28,7 @@ returns-clause-served g c =
 
 pub returns-clause-out : goal.returns-clause-out
 returns-clause-out g c =
-    let shows = pair_shown g.D.Incoming.Source.left g.D.Incoming.Source.faults g.D.Outgoing.Sink.written
-    g.D.Outgoing.Sink.faults
-    g.D.Outgoing.Sink.ended in
+    let shows = pair_shown g.D.Incoming.Source g.D.Outgoing.Sink in
     let out = c.accept_all-is_whole.ensures.out in
     let long = zip_long (IsDoneOf shows) c.accept_all-is_whole.new.running.items c.wait_for_all.new.done.items
     c.wait_for_all.ensures in

@@ -8,8 +8,7 @@ use Rattle.session_serve.proofs.serving.wait_for_all.Given as goal
 abbrev pub invariant-loop-one : goal.invariant-loop-one
 invariant-loop-one g l = record {
   all : l.yielded ++ l.one-iterator.rest.items ≡ l.fn.running.items;
-  done' : AllZip (IsDoneOf (pair_shown g.S.Source.left g.S.Source.faults g.O.Sink.written g.O.Sink.faults
-      g.O.Sink.ended)) l.yielded l.done.items;
+  done' : AllZip (IsDoneOf (pair_shown g.S.Source g.O.Sink)) l.yielded l.done.items;
   room : vec_capacity l.done ≡ vec_capacity l.fn.done;
   so_many : length l.done.items ≡ length l.yielded;
 }

@@ -2,7 +2,8 @@ use Rattle.std.proofs.Common.{◌≡◌, ◌∙◌, [], ℕ, List, Vec, ap, leng
 use Rattle.std.proofs.lemmas.List.{length-map}
 use Rattle.hub_lane.specs.declared.greeting.Greeted.{Greeted}
 use Rattle.hub_lane.specs.Greeting.{link_of}
-use Rattle.board_greeting.specs.Boards.{AreReached, HasRoom, shown_by}
+use Rattle.board_greeting.specs.Boards.{AreReached, HasRoom}
+use Rattle.board_greeting.specs.Reports.{shown_by}
 use Rattle.session_serve.specs.Prepared.{IsPrepared, told_by}
 use Rattle.session_serve.proofs.Executing.{greeted_untouched, none_executed}
 use Rattle.session_serve.proofs.Lists.{came_none, went_none}
@@ -16,8 +17,7 @@ keep_all-requires-clause-room g c κs within =
 
 pub returns-in_default-clause-links : goal.returns-in_default-clause-links
 returns-in_default-clause-links g c =
-    let link = g.R.L.Link in
-    let shows = shown_by link.faults link.quiets link.gots link.held link.telling in
+    let shows = shown_by g.R.L.Link in
     let boards = c.args.boards.items in
     let links = map (λ (b : Greeted _). link_of b) boards in (
       links,
@@ -57,8 +57,7 @@ keep_all-requires-in-Err-clause-room g c κs within =
 
 pub returns-in-Err-clause-links : goal.returns-in-Err-clause-links
 returns-in-Err-clause-links g c =
-    let link = g.R.L.Link in
-    let shows = shown_by link.faults link.quiets link.gots link.held link.telling in
+    let shows = shown_by g.R.L.Link in
     let boards = c.in-Err.boards.items in
     let links = map (λ (b : Greeted _). link_of b) boards in
     let same : boards ≡ c.args.boards.items =
@@ -84,8 +83,7 @@ returns-in-Err-clause-pairs g c = (
 
 pub returns-in_default-clause-in_frames : goal.returns-in_default-clause-in_frames
 returns-in_default-clause-in_frames g c =
-    let link = g.R.L.Link in
-    let shows = shown_by link.faults link.quiets link.gots link.held link.telling in
+    let shows = shown_by g.R.L.Link in
     let boards = c.args.boards.items in
     let links = map (λ (b : Greeted _). link_of b) boards in (
       links,
@@ -102,8 +100,7 @@ returns-in_default-clause-in_frames g c =
 
 pub returns-in-Err-clause-in_frames : goal.returns-in-Err-clause-in_frames
 returns-in-Err-clause-in_frames g c =
-    let link = g.R.L.Link in
-    let shows = shown_by link.faults link.quiets link.gots link.held link.telling in
+    let shows = shown_by g.R.L.Link in
     let boards = c.in-Err.boards.items in
     let links = map (λ (b : Greeted _). link_of b) boards in
     let same : boards ≡ c.args.boards.items =

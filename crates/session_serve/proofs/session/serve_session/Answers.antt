@@ -1,7 +1,7 @@
 use Rattle.std.proofs.Common.{◌∙◌, ◌++◌, [], ap, length, map, subst}
 use Rattle.std.specs.Prelude.{IfOk}
 use Rattle.ipb_outside.specs.Pairs.{GivesBack}
-use Rattle.board_greeting.specs.Boards.{shown_by}
+use Rattle.board_greeting.specs.Reports.{shown_by}
 use Rattle.board_greeting.specs.Links.{Keeps}
 use Rattle.board_greeting.proofs.Boards.{made_still}
 use Rattle.session_serve.specs.Executed.{CameInFrames}
@@ -13,8 +13,7 @@ use Rattle.session_serve.proofs.session.serve_session.Goals as goal
 
 pub returns-in_err-boards-clause-links : goal.returns-in_err-boards-clause-links
 returns-in_err-boards-clause-links g c =
-    let link = g.R.L.Link in
-    let shows = shown_by link.faults link.quiets link.gots link.held link.telling in
+    let shows = shown_by g.R.L.Link in
     let left = c.in_err-boards.ensures.left in
     (left.0, left.1, ((untouched_links c.args.settings c.args.specs.now (map shows left.0) left.2.0).0, left.2.1))
 
@@ -29,26 +28,23 @@ returns-in_err-boards-clause-pairs g c = (
 
 pub returns-in_err-boards-clause-untouched : goal.returns-in_err-boards-clause-untouched
 returns-in_err-boards-clause-untouched g c =
-    let link = g.R.L.Link in
-    let shows = shown_by link.faults link.quiets link.gots link.held link.telling in
+    let shows = shown_by g.R.L.Link in
     let left = c.in_err-boards.ensures.left in
     λ fault. (left.0, left.1, (untouched_links c.args.settings c.args.specs.now (map shows left.0) left.2.0).1)
 
 pub returns-clause-served : goal.returns-clause-served
 returns-clause-served g c =
     let link = g.R.L.Link in
-    subst (λ kept. IfOk c.serve_greeted.result (λ report. Keeps link.faults link.quiets link.gots link.held
-    link.telling kept
-    (g.R.Rack.kept c.serve_greeted.new.rack) (λ links. GivesBack g.D.Incoming.Source.left g.D.Incoming.Source.faults
-    g.D.Outgoing.Sink.written g.D.Outgoing.Sink.faults g.D.Outgoing.Sink.ended (g.D.Door.coming c.args.door.now)
+    subst (λ kept. IfOk c.serve_greeted.result (λ report. Keeps link kept
+    (g.R.Rack.kept c.serve_greeted.new.rack) (λ links. GivesBack g.D.Incoming.Source g.D.Outgoing.Sink
+    (g.D.Door.coming c.args.door.now)
     (g.D.Door.coming c.serve_greeted.new.door) (g.D.Door.kept c.args.door.now) (g.D.Door.kept c.serve_greeted.new.door)
     (λ came back. AreServed c.args.settings c.args.specs.now links came back report.connections.items
     report.boards.items)))) c.in_ok-boards.ensures.kept c.serve_greeted.ensures.served
 
 pub returns-clause-links : goal.returns-clause-links
 returns-clause-links g c =
-    let link = g.R.L.Link in
-    let shows = shown_by link.faults link.quiets link.gots link.held link.telling in
+    let shows = shown_by g.R.L.Link in
     let left = c.serve_greeted.ensures.links in (
       left.0,
       left.1 ∙ ap (λ kept. kept ++ left.0) c.in_ok-boards.ensures.kept,
@@ -67,8 +63,7 @@ returns-clause-rack_unfaulted g c =
 
 pub returns-in_err-boards-clause-in_frames : goal.returns-in_err-boards-clause-in_frames
 returns-in_err-boards-clause-in_frames g c =
-    let link = g.R.L.Link in
-    let shows = shown_by link.faults link.quiets link.gots link.held link.telling in
+    let shows = shown_by g.R.L.Link in
     let left = c.in_err-boards.ensures.left in (
       left.0,
       left.1,
@@ -85,8 +80,8 @@ returns-in_err-boards-clause-in_frames g c =
 pub returns-clause-in_frames : goal.returns-clause-in_frames
 returns-clause-in_frames g c =
     let link = g.R.L.Link in
-    subst (λ kept. Keeps link.faults link.quiets link.gots link.held link.telling kept
-    (g.R.Rack.kept c.serve_greeted.new.rack) (λ links. GivesBack g.D.Incoming.Source.left g.D.Incoming.Source.faults
-    g.D.Outgoing.Sink.written g.D.Outgoing.Sink.faults g.D.Outgoing.Sink.ended (g.D.Door.coming c.args.door.now)
+    subst (λ kept. Keeps link kept
+    (g.R.Rack.kept c.serve_greeted.new.rack) (λ links. GivesBack g.D.Incoming.Source g.D.Outgoing.Sink
+    (g.D.Door.coming c.args.door.now)
     (g.D.Door.coming c.serve_greeted.new.door) (g.D.Door.kept c.args.door.now) (g.D.Door.kept c.serve_greeted.new.door)
     (CameInFrames links))) c.in_ok-boards.ensures.kept c.serve_greeted.ensures.in_frames

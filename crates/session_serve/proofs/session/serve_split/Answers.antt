@@ -6,7 +6,8 @@ use Rattle.ipb_outside.specs.Pairs.{GivesBack}
 use Rattle.hub_session.specs.declared.served.Served.{Served}
 use Rattle.hub_session.specs.Serving.{IsLaneBelow}
 use Rattle.client_threads.specs.Running.{AtEach}
-use Rattle.board_greeting.specs.Boards.{HasNoEntry, HasRoom, shown_by}
+use Rattle.board_greeting.specs.Boards.{HasNoEntry, HasRoom}
+use Rattle.board_greeting.specs.Reports.{shown_by}
 use Rattle.board_greeting.specs.Places.{HaveLanes, lanes_in, place_of, rejoined}
 use Rattle.board_greeting.proofs.Lanes.{lanes_unused}
 use Rattle.board_greeting.proofs.Splitting.{have_lanes}
@@ -24,7 +25,7 @@ pub serve_at_hub-lanes-requires-clause-unused : goal.serve_at_hub-lanes-requires
 serve_at_hub-lanes-requires-clause-unused g c κs within =
     let link = g.R.L.Link in
     let tells = link.telling in
-    let shows = shown_by link.faults link.quiets link.gots link.held tells in
+    let shows = shown_by link in
     let ready = c.requires.ready in
     let apart = ready.apart in
     let boards = apart.boards in
@@ -36,7 +37,7 @@ pub serve_at_hub-lanes-requires-clause-lanes : goal.serve_at_hub-lanes-requires-
 serve_at_hub-lanes-requires-clause-lanes g c κs within =
     let link = g.R.L.Link in
     let tells = link.telling in
-    let shows = shown_by link.faults link.quiets link.gots link.held tells in
+    let shows = shown_by link in
     let ready = c.requires.ready in
     let apart = ready.apart in
     let boards = apart.boards in
@@ -48,7 +49,7 @@ pub of-boards-requires : goal.of-boards-requires
 of-boards-requires g c =
     let link = g.R.L.Link in
     let tells = link.telling in
-    let shows = shown_by link.faults link.quiets link.gots link.held tells in
+    let shows = shown_by link in
     let ready = c.requires.ready in
     let apart = ready.apart in
     let boards = apart.boards in
@@ -61,7 +62,7 @@ pub finish_boards-requires-clause-all : goal.finish_boards-requires-clause-all
 finish_boards-requires-clause-all g c κs within =
     let link = g.R.L.Link in
     let tells = link.telling in
-    let shows = shown_by link.faults link.quiets link.gots link.held tells in
+    let shows = shown_by link in
     let ready = c.requires.ready in
     let apart = ready.apart in
     let boards = apart.boards in
@@ -77,7 +78,7 @@ pub finish_boards-requires-clause-room : goal.finish_boards-requires-clause-room
 finish_boards-requires-clause-room g c κs within =
     let link = g.R.L.Link in
     let tells = link.telling in
-    let shows = shown_by link.faults link.quiets link.gots link.held tells in
+    let shows = shown_by link in
     let ready = c.requires.ready in
     let apart = ready.apart in
     let boards = apart.boards in
@@ -93,7 +94,7 @@ pub returns-in-Err-clause-links : goal.returns-in-Err-clause-links
 returns-in-Err-clause-links g c =
     let link = g.R.L.Link in
     let tells = link.telling in
-    let shows = shown_by link.faults link.quiets link.gots link.held tells in
+    let shows = shown_by link in
     let ready = c.requires.ready in
     let apart = ready.apart in
     let boards = apart.boards in
@@ -103,11 +104,9 @@ returns-in-Err-clause-links g c =
     let is = c.of-boards.ensures ∙ (ap (λ p. rejoined p news c.new.result.items) apart.apart.places'
     ∙ ap (λ l. rejoined (map place_of boards) news l) c.new.ensures.items) in
     let ended = c.of-boards.result in
-    let to = links_to _ _ link.faults link.quiets link.gots link.held tells c.args.settings 0 c.args.specs.now boards
-    news apart.all
-    apart.memory apart.reached (from_each (lanes_in boards) news (λ lane. KeepsHead tells) heads)
-    (subst (AllByRecursion (IsSound link.faults link.quiets link.gots link.held tells)) is
-    c.finish_boards.ensures.sound) in (
+    let to = links_to _ _ link c.args.settings 0 c.args.specs.now boards news apart.all apart.memory apart.reached
+    (from_each (lanes_in boards) news (λ lane. KeepsHead tells) heads)
+    (subst (AllByRecursion (IsSound link)) is c.finish_boards.ensures.sound) in (
       map (λ b. link_in b) ended,
       c.finish_boards.ensures.kept,
       (
@@ -121,7 +120,7 @@ pub returns-in-Ok-clause-links : goal.returns-in-Ok-clause-links
 returns-in-Ok-clause-links g c =
     let link = g.R.L.Link in
     let tells = link.telling in
-    let shows = shown_by link.faults link.quiets link.gots link.held tells in
+    let shows = shown_by link in
     let ready = c.requires.ready in
     let apart = ready.apart in
     let boards = apart.boards in
@@ -131,11 +130,9 @@ returns-in-Ok-clause-links g c =
     let is = c.of-boards.ensures ∙ (ap (λ p. rejoined p news c.new.result.items) apart.apart.places'
     ∙ ap (λ l. rejoined (map place_of boards) news l) c.new.ensures.items) in
     let ended = c.of-boards.result in
-    let to = links_to _ _ link.faults link.quiets link.gots link.held tells c.args.settings 0 c.args.specs.now boards
-    news apart.all
-    apart.memory apart.reached (from_each (lanes_in boards) news (λ lane. KeepsHead tells) heads)
-    (subst (AllByRecursion (IsSound link.faults link.quiets link.gots link.held tells)) is
-    c.finish_boards.ensures.sound) in (
+    let to = links_to _ _ link c.args.settings 0 c.args.specs.now boards news apart.all apart.memory apart.reached
+    (from_each (lanes_in boards) news (λ lane. KeepsHead tells) heads)
+    (subst (AllByRecursion (IsSound link)) is c.finish_boards.ensures.sound) in (
       map (λ b. link_in b) ended,
       c.finish_boards.ensures.kept,
       (
@@ -149,7 +146,7 @@ pub returns-in-Ok-clause-served : goal.returns-in-Ok-clause-served
 returns-in-Ok-clause-served g c =
     let link = g.R.L.Link in
     let tells = link.telling in
-    let shows = shown_by link.faults link.quiets link.gots link.held tells in
+    let shows = shown_by link in
     let ready = c.requires.ready in
     let apart = ready.apart in
     let boards = apart.boards in
@@ -161,8 +158,7 @@ returns-in-Ok-clause-served g c =
     let ended = c.of-boards.result in
     let olds = c.args.split.lanes.items in
     let all = c.args.prepared.states in
-    let given = subst (λ r. IfOk r (λ (served : Vec Served Global). GivesBack g.D.Incoming.Source.left
-    g.D.Incoming.Source.faults g.D.Outgoing.Sink.written g.D.Outgoing.Sink.faults g.D.Outgoing.Sink.ended
+    let given = subst (λ r. IfOk r (λ (served : Vec Served Global). GivesBack g.D.Incoming.Source g.D.Outgoing.Sink
     (g.D.Door.coming c.args.door.now) (g.D.Door.coming c.serve_at_hub-lanes.new.door) (g.D.Door.kept c.args.door.now)
     (g.D.Door.kept c.serve_at_hub-lanes.new.door) (λ came back. AreServedAt tells all olds news came back
     served.items)))
@@ -175,12 +171,10 @@ returns-in-Ok-clause-served g c =
         given.2,
         given.3,
         are_served c.connections_of_a_hub_leave_what_they_submitted.ensures c.a_finished_lane_was_served.ensures
-            c.a_finished_lane_tells_the_numbers_of_its_line.ensures link.faults link.quiets link.gots link.held tells
-            c.args.settings c.args.specs.now boards olds news all _ _ c.in-Ok.connections.items
-            c.args.prepared.names.items
-            c.finish_boards.new.lines.items ended is apart.apart.lanes' ready.prepared'.states' ready.prepared'.names'
-            c.finish_boards.ensures.lines apart.all apart.memory apart.reached c.serve_at_hub-lanes.ensures.heads
-            c.finish_boards.ensures.sound given.4,
+            c.a_finished_lane_tells_the_numbers_of_its_line.ensures link c.args.settings c.args.specs.now boards olds
+            news all _ _ c.in-Ok.connections.items c.args.prepared.names.items c.finish_boards.new.lines.items ended is
+            apart.apart.lanes' ready.prepared'.states' ready.prepared'.names' c.finish_boards.ensures.lines apart.all
+            apart.memory apart.reached c.serve_at_hub-lanes.ensures.heads c.finish_boards.ensures.sound given.4,
       ),
     )
 
@@ -193,16 +187,16 @@ returns-in-Err-clause-door_unfaulted g c =
 pub returns-in-Ok-clause-pairs : goal.returns-in-Ok-clause-pairs
 returns-in-Ok-clause-pairs g c =
     let ready = c.requires.ready in
-    back_as_told g.D.Incoming.Source.left g.D.Incoming.Source.faults g.D.Outgoing.Sink.written g.D.Outgoing.Sink.faults
-    g.D.Outgoing.Sink.ended (g.D.Door.coming c.args.door.now) (g.D.Door.coming c.serve_at_hub-lanes.new.door)
+    back_as_told g.D.Incoming.Source g.D.Outgoing.Sink (g.D.Door.coming c.args.door.now)
+    (g.D.Door.coming c.serve_at_hub-lanes.new.door)
     (g.D.Door.kept c.args.door.now) (g.D.Door.kept c.serve_at_hub-lanes.new.door) c.args.prepared.states
     (map (λ b. told_by b) ready.apart.boards) ready.prepared'.states' c.serve_at_hub-lanes.ensures.pairs
 
 pub returns-in-Err-clause-pairs : goal.returns-in-Err-clause-pairs
 returns-in-Err-clause-pairs g c =
     let ready = c.requires.ready in
-    back_as_told g.D.Incoming.Source.left g.D.Incoming.Source.faults g.D.Outgoing.Sink.written g.D.Outgoing.Sink.faults
-    g.D.Outgoing.Sink.ended (g.D.Door.coming c.args.door.now) (g.D.Door.coming c.serve_at_hub-lanes.new.door)
+    back_as_told g.D.Incoming.Source g.D.Outgoing.Sink (g.D.Door.coming c.args.door.now)
+    (g.D.Door.coming c.serve_at_hub-lanes.new.door)
     (g.D.Door.kept c.args.door.now) (g.D.Door.kept c.serve_at_hub-lanes.new.door) c.args.prepared.states
     (map (λ b. told_by b) ready.apart.boards) ready.prepared'.states' c.serve_at_hub-lanes.ensures.pairs
 
@@ -234,10 +228,10 @@ returns-in-Ok-clause-in_frames g c =
         planned.1,
         planned.2,
         planned.3,
-        came_in_frames c.a_board_executes_a_merge_at_any_moment.ensures.merge link.faults link.quiets link.gots
-            link.held tells c.args.settings c.args.specs.now boards c.args.split.lanes.items news c.args.prepared.states
-            _ _ ended is apart.apart.lanes' ready.prepared'.states' apart.all apart.memory apart.reached
-            c.serve_at_hub-lanes.ensures.heads c.finish_boards.ensures.sound planned.4,
+        came_in_frames c.a_board_executes_a_merge_at_any_moment.ensures.merge link c.args.settings c.args.specs.now
+            boards c.args.split.lanes.items news c.args.prepared.states _ _ ended is apart.apart.lanes'
+            ready.prepared'.states' apart.all apart.memory apart.reached c.serve_at_hub-lanes.ensures.heads
+            c.finish_boards.ensures.sound planned.4,
       ),
     )
 
@@ -260,9 +254,9 @@ returns-in-Err-clause-in_frames g c =
         planned.1,
         planned.2,
         planned.3,
-        came_in_frames c.a_board_executes_a_merge_at_any_moment.ensures.merge link.faults link.quiets link.gots
-            link.held tells c.args.settings c.args.specs.now boards c.args.split.lanes.items news c.args.prepared.states
-            _ _ ended is apart.apart.lanes' ready.prepared'.states' apart.all apart.memory apart.reached
-            c.serve_at_hub-lanes.ensures.heads c.finish_boards.ensures.sound planned.4,
+        came_in_frames c.a_board_executes_a_merge_at_any_moment.ensures.merge link c.args.settings c.args.specs.now
+            boards c.args.split.lanes.items news c.args.prepared.states _ _ ended is apart.apart.lanes'
+            ready.prepared'.states' apart.all apart.memory apart.reached c.serve_at_hub-lanes.ensures.heads
+            c.finish_boards.ensures.sound planned.4,
       ),
     )
