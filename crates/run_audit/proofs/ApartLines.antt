@@ -1,10 +1,9 @@
 -- What lines tell of bodies, line by line, and the first that tells another thing than one before it.
-use Rattle.std.proofs.Common.{◌≡◌, ◌≢◌, ◌⊎◌, ℕ, zero, suc, ◌+◌, ◌<◌, ◌≤◌, List, [], ◌∷◌, ◌++◌, Option, Some, None}
+use Rattle.std.proofs.Common.{◌≡◌, ◌≢◌, ◌⊎◌, ℕ, zero, suc, ◌<◌, List, [], ◌∷◌, ◌++◌, Option, Some, None}
 use Rattle.std.proofs.Common.{refl, sym, ap, subst, ◌∙◌, inl, inr, arith, length, drop, take, get_or}
 use Rattle.std.specs.BTreeMap.{BTreeMap}
 use Rattle.std.specs.List.{AllByRecursion, Any, slice_get}
 use Rattle.std.specs.Option.{unwrap_or}
-use Rattle.std.proofs.lemmas.List.{take_all}
 use Rattle.std.proofs.lemmas.Option.{none-some, same_Some, slice_get_read}
 use Rattle.ipb_base.proofs.AllLemmas.{AllByRecursion-append}
 use Rattle.board_node.specs.declared.spec.BoardSpec.{BoardSpec}
@@ -16,14 +15,14 @@ use Rattle.transcript_reader.specs.declared.shown.Shown.{Shown}
 use Rattle.run_audit.specs.declared.fate.Fate.{Fate}
 use Rattle.run_audit.specs.Agreeing.{IsApartAt}
 use Rattle.run_audit.specs.Apart.{Body, body_in, fate_of, only_body}
-use Rattle.run_audit.specs.AskedLines.{AskedLine, asked_lines, pieces_of}
+use Rattle.run_audit.specs.AskedLines.{AskedLine, pieces_of}
 use Rattle.run_audit.specs.Replaying.{AreReplayed}
 use Rattle.run_audit.specs.Results.{TellApart, fate_in}
 use Rattle.run_audit.specs.Steps.{IsFirstBroken}
 use Rattle.run_audit.proofs.ApartBodies.{StandsIn, cases_body, only_within, run_pieces, stands_in}
 use Rattle.run_audit.proofs.FirstBroken.{first_same}
 use Rattle.run_audit.proofs.InText.{HoldsAt, HoldsNowhere, first_at, nowhere}
-use Rattle.run_audit.proofs.Misplacing.{split_at, take_next}
+use Rattle.run_audit.proofs.Misplacing.{split_at}
 use Rattle.run_audit.proofs.TextOrder.{ComesBefore, lines_rise}
 
 -- ---- lists

@@ -25,7 +25,7 @@ splits (y ∷ before) (z ∷ b) behind r x a same =
       | inr (inr back) ↦ inr (inr (back.0, let f = back.1 in cc))
     ]
 
-all_behind : {A : Type 0} (P : A → Type 0) (xs : List A) (a : A) (ys : List A) → AllByRecursion P (xs ++ a ∷ ys) → P a
+pub all_behind : {A : Type 0} (P : A → Type 0) (xs : List A) (a : A) (ys : List A) → AllByRecursion P (xs ++ a ∷ ys) → P a
 all_behind P [] a ys all = all.0
 all_behind P (x ∷ xs) a ys all = all_behind P xs a ys all.1
 

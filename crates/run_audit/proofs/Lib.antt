@@ -15,6 +15,7 @@ mod Distinct
 mod Keys
 mod WellPlaced
 mod Fields
+mod PiecesDone
 mod Wrong
 mod Aligned
 mod InText

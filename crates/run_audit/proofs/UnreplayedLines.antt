@@ -1,7 +1,7 @@
 -- What the code compares a line with is what the replay came to.
-use Rattle.std.proofs.Common.{◌≡◌, ◌↔◌, ◌+◌, ℕ, zero, suc, refl, List, [], ◌∷◌, Some, None, map}
+use Rattle.std.proofs.Common.{◌≡◌, ◌↔◌, ◌⊎◌, ◌+◌, ℕ, zero, suc, refl, List, [], ◌∷◌, Option, Some, None, map, inl, inr}
 use Rattle.std.proofs.Common.{add-zero, ap, arith, subst, sym, ◌∙◌}
-use Rattle.std.specs.Prelude.{unwrap_or}
+use Rattle.std.specs.Prelude.{option_and_then, unwrap_or}
 use Rattle.std.specs.List.{AllByRecursion, slice_get}
 use Rattle.std.specs.Option.{option_map, option_map_or}
 use Rattle.std.proofs.lemmas.Option.{same_Some, slice_get-map}
@@ -12,37 +12,88 @@ use Rattle.board_node.specs.declared.spec.BoardSpec.{BoardSpec}
 use Rattle.script_plans.specs.declared.board_run.BoardRun.{BoardRun}
 use Rattle.script_plans.specs.declared.board_run.ClientPart.{ClientPart}
 use Rattle.script_plans.specs.declared.greeting.Greeting.{Greeting}
+use Rattle.script_plans.specs.declared.greeting.Greeting.TheVariants.{Live, Silent, Down}
 use Rattle.script_plans.specs.declared.planned.PieceAt.{PieceAt}
-use Rattle.script_plans.specs.Plan.{ClientBodies, no_bodies}
+use Rattle.script_plans.specs.Plan.{ClientBodies}
+use Rattle.script_steps.specs.declared.operation.RegOp.{RegOp}
 use Rattle.script_steps.specs.declared.operation.Step.{Step}
 use Rattle.transcript.specs.declared.body_end.BodyEnd.{BodyEnd}
 use Rattle.transcript.specs.declared.line.OpResult.{OpResult}
 use Rattle.transcript.specs.declared.line.OpResult.TheVariants.{Value, Done, Was, Error, Skipped, TimedOut, Late}
 use Rattle.transcript.specs.declared.line.OpResult.TheVariants.{Unsent, LinkLost, Garbled, Denied}
 use Rattle.transcript.specs.Ends.{ends_of, ends_with}
+use Rattle.transcript.specs.Lines.{by_pieces, in_part}
 use Rattle.transcript.specs.Steps.{ends_on}
-use Rattle.run_audit.specs.Agreeing.{AgreesWith}
-use Rattle.run_audit.specs.AskedLines.{AskedLine, ShownPiece, greeting_at, pieces_of}
+use Rattle.run_audit.specs.Agreeing.{AgreesWith, IsAnswer}
+use Rattle.run_audit.specs.AskedLines.{AskedLine, ShownPiece}
 use Rattle.run_audit.specs.Replay.{parts_from, replayed}
 use Rattle.run_audit.specs.Results.{Agrees, result_in}
-use Rattle.run_audit.specs.Steps.{replays_from}
-use Rattle.run_audit.specs.Unreplayed.{board_ends, ends_at, ends_in_time, pieces_in}
-use Rattle.run_audit.proofs.PlansMade.{of_client}
+use Rattle.run_audit.specs.Apart.{plans_in}
+use Rattle.run_audit.specs.Steps.{planned_pieces, replays_from}
+use Rattle.run_audit.specs.Unreplayed.{AgreesBy, board_ends, comes_to, ends_at, ends_in_time, sent_in, sent_on}
+
+-- ---- what an operation came to
+
+pieces_come : (part : ClientPart) (op : RegOp) (found : Option (List PieceAt))
+    → comes_to (ends_of part) op found ≡ (by_pieces part op found).0
+pieces_come part op None = refl
+pieces_come part op (Some pieces) = refl
+
+part_comes : (op : RegOp) (number : ℕ) (found : Option ClientPart)
+    → comes_to (option_map_or ends_of found []) op
+    (option_and_then (λ (part : ClientPart). slice_get part.planned.pieces number) found)
+    ≡ (in_part found number op).0
+part_comes op number None = refl
+part_comes op number (Some part) = pieces_come part op (slice_get part.planned.pieces number)
+
+not_told : (told other : OpResult) → IsAnswer told → (IsAnswer other → ⊥) → told ≡ other → ⊥
+not_told told other answer none same = none (subst IsAnswer same answer)
+
+-- a result of one of these kinds
+pub is_answer : (told : OpResult)
+    → ((words : List ℕ) × (told ≡ Value words)) ⊎ ((told ≡ Done) ⊎ (((word : ℕ) × (told ≡ Was word))
+    ⊎ (((code after : ℕ) × (told ≡ Error code after)) ⊎ (told ≡ Skipped)))) → IsAnswer told
+is_answer told (inl (words, is)) = subst IsAnswer (sym is) tt
+is_answer told (inr (inl is)) = subst IsAnswer (sym is) tt
+is_answer told (inr (inr (inl (word, is)))) = subst IsAnswer (sym is) tt
+is_answer told (inr (inr (inr (inl (code, after, is))))) = subst IsAnswer (sym is) tt
+is_answer told (inr (inr (inr (inr is)))) = subst IsAnswer (sym is) tt
+
+abbrev pub Run : List ℕ → Greeting → List ClientPart → BoardRun
+Run name told parts = record { name = name; greeting = told; parts = parts }
+
+-- a reply tells what the code compares where it tells what the board came to
+pub comes_is : (name : List ℕ) (greeting : Greeting) (parts : List ClientPart) (asking : AskedLine) (told : OpResult)
+    → IsAnswer told
+    → told ≡ comes_to (ends_on asking.client (Run name greeting parts)) asking.ask.op
+    (sent_on (Run name greeting parts) asking.client asking.number)
+    ↔ result_in (Run name greeting parts) asking ≡ told
+comes_is name (Live payload) parts asking told answer =
+    let same = part_comes asking.ask.op asking.number (slice_get parts asking.client) in
+    (λ is. sym (is ∙ same), λ is. sym (same ∙ is))
+comes_is name Silent parts asking told answer = (
+  λ is. absurd (not_told told Unsent answer (λ none. none) is),
+  λ is. absurd (not_told told Unsent answer (λ none. none) (sym is)),
+)
+comes_is name Down parts asking told answer = (
+  λ is. absurd (not_told told Unsent answer (λ none. none) is),
+  λ is. absurd (not_told told LinkLost answer (λ none. none) (sym is)),
+)
 
 -- ---- the cases of a result
 
-module _ (rounds : ℕ) (pieces : List PieceAt) (run : BoardRun) (asking : AskedLine) where
+module _ (rounds : ℕ) (pieces : List PieceAt) (run : BoardRun) (asking : AskedLine) (came_to : OpResult)
+    (comes : (told : OpResult) → IsAnswer told → told ≡ came_to ↔ result_in run asking ≡ told) where
   abbrev WithIt : OpResult → Type 0
-  WithIt told =
-      AgreesWith rounds (ends_on asking.client run) asking.ask.op pieces (result_in run asking) told
+  WithIt told = AgreesWith rounds (ends_on asking.client run) asking.ask.op pieces came_to told
 
   -- what the code asks of a result is what is asked of it
   with_is : (told : OpResult) → WithIt told ↔ Agrees rounds pieces run asking told
-  with_is (Value words) = (λ a. a, λ a. a)
-  with_is Done = (λ a. a, λ a. a)
-  with_is (Was word) = (λ a. a, λ a. a)
-  with_is (Error code after) = (λ a. a, λ a. a)
-  with_is Skipped = (λ a. a, λ a. a)
+  with_is (Value words) = comes (Value words) tt
+  with_is Done = comes Done tt
+  with_is (Was word) = comes (Was word) tt
+  with_is (Error code after) = comes (Error code after) tt
+  with_is Skipped = comes Skipped tt
   with_is (TimedOut other) = (λ a. a, λ a. a)
   with_is (Late other answer) = (λ a. a, λ a. a)
   with_is Unsent = (λ a. a, λ a. a)
@@ -50,20 +101,34 @@ module _ (rounds : ℕ) (pieces : List PieceAt) (run : BoardRun) (asking : Asked
   with_is Garbled = (λ a. a, λ a. a)
   with_is (Denied rule) = (λ a. a, λ a. a)
 
-  pub agrees_is : (ends : List BodyEnd) (found : List PieceAt) (came_to told : OpResult)
-      → ends ≡ ends_on asking.client run → found ≡ pieces → came_to ≡ result_in run asking
+  pub agrees_is : (ends : List BodyEnd) (found : List PieceAt) (told : OpResult)
+      → ends ≡ ends_on asking.client run → found ≡ pieces
       → AgreesWith rounds ends asking.ask.op found came_to told ↔ Agrees rounds pieces run asking told
-  agrees_is ends found came_to told ended at came = rw (ended, at, came) (with_is told)
+  agrees_is ends found told ended at = rw (ended, at) (with_is told)
 
--- nothing is asked of a line that is denied
-pub denied_agrees : (rounds rule : ℕ) (ends : List BodyEnd) (found : List PieceAt) (came_to told : OpResult)
-    (asking : AskedLine) → told ≡ Denied rule → AgreesWith rounds ends asking.ask.op found came_to told
-denied_agrees rounds rule ends found came_to told asking is =
-    subst (AgreesWith rounds ends asking.ask.op found came_to) (sym is) tt
+-- of a result that a reply tells the code asks whether it is the one of the replay
+agrees_answer : (rounds : ℕ) (ends : List BodyEnd) (op : RegOp) (pieces : List PieceAt) (came_to told : OpResult)
+    → IsAnswer told → told ≡ came_to ↔ AgreesWith rounds ends op pieces came_to told
+agrees_answer rounds ends op pieces came_to (Value words) is = (λ e. e, λ e. e)
+agrees_answer rounds ends op pieces came_to Done is = (λ e. e, λ e. e)
+agrees_answer rounds ends op pieces came_to (Was word) is = (λ e. e, λ e. e)
+agrees_answer rounds ends op pieces came_to (Error code after) is = (λ e. e, λ e. e)
+agrees_answer rounds ends op pieces came_to Skipped is = (λ e. e, λ e. e)
+agrees_answer rounds ends op pieces came_to (TimedOut told) is = absurd is
+agrees_answer rounds ends op pieces came_to (Late told answer) is = absurd is
+agrees_answer rounds ends op pieces came_to Unsent is = absurd is
+agrees_answer rounds ends op pieces came_to LinkLost is = absurd is
+agrees_answer rounds ends op pieces came_to Garbled is = absurd is
+agrees_answer rounds ends op pieces came_to (Denied rule) is = absurd is
 
-pub denied_is : (rounds rule : ℕ) (pieces : List PieceAt) (run : BoardRun) (asking : AskedLine) (told : OpResult)
-    → told ≡ Denied rule → Agrees rounds pieces run asking told
-denied_is rounds rule pieces run asking told is = subst (Agrees rounds pieces run asking) (sym is) tt
+pub answer_by : (rounds : ℕ) (runs : List BoardRun) (asking : AskedLine) (all : List (List (List BodyEnd)))
+    (ends : List BodyEnd) → all ≡ map board_ends runs → ends ≡ ends_at all asking.ask.op.board asking.client
+    → IsAnswer asking.shows.0
+    → asking.shows.0 ≡ comes_to ends asking.ask.op (sent_in runs asking) ↔ AgreesBy rounds runs asking
+answer_by rounds runs asking all ends made at is =
+    let own = ends_at (map board_ends runs) asking.ask.op.board asking.client in
+    rw (at, made) (agrees_answer rounds own asking.ask.op (planned_pieces (plans_in runs) asking)
+    (comes_to own asking.ask.op (sent_in runs asking)) asking.shows.0 is)
 
 -- ---- the parts of a run
 
@@ -75,14 +140,6 @@ module _ (opening : CellMap) (order : List Placed) (pieces : List ShownPiece) wh
       → AllByRecursion IsInTime (parts_from opening order pieces client plans)
   in_time client [] = tt
   in_time client (plan ∷ plans) = (refl, in_time (client + 1) plans)
-
-  planned : (number first : ℕ) (plans : List ClientBodies) (client : ℕ)
-      → option_map_or (λ (part : ClientPart). unwrap_or (slice_get part.planned.pieces number) [])
-      (slice_get (parts_from opening order pieces first plans) client) []
-      ≡ unwrap_or (slice_get (unwrap_or (slice_get plans client) no_bodies).pieces number) []
-  planned number first [] client = refl
-  planned number first (plan ∷ plans) zero = refl
-  planned number first (plan ∷ plans) (suc client) = planned number (first + 1) plans client
 
 ends_are : (parts : List ClientPart) (client : ℕ) → AllByRecursion IsInTime parts
     → unwrap_or (slice_get (map ends_in_time parts) client) [] ≡ option_map_or ends_of (slice_get parts client) []
@@ -112,20 +169,10 @@ module _ (boards : List BoardSpec) (scripts : List (List Step)) (lines : List As
     abbrev Here : BoardRun
     Here = replayed boards scripts lines spec asking.ask.op.board
 
-    pub run_at : slice_get Runs asking.ask.op.board ≡ Some Here
+    run_at : slice_get Runs asking.ask.op.board ≡ Some Here
     run_at =
         let e : 0 + asking.ask.op.board ≡ asking.ask.op.board = omega arith in
         runs_at 0 boards asking.ask.op.board spec there ∙ ap (λ b. Some (replayed boards scripts lines spec b)) e
-
-    pub pieces_are : asking.ask.denied ≡ None
-        → pieces_in Runs asking.ask.op.board asking.client asking.number ≡ pieces_of boards scripts asking
-    pieces_are free =
-        let board = asking.ask.op.board in
-        let told : greeting_at boards board ≡ greeting_of spec.link =
-        ap (λ o. option_map_or (λ (s : BoardSpec). greeting_of s.link) o Greeting.Down) there in
-        rw (run_at, free, told) (planned (opening_of spec.link) _ _ asking.number 0 _ asking.client
-        ∙ ap (λ (all : List (List PieceAt)). unwrap_or (slice_get all asking.number) [])
-        (of_client board (greeting_of spec.link) scripts asking.client))
 
     pub ended : ends_at (map board_ends Runs) asking.ask.op.board asking.client ≡ ends_on asking.client Here
     ended =
@@ -133,3 +180,14 @@ module _ (boards : List BoardSpec) (scripts : List (List Step)) (lines : List As
         ap (λ o. unwrap_or (slice_get (unwrap_or o []) asking.client) [])
         (slice_get-map board_ends Runs board ∙ ap (option_map board_ends) run_at)
         ∙ ends_are Here.parts asking.client (in_time (opening_of spec.link) _ _ 0 _)
+
+    sent : sent_in Runs asking ≡ sent_on Here asking.client asking.number
+    sent = ap (option_and_then (λ (run : BoardRun). sent_on run asking.client asking.number)) run_at
+
+    -- what the code compares a result with that a reply tells is what the replay came to
+    pub came : (told : OpResult) → IsAnswer told
+        → told ≡ comes_to (ends_at (map board_ends Runs) asking.ask.op.board asking.client) asking.ask.op
+        (sent_in Runs asking)
+        ↔ result_in Here asking ≡ told
+    came told answer =
+        rw (ended, sent) (comes_is spec.name (greeting_of spec.link) Here.parts asking told answer)

@@ -31,13 +31,27 @@ AnswersOne ends op answer [] = ⊥
 AnswersOne ends op answer (piece ∷ pieces) = (answer ≡ shown_of op (piece_result ends piece))
     ⊎ ((is_good (piece_result ends piece) ≡ true) × AnswersOne ends op answer pieces)
 
+-- a reply to the body of the operation tells this
+abbrev pub IsAnswer : OpResult → Type 0
+IsAnswer (Value words) = Unit {0}
+IsAnswer Done = Unit {0}
+IsAnswer (Was word) = Unit {0}
+IsAnswer (Error code after) = Unit {0}
+IsAnswer Skipped = Unit {0}
+IsAnswer (TimedOut rounds) = ⊥
+IsAnswer (Late rounds answer) = ⊥
+IsAnswer Unsent = ⊥
+IsAnswer LinkLost = ⊥
+IsAnswer Garbled = ⊥
+IsAnswer (Denied rule) = ⊥
+
 -- the result agrees with what the operation came to in the replay
 abbrev pub AgreesWith : ℕ → List BodyEnd → RegOp → List PieceAt → OpResult → OpResult → Type 0
-AgreesWith rounds ends op pieces came_to (Value words) = came_to ≡ Value words
-AgreesWith rounds ends op pieces came_to Done = came_to ≡ Done
-AgreesWith rounds ends op pieces came_to (Was word) = came_to ≡ Was word
-AgreesWith rounds ends op pieces came_to (Error code after) = came_to ≡ Error code after
-AgreesWith rounds ends op pieces came_to Skipped = came_to ≡ Skipped
+AgreesWith rounds ends op pieces came_to (Value words) = Value words ≡ came_to
+AgreesWith rounds ends op pieces came_to Done = Done ≡ came_to
+AgreesWith rounds ends op pieces came_to (Was word) = Was word ≡ came_to
+AgreesWith rounds ends op pieces came_to (Error code after) = Error code after ≡ came_to
+AgreesWith rounds ends op pieces came_to Skipped = Skipped ≡ came_to
 AgreesWith rounds ends op pieces came_to (TimedOut told) = told ≡ rounds
 AgreesWith rounds ends op pieces came_to (Late told answer) = (told ≡ rounds) × IsLateAnswer ends op pieces answer
 AgreesWith rounds ends op pieces came_to Unsent = Unit {0}

@@ -1,26 +1,40 @@
--- How the code finds what the replay came to at a line: what private functions promise one another. No public clause
--- speaks of these.
-use Rattle.std.specs.Prelude.{ℕ, List, [], map, slice_get, Option, unwrap_or, option_and_then}
-use Rattle.std.specs.Option.{option_map_or}
+-- How the code finds whether a line shows what the replay came to: what private functions promise one another. No public
+-- clause speaks of these.
+use Rattle.std.specs.Prelude.{ℕ, List, [], map, slice_get, Option, Some, None, unwrap_or, option_and_then}
 use Rattle.script_plans.specs.declared.board_run.BoardRun.{BoardRun}
 use Rattle.script_plans.specs.declared.board_run.ClientPart.{ClientPart}
+use Rattle.script_plans.specs.declared.greeting.Greeting.TheVariants as greeting
 use Rattle.script_plans.specs.declared.planned.PieceAt.{PieceAt}
+use Rattle.script_steps.specs.declared.operation.RegOp.{RegOp}
 use Rattle.transcript.specs.declared.body_end.BodyEnd.{BodyEnd}
 use Rattle.transcript.specs.declared.line.OpResult.{OpResult}
+use Rattle.transcript.specs.declared.line.OpResult.TheVariants.{Unsent}
 use Rattle.transcript.specs.Ends.{ends_with}
+use Rattle.transcript.specs.Results.{op_result}
+use Rattle.run_audit.specs.Apart.{plans_in}
 use Rattle.run_audit.specs.AskedLines.{AskedLine}
 use Rattle.run_audit.specs.Agreeing.{AgreesWith}
+use Rattle.run_audit.specs.Steps.{planned_pieces}
 
--- what a client asked of a board, and what became of it
-abbrev pub part_at : List BoardRun → ℕ → ℕ → Option ClientPart
-part_at runs board client =
-    option_and_then (λ (run : BoardRun). slice_get run.parts client) (slice_get runs board)
+-- where the pieces of an operation stand that a client asks of this board, where the board is live
+abbrev pub sent_on : BoardRun → ℕ → ℕ → Option (List PieceAt)
+sent_on run client number = elim run.greeting as (λ _. Option (List PieceAt)) [
+  | greeting.Live payload ↦
+      option_and_then (λ (part : ClientPart). slice_get part.planned.pieces number) (slice_get run.parts client)
+  | greeting.Silent ↦ None
+  | greeting.Down ↦ None
+]
 
--- where the pieces of an operation of a client on a board stand, by its number
-abbrev pub pieces_in : List BoardRun → ℕ → ℕ → ℕ → List PieceAt
-pieces_in runs board client number =
-    option_map_or (λ (part : ClientPart). unwrap_or (slice_get part.planned.pieces number) [])
-    (part_at runs board client) []
+-- the same by the runs of all boards
+abbrev pub sent_in : List BoardRun → AskedLine → Option (List PieceAt)
+sent_in runs asking =
+    option_and_then (λ (run : BoardRun). sent_on run asking.client asking.number)
+    (slice_get runs asking.ask.op.board)
+
+-- what an operation of these pieces came to, where its bodies ended so; without any it was not sent
+abbrev pub comes_to : List BodyEnd → RegOp → Option (List PieceAt) → OpResult
+comes_to ends op None = Unsent
+comes_to ends op (Some pieces) = op_result ends op pieces
 
 -- how the bodies of a client on a board ended, where nothing came late
 abbrev pub ends_in_time : ClientPart → List BodyEnd
@@ -35,7 +49,8 @@ abbrev pub ends_at : List (List (List BodyEnd)) → ℕ → ℕ → List BodyEnd
 ends_at ends board client = unwrap_or (slice_get (unwrap_or (slice_get ends board) []) client) []
 
 -- the line of an operation agrees with what it came to on these boards
-abbrev pub AgreesBy : ℕ → List BoardRun → AskedLine → OpResult → Type 0
-AgreesBy rounds runs asking came_to =
-    AgreesWith rounds (ends_at (map board_ends runs) asking.ask.op.board asking.client) asking.ask.op
-    (pieces_in runs asking.ask.op.board asking.client asking.number) came_to asking.shows.0
+abbrev pub AgreesBy : ℕ → List BoardRun → AskedLine → Type 0
+AgreesBy rounds runs asking =
+    let ends = ends_at (map board_ends runs) asking.ask.op.board asking.client in
+    AgreesWith rounds ends asking.ask.op (planned_pieces (plans_in runs) asking)
+    (comes_to ends asking.ask.op (sent_in runs asking)) asking.shows.0

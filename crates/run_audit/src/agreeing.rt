@@ -1,6 +1,7 @@
 //! Whether a result that a line shows agrees with what its operation came to in the replay.
 
-ghost use Rattle.std.specs.Prelude.{◌≡◌, ◌↔◌, IfOk, IsTrue, None, [], map, slice_get};
+ghost use Rattle.std.specs.Prelude.{◌≡◌, ◌↔◌, ◌++◌, IfOk, IfSome, IsTrue, None, OnOk, [], false, map, option_map, slice_get};
+ghost use Rattle.std.specs.List.{flat_map};
 ghost use Rattle.masked_fields.specs.Field.{field};
 ghost use Rattle.transaction_codec.specs.Request.{SpellsRequests};
 ghost use Rattle.reply_join.specs.ByWords.{answers};
@@ -41,41 +42,51 @@ pub(crate) fn fate_in(told: &OpResult) -> Fate
     }
 }
 
-/// Whether the operation came to these words.
-fn is_value(came_to: &OpResult, words: &Words) -> bool
-    ensures { IsTrue result ↔ (came_to.now ≡ result_of.Value words.now) }
+/// Whether a result shows these words.
+fn is_value(told: &OpResult, words: &[u32]) -> bool
+    ensures { IsTrue result ↔ (told.now ≡ result_of.Value words.now) }
 {
-    match came_to {
-        OpResult::Value(others) => others == words,
+    match told {
+        OpResult::Value(others) => others.as_slice() == words,
         _ => false,
     }
 }
 
-/// Whether it was done, with nothing to show.
-fn is_done(came_to: &OpResult) -> bool
-    ensures { IsTrue result ↔ (came_to.now ≡ result_of.Done) }
+/// Whether it shows the fields of words under a mask.
+fn is_field_value(told: &OpResult, words: &[u32], mask: u32) -> bool
+    ensures { IsTrue result ↔ (told.now ≡ result_of.Value (map (λ word. field word mask) words.now)) }
 {
-    match came_to {
+    match told {
+        OpResult::Value(others) => are_fields(others.as_slice(), words, mask),
+        _ => false,
+    }
+}
+
+/// Whether it shows that the operation was done, and nothing else.
+fn is_done(told: &OpResult) -> bool
+    ensures { IsTrue result ↔ (told.now ≡ result_of.Done) }
+{
+    match told {
         OpResult::Done => true,
         _ => false,
     }
 }
 
-/// Whether it came to this word before.
-fn is_was(came_to: &OpResult, word: u32) -> bool
-    ensures { IsTrue result ↔ (came_to.now ≡ result_of.Was word) }
+/// Whether it shows this word as the one before.
+fn is_was(told: &OpResult, word: u32) -> bool
+    ensures { IsTrue result ↔ (told.now ≡ result_of.Was word) }
 {
-    match came_to {
+    match told {
         OpResult::Was(other) => *other == word,
         _ => false,
     }
 }
 
-/// Whether it came to this info code after so many words.
-fn is_error(came_to: &OpResult, code: u8, after: u8) -> bool
-    ensures { IsTrue result ↔ (came_to.now ≡ result_of.Error code after) }
+/// Whether it shows this info code after so many words.
+fn is_error(told: &OpResult, code: u8, after: u8) -> bool
+    ensures { IsTrue result ↔ (told.now ≡ result_of.Error code after) }
 {
-    match came_to {
+    match told {
         OpResult::Error {
             code: other,
             after: words,
@@ -84,13 +95,37 @@ fn is_error(came_to: &OpResult, code: u8, after: u8) -> bool
     }
 }
 
-/// Whether it was not executed, since an earlier transaction of its body failed.
-fn is_skipped(came_to: &OpResult) -> bool
-    ensures { IsTrue result ↔ (came_to.now ≡ result_of.Skipped) }
+/// Whether it shows that the operation was not executed, since an earlier transaction of its body failed.
+fn is_skipped(told: &OpResult) -> bool
+    ensures { IsTrue result ↔ (told.now ≡ result_of.Skipped) }
 {
-    match came_to {
+    match told {
         OpResult::Skipped => true,
         _ => false,
+    }
+}
+
+/// Whether it shows the first of some words as the one before a read-modify-write.
+fn is_word_before(told: &OpResult, words: &[u32]) -> bool
+    requires { spec.IsAnswer told.now }
+    ensures { IsTrue result ↔ (told.now ≡ results_spec.word_before words.now) }
+{
+    let [word, ..] = words else {
+        return false;
+    };
+    is_was(told, *word)
+}
+
+/// Whether a result that a reply tells is what an operation that was done shows of the words that its pieces gave.
+fn is_shown(op: &RegOp, words: &[u32], told: &OpResult) -> bool
+    requires { spec.IsAnswer told.now }
+    ensures { IsTrue result ↔ (told.now ≡ results_spec.shown op.now.verb op.now.mask words.now) }
+{
+    match op.verb {
+        Verb::Read => is_field_value(told, words, op.mask),
+        Verb::Write | Verb::WriteBlock => is_done(told),
+        Verb::ReadBlock => is_value(told, words),
+        Verb::RmwBits | Verb::RmwSum => is_word_before(told, words),
     }
 }
 
@@ -262,7 +297,12 @@ fn answers_one(ends: &[BodyEnd], op: &RegOp, pieces: &[PieceAt], answer: &LateAn
 }
 
 /// Whether an answer that came late is one that the replay gives.
-fn is_late_answer(ends: &[BodyEnd], op: &RegOp, pieces: &[PieceAt], answer: &LateAnswer) -> bool
+pub(crate) fn is_late_answer(
+    ends: &[BodyEnd],
+    op: &RegOp,
+    pieces: &[PieceAt],
+    answer: &LateAnswer,
+) -> bool
     requires { spec.HaveNoLate ends.now }
     ensures { IsTrue result ↔ IsLateAnswer ends.now op.now pieces.now answer.now }
 {
@@ -272,32 +312,85 @@ fn is_late_answer(ends: &[BodyEnd], op: &RegOp, pieces: &[PieceAt], answer: &Lat
     answers_one(ends, op, pieces, answer)
 }
 
-/// Whether a result that is shown agrees with what the operation came to in the replay.
-pub(crate) fn agrees(
-    rounds: u8,
+/// The words that a piece gave; none where it was not done.
+fn values_of(ends: &[BodyEnd], piece: PieceAt) -> &[u32]
+    ensures { result.now ≡ results_spec.values_in (ends_spec.piece_result ends.now piece) }
+{
+    let Some(end) = ends.get(piece.body) else {
+        return &[];
+    };
+    let Told::Answered(answers) = &end.told else {
+        return &[];
+    };
+    match answers.as_slice().get(piece.index as usize) {
+        Some(Answer::Values(words)) => words.as_slice(),
+        _ => &[],
+    }
+}
+
+/// Adds the words that pieces gave.
+fn push_values(words: &mut Vec<u32>, ends: &[BodyEnd], pieces: &[PieceAt]) -> Result<(), NoMemory>
+    ensures { OnOk result (words.new.items ≡ words.old.items
+        ++ flat_map results_spec.values_in (map (ends_spec.piece_result ends.now) pieces.now)) }
+{
+    for piece in pieces {
+        words.extend_from_slice(values_of(ends, *piece))?;
+    }
+    Ok(())
+}
+
+/// The first of these pieces that was not done.
+fn first_not_done(ends: &[BodyEnd], pieces: &[PieceAt]) -> Option<PieceAt>
+    ensures first { results_spec.first_not_done (map (ends_spec.piece_result ends.now) pieces.now)
+        ≡ option_map (ends_spec.piece_result ends.now) result }
+    ensures not_done { IfSome result (λ piece.
+        results_spec.is_good (ends_spec.piece_result ends.now piece) ≡ false) }
+{
+    for piece in pieces {
+        if !is_piece_done(ends, *piece) {
+            return Some(*piece);
+        }
+    }
+    None
+}
+
+/// Whether a result that a reply tells is what became of a piece that was not done.
+fn is_fault_of(ends: &[BodyEnd], piece: PieceAt, told: &OpResult) -> bool
+    requires answer { spec.IsAnswer told.now }
+    requires not_done { results_spec.is_good (ends_spec.piece_result ends.now piece) ≡ false }
+    ensures { IsTrue result ↔ (told.now ≡ ends_spec.piece_result ends.now piece) }
+{
+    let Some(end) = ends.get(piece.body) else {
+        return false;
+    };
+    let Told::Answered(answers) = &end.told else {
+        return false;
+    };
+    match answers.as_slice().get(piece.index as usize) {
+        Some(Answer::Fault { code, after }) => is_error(told, *code, *after),
+        Some(Answer::Skipped) => is_skipped(told),
+        _ => false,
+    }
+}
+
+/// Whether a result that a reply tells is what an operation of these pieces came to. The words that they gave are put
+/// into `words`, which serves many operations.
+pub(crate) fn came_to(
+    words: &mut Vec<u32>,
     ends: &[BodyEnd],
     op: &RegOp,
     pieces: &[PieceAt],
-    came_to: &OpResult,
     told: &OpResult,
-) -> bool
-    requires { spec.HaveNoLate ends.now }
-    ensures { IsTrue result ↔ spec.AgreesWith rounds ends.now op.now pieces.now came_to.now told.now }
+) -> Result<bool, NoMemory>
+    requires { spec.IsAnswer told.now }
+    ensures { IfOk result (λ is. IsTrue is ↔ (told.now ≡ results_spec.op_result ends.now op.now pieces.now)) }
 {
-    match told {
-        OpResult::Value(words) => is_value(came_to, words),
-        OpResult::Done => is_done(came_to),
-        OpResult::Was(word) => is_was(came_to, *word),
-        OpResult::Error { code, after } => is_error(came_to, *code, *after),
-        OpResult::Skipped => is_skipped(came_to),
-        OpResult::TimedOut { rounds: other } => *other == rounds,
-        OpResult::Late {
-            rounds: other,
-            answer,
-        } => *other == rounds && is_late_answer(ends, op, pieces, answer),
-        OpResult::Unsent | OpResult::LinkLost | OpResult::Denied { .. } => true,
-        OpResult::Garbled => false,
+    if let Some(piece) = first_not_done(ends, pieces) {
+        return Ok(is_fault_of(ends, piece, told));
     }
+    words.clear();
+    push_values(words, ends, pieces)?;
+    Ok(is_shown(op, words.as_slice(), told))
 }
 
 /// The answers to the transactions of a body that these words tell; none where they are no reply to it.

@@ -1,19 +1,19 @@
 //! Lines that tell different things of one body.
 
-ghost use Rattle.std.specs.Prelude.{◌≡◌, ◌≢◌, [], IfOk, MatchOption, OnOk, Some, map, slice_get, unwrap_or};
-ghost use Rattle.script_plans.specs.Plan.{no_bodies};
+ghost use Rattle.std.specs.Prelude.{◌≡◌, ◌≢◌, IfOk, OnOk, Some, map, unwrap_or};
 ghost use Rattle.transcript_reader.specs.declared.shown.Shown.{Shown};
 ghost use Rattle.run_audit.specs.Agreeing.{IsApartAt};
 ghost use Rattle.run_audit.specs.Apart as spec;
 ghost use Rattle.run_audit.specs.Replaying.{AreReplayed};
-ghost use Rattle.run_audit.specs.Steps.{IsFirstBroken, asking, plan_at, planned_pieces};
+ghost use Rattle.run_audit.specs.Steps.{IsFirstBroken, asking};
 
 use crate::agreeing::fate_in;
 use crate::asking::AskedOp;
 use crate::fate::Fate;
+use crate::run_pieces::pieces_in;
 use ipb_base::NoMemory;
 use script_lang::Session;
-use script_plans::{BoardRun, PieceAt, Planned};
+use script_plans::BoardRun;
 use script_steps::Steps;
 use std::alloc::Global;
 use std::collections::BTreeMap;
@@ -23,39 +23,6 @@ type BodyAt = (u32, usize, usize);
 
 /// What was told first of bodies.
 type Fates = BTreeMap<BodyAt, Fate>;
-
-/// What a client asked of a board; none where one of them is not there.
-fn planned_at(runs: &[BoardRun], board: usize, client: usize) -> Option<&Planned>
-    ensures { MatchOption result (plan_at (spec.plans_in runs.now) board client ≡ no_bodies)
-        (λ planned. plan_at (spec.plans_in runs.now) board client ≡ planned.now) }
-{
-    let run = runs.get(board)?;
-    let part = run.parts.as_slice().get(client)?;
-    Some(&part.planned)
-}
-
-/// Where the pieces of an operation that no rule denies stand in the bodies of its client on its board.
-fn pieces_of(runs: &[BoardRun], board: usize, client: usize, number: usize) -> &[PieceAt]
-    ensures { result.now ≡ unwrap_or (slice_get (plan_at (spec.plans_in runs.now) board client).pieces number) [] }
-{
-    let Some(planned) = planned_at(runs, board, client) else {
-        return &[];
-    };
-    match planned.pieces(number) {
-        Some(pieces) => pieces,
-        None => &[],
-    }
-}
-
-/// Where the pieces of an operation stand in the bodies of its client on its board; one that is denied has none.
-fn pieces_in<'a>(runs: &'a [BoardRun], asked: &AskedOp) -> &'a [PieceAt]
-    ensures { result.now ≡ planned_pieces (spec.plans_in runs.now) (asking asked.now) }
-{
-    match asked.denied {
-        Some(_) => &[],
-        None => pieces_of(runs, asked.op.board as usize, asked.client, asked.number),
-    }
-}
 
 /// The body of an operation that has one piece.
 fn body_in(runs: &[BoardRun], asked: &AskedOp) -> Option<BodyAt>

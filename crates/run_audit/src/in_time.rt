@@ -2,6 +2,8 @@
 
 ghost use Rattle.std.specs.Prelude.{◌≡◌, ◌⊎◌, ◌&&◌, ◌==◌, ℕ, IfOk, IfSome, List, None, is_none, option_map};
 ghost use Rattle.std.specs.Prelude.{MatchOption, position, slice_get};
+ghost use Rattle.std.specs.List.{flat_map};
+ghost use Rattle.transcript.specs.Lines.{lines_from};
 ghost use Rattle.transcript.specs.declared.line.OpLine.{OpLine as LineValue};
 ghost use Rattle.transcript.specs.declared.line.OpResult.{OpResult as ResultValue};
 ghost use Rattle.transcript_reader.specs.declared.shown.Shown.{Shown as ShownValue};
@@ -14,12 +16,12 @@ ghost use Rattle.run_audit.specs.Verdicts.{CanBeAudited};
 use crate::asking::{AskedOp, asked_ops};
 use crate::plans::plans_of;
 use crate::replaying::replayed_runs;
-use crate::unreplayed::replayed_lines;
 use ipb_base::NoMemory;
 use script_lang::Session;
+use script_plans::BoardRun;
 use script_steps::Steps;
 use std::alloc::Global;
-use transcript::{OpLine, OpResult};
+use transcript::{OpLine, OpResult, client_lines};
 use transcript_reader::{Shown, Unshown, read_transcript};
 
 /// Where the operation of a line stands, if no rule denies it.
@@ -29,6 +31,23 @@ fn allowed_at(asked: &[AskedOp], line: u32) -> Option<usize>
     asked
         .iter()
         .position(|op| op.line == line && op.denied.is_none())
+}
+
+/// The lines that the clients would show, had the boards replied in time, one client behind the other.
+fn replayed_lines(
+    alloc: Global,
+    runs: &[BoardRun],
+    scripts: &[Steps],
+) -> Result<Vec<OpLine>, NoMemory>
+    ensures { IfOk result (λ all.
+        all.items ≡ flat_map (λ lines. lines) (lines_from runs.now 0 scripts.now)) }
+{
+    let mut all = Vec::new(alloc);
+    for (client, steps) in scripts.iter().enumerate() {
+        let mut lines = client_lines(alloc, runs, client, steps.as_slice())?;
+        all.append(&mut lines)?;
+    }
+    Ok(all)
 }
 
 /// What the line at an index shows.

@@ -18,6 +18,7 @@ mod places;
 mod plans;
 mod replaying;
 mod results;
+mod run_pieces;
 mod unreplayed;
 mod verdict;
 

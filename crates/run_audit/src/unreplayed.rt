@@ -1,40 +1,22 @@
 //! Results that are not those of the replay.
 
-ghost use Rattle.std.specs.Prelude.{◌≡◌, ◌↔◌, IfOk, IsTrue, None, Some, [], MatchOption, map, slice_get, unwrap_or};
-ghost use Rattle.std.specs.List.{flat_map};
-ghost use Rattle.transcript.specs.Lines.{lines_from};
+ghost use Rattle.std.specs.Prelude.{◌≡◌, ◌↔◌, IfOk, IsTrue, [], map, slice_get, unwrap_or};
 ghost use Rattle.transcript_reader.specs.declared.shown.Shown.{Shown};
-ghost use Rattle.run_audit.specs.Agreeing.{HaveNoLate, IsUnreplayedAt};
+ghost use Rattle.run_audit.specs.Agreeing.{HaveNoLate, IsAnswer, IsUnreplayedAt};
 ghost use Rattle.run_audit.specs.Replaying.{AreReplayed};
 ghost use Rattle.run_audit.specs.Steps.{IsFirstBroken, asking};
 ghost use Rattle.run_audit.specs.Unreplayed as spec;
 
-use crate::agreeing::{agrees, ends_of};
+use crate::agreeing::{came_to, ends_of, is_late_answer};
 use crate::asking::AskedOp;
+use crate::run_pieces::{pieces_in, sent_pieces};
 use ipb_base::NoMemory;
 use script_lang::Session;
-use script_plans::{BoardRun, ClientPart, PieceAt};
+use script_plans::{BoardRun, ClientPart};
 use script_steps::Steps;
 use std::alloc::Global;
 use std::marker::Model;
-use transcript::{BodyEnd, OpLine, OpResult, client_lines};
-
-/// The lines that the clients would show, had the boards replied in time, one client behind the other.
-pub(crate) fn replayed_lines(
-    alloc: Global,
-    runs: &[BoardRun],
-    scripts: &[Steps],
-) -> Result<Vec<OpLine>, NoMemory>
-    ensures { IfOk result (λ all.
-        all.items ≡ flat_map (λ lines. lines) (lines_from runs.now 0 scripts.now)) }
-{
-    let mut all = Vec::new(alloc);
-    for (client, steps) in scripts.iter().enumerate() {
-        let mut lines = client_lines(alloc, runs, client, steps.as_slice())?;
-        all.append(&mut lines)?;
-    }
-    Ok(all)
-}
+use transcript::{BodyEnd, OpResult};
 
 /// How the bodies of a client on a board ended, none of them with a late answer. Contracts see that list.
 #[derive(Drop)]
@@ -134,43 +116,55 @@ fn ends_at<'a>(ends: &'a [BoardEnds], board: usize, client: usize) -> &'a [BodyE
     }
 }
 
-/// What a client asked of a board, and what became of it; none where one of them is not there.
-fn part_at<'a>(runs: &'a [BoardRun], board: usize, client: usize) -> Option<&'a ClientPart>
-    ensures { MatchOption result (spec.part_at runs.now board client ≡ None)
-        (λ part. spec.part_at runs.now board client ≡ Some part.now) }
+/// Whether the line of an operation shows what it came to on these boards, on which the bodies of its client ended so. A
+/// reply tells what it shows.
+fn shows_answer(
+    words: &mut Vec<u32>,
+    runs: &[BoardRun],
+    ends: &[BodyEnd],
+    ask: &AskedOp,
+) -> Result<bool, NoMemory>
+    requires { IsAnswer (asking ask.now).shows.0 }
+    ensures { IfOk result (λ is. IsTrue is ↔ ((asking ask.now).shows.0
+        ≡ spec.comes_to ends.now ask.now.op.now (spec.sent_in runs.now (asking ask.now)))) }
 {
-    runs.get(board)?.parts.as_slice().get(client)
-}
-
-/// Where the pieces of an operation of a client on a board stand, by its number.
-fn pieces_in<'a>(runs: &'a [BoardRun], board: usize, client: usize, number: usize) -> &'a [PieceAt]
-    ensures { result.now ≡ spec.pieces_in runs.now board client number }
-{
-    let Some(part) = part_at(runs, board, client) else {
-        return &[];
+    let Some(pieces) = sent_pieces(runs, ask) else {
+        return Ok(false);
     };
-    match part.planned.pieces(number) {
-        Some(pieces) => pieces,
-        None => &[],
-    }
+    let shown = ask.shown;
+    came_to(words, ends, ask.op, pieces, &shown.result)
 }
 
 /// Whether the line of an operation agrees with what it came to on these boards, on which the bodies ended so.
 fn is_replayed(
+    words: &mut Vec<u32>,
     rounds: u8,
     runs: &[BoardRun],
     ends: &[BoardEnds],
     ask: &AskedOp,
-    came_to: &OpResult,
-) -> bool
+) -> Result<bool, NoMemory>
     requires { ends.now ≡ map spec.board_ends runs.now }
-    ensures { IsTrue result ↔ spec.AgreesBy rounds runs.now (asking ask.now) came_to.now }
+    ensures { IfOk result (λ is. IsTrue is ↔ spec.AgreesBy rounds runs.now (asking ask.now)) }
 {
-    let board = ask.op.board as usize;
-    let bodies = ends_at(ends, board, ask.client);
-    let pieces = pieces_in(runs, board, ask.client, ask.number);
+    let bodies = ends_at(ends, ask.op.board as usize, ask.client);
     let shown = ask.shown;
-    agrees(rounds, bodies, ask.op, pieces, came_to, &shown.result)
+    match &shown.result {
+        OpResult::Value(_)
+        | OpResult::Done
+        | OpResult::Was(_)
+        | OpResult::Error { .. }
+        | OpResult::Skipped => shows_answer(words, runs, bodies, ask),
+        OpResult::TimedOut { rounds: other } => Ok(*other == rounds),
+        OpResult::Late {
+            rounds: other,
+            answer,
+        } => {
+            let pieces = pieces_in(runs, ask);
+            Ok(*other == rounds && is_late_answer(bodies, ask.op, pieces, answer))
+        }
+        OpResult::Unsent | OpResult::LinkLost | OpResult::Denied { .. } => Ok(true),
+        OpResult::Garbled => Ok(false),
+    }
 }
 
 /// The first line whose result is not the one of the replay.
@@ -187,14 +181,10 @@ pub(crate) fn first_unreplayed(
         (map asking asked.now))) }
 {
     let rounds = session.settings.rounds();
-    let lines = replayed_lines(alloc, runs, scripts)?;
     let ends = ends_of_boards(alloc, runs)?;
-    for (i, ask) in asked.iter().enumerate() {
-        // Each operation has a line in the replay, so this one is there.
-        let Some(line) = lines.get(i) else {
-            return Ok(None);
-        };
-        if !is_replayed(rounds, runs, ends.as_slice(), ask, &line.result) {
+    let mut words = Vec::new(alloc);
+    for ask in asked {
+        if !is_replayed(&mut words, rounds, runs, ends.as_slice(), ask)? {
             return Ok(Some(ask.line));
         }
     }

@@ -1,7 +1,7 @@
 use Rattle.std.proofs.Common.{◌≡◌, ◌++◌, drop}
 use Rattle.std.specs.List.{flat_map}
 use Rattle.transcript.specs.Lines.{lines_from}
-use Rattle.run_audit.proofs.unreplayed.replayed_lines.Given as goal
+use Rattle.run_audit.proofs.in_time.replayed_lines.Given as goal
 
 -- the clients so far, and those that are left
 abbrev pub invariant-loop-client : goal.invariant-loop-client
