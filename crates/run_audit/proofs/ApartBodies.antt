@@ -1,11 +1,12 @@
 -- Bodies as keys, and the bodies of operations by the runs of boards.
-use Rattle.std.proofs.Common.{◌≡◌, ◌≢◌, ◌⊎◌, ℕ, ◌+◌, true, false, List, [], ◌∷◌, map, Some}
+use Rattle.std.proofs.Common.{◌≡◌, ◌≢◌, ◌⊎◌, ℕ, ◌+◌, ◌==◌, Bool, true, false, List, [], ◌∷◌, map, Some}
 use Rattle.std.proofs.Common.{refl, sym, ap, ◌∙◌, inl, inr}
+use Rattle.std.specs.Prelude.{◌&&◌}
 use Rattle.std.specs.Ordering.{is_eq, nat_cmp, ordering_then}
 use Rattle.std.specs.BTreeMap.{is_at}
 use Rattle.std.specs.declared.cmp.Ordering.{Ordering}
 use Rattle.std.specs.declared.cmp.Ordering.TheVariants.{Less, Equal, Greater}
-use Rattle.std.proofs.lemmas.Bool.{cases_eq, false_from_ne_true, false≢true}
+use Rattle.std.proofs.lemmas.Bool.{cases_eq, eqb-true, false_from_ne_true, false≢true}
 use Rattle.std.proofs.lemmas.Map.Lookups.{exact_unsigned}
 use Rattle.std.proofs.lemmas.Option.{same_Some}
 use Rattle.board_bus.specs.Cells.{CellMap}
@@ -49,6 +50,21 @@ pub other_key : (body other : Body) → other ≢ body → is_at (body_cmp body)
 other_key body other apart =
     false_from_ne_true (is_eq (body_cmp body other))
     (λ holds. apart (sym (exact body other (is_equal (body_cmp body other) holds))))
+
+both_true : (a b : Bool) → (a && b) ≡ true → (a ≡ true) × (b ≡ true)
+both_true true b both = (refl, both)
+both_true false b both = absurd (false≢true both)
+
+-- bodies are one where their parts are
+pub same_key : (one other : Body) → (((one.0 == other.0) && (one.1 == other.1)) && (one.2 == other.2)) ≡ true
+    → one ≡ other
+same_key (board, client, body) (board', client', body') all =
+    let outer = both_true ((board == board') && (client == client')) (body == body') all in
+    let inner = both_true (board == board') (client == client') outer.0 in
+    let boards : board ≡ board' = eqb-true board board' inner.0 in
+    let clients : client ≡ client' = eqb-true client client' inner.1 in
+    let bodies : body ≡ body' = eqb-true body body' outer.1 in
+    cc
 
 pub cases_body : (one other : Body) → (one ≡ other) ⊎ (one ≢ other)
 cases_body (board, client, body) (board', client', body') =

@@ -1,6 +1,7 @@
 //! Lines that tell different things of one body.
 
 ghost use Rattle.std.specs.Prelude.{◌≡◌, ◌≢◌, IfOk, OnOk, Some, map, unwrap_or};
+ghost use Rattle.std.specs.Option.{ForSome};
 ghost use Rattle.transcript_reader.specs.declared.shown.Shown.{Shown};
 ghost use Rattle.run_audit.specs.Agreeing.{IsApartAt};
 ghost use Rattle.run_audit.specs.Apart as spec;
@@ -34,13 +35,25 @@ fn body_in(runs: &[BoardRun], asked: &AskedOp) -> Option<BodyAt>
     }
 }
 
-/// What was told first of a body: this, where nothing was told of it before.
-fn first_told(told: &mut Fates, body: BodyAt, fate: Fate) -> Result<Fate, NoMemory>
+/// What was told first of a body: this, where nothing was told of it before. `last` is a body with what was told of it.
+fn first_told(
+    told: &mut Fates,
+    last: Option<(BodyAt, Fate)>,
+    body: BodyAt,
+    fate: Fate,
+) -> Result<Fate, NoMemory>
+    requires { ForSome last (λ last. spec.fate_of told.old last.0 ≡ Some last.1) }
     ensures first { IfOk result (λ first. first ≡ unwrap_or (spec.fate_of told.old body) fate) }
     ensures here { IfOk result (λ first. spec.fate_of told.new body ≡ Some first) }
     ensures others { OnOk result ((other : spec.Body) → other ≢ body →
         spec.fate_of told.new other ≡ spec.fate_of told.old other) }
 {
+    // operations of one body mostly stand one behind the other
+    if let Some((known, first)) = last
+        && known == body
+    {
+        return Ok(first);
+    }
     if let Some(first) = told.get(&body) {
         return Ok(*first);
     }
@@ -61,15 +74,17 @@ pub(crate) fn first_apart(
         IfOk result (IsFirstBroken (IsApartAt session.now.boards scripts.now (map asking asked.now))) }
 {
     let mut told = BTreeMap::new(alloc);
+    let mut last = None;
     for ask in asked {
         let Some(body) = body_in(runs, ask) else {
             continue;
         };
         let shown = ask.shown;
         let fate = fate_in(&shown.result);
-        if first_told(&mut told, body, fate)? != fate {
+        if first_told(&mut told, last, body, fate)? != fate {
             return Ok(Some(ask.line));
         }
+        last = Some((body, fate));
     }
     Ok(None)
 }

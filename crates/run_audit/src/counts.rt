@@ -8,7 +8,7 @@ ghost use Rattle.run_audit.specs.Counts.{IsMiscounted, IsMiscountedAt, distinct}
 ghost use Rattle.run_audit.specs.Steps.{AreOf, IsFirstBroken, asking, place_of, seen};
 
 use crate::asking::AskedOp;
-use crate::places::{PieceShown, shown_pieces};
+use crate::places::{PieceShown, shown_pieces, take_place};
 use crate::plans::BoardPlans;
 use ipb_base::NoMemory;
 use script_steps::{Step, Steps};
@@ -49,8 +49,10 @@ fn distinct_places(alloc: Global, pieces: &[PieceShown]) -> Result<usize, NoMemo
     ensures { IfOk result (λ count. count ≡ distinct (map place_of (map seen pieces.now))) }
 {
     let mut places = BTreeSet::new(alloc);
+    let mut last = None;
     for piece in pieces {
-        places.insert(piece.place)?;
+        take_place(&mut places, last, piece)?;
+        last = Some(*piece);
     }
     Ok(places.len())
 }

@@ -1,6 +1,10 @@
 //! The places that lines show.
 
-ghost use Rattle.std.specs.Prelude.{◌≡◌, ◌≢◌, ◌++◌, ◌<◌, ◌↔◌, [], IfOk, IsTrue, List, OnOk, length, map, option_map};
+ghost use Rattle.std.specs.Prelude.{◌≡◌, ◌≢◌, ◌++◌, ◌+◌, ◌<◌, ◌↔◌, ◌==◌, ◌||◌, ℕ, if◌then◌else◌, true, [], IfOk, IsTrue, List};
+ghost use Rattle.std.specs.Prelude.{OnOk, length, map, option_map};
+ghost use Rattle.std.specs.BTreeSet.{btree_set_len, contains};
+ghost use Rattle.std.specs.Option.{ForSome};
+ghost use Rattle.std.specs.Ordering.{nat_cmp};
 ghost use Rattle.board_node.specs.declared.spec.BoardSpec.{BoardSpec};
 ghost use Rattle.script_plans.specs.Claims.{Rises};
 ghost use Rattle.script_steps.specs.declared.operation.Step.{Step};
@@ -130,6 +134,27 @@ fn disagrees(last: Option<PieceShown>, is_taken: bool, piece: &PieceShown) -> bo
     }
 }
 
+/// Puts the place of a piece among those of the pieces before it, of which `last` is the last. Answers whether it was
+/// there.
+pub(crate) fn take_place(
+    taken: &mut BTreeSet<u64>,
+    last: Option<PieceShown>,
+    piece: &PieceShown,
+) -> Result<bool, NoMemory>
+    requires { ForSome last (λ last. contains nat_cmp taken.old last.place ≡ true) }
+    ensures was { IfOk result (λ was. was ≡ contains nat_cmp taken.old piece.now.place) }
+    ensures places { OnOk result ((place : ℕ) → contains nat_cmp taken.new place
+        ≡ (contains nat_cmp taken.old place || (place == piece.now.place))) }
+    ensures count { IfOk result (λ was. btree_set_len taken.new
+        ≡ (if was then btree_set_len taken.old else btree_set_len taken.old + 1)) }
+{
+    match last {
+        // the pieces of one body are shown one behind the other
+        Some(last) if last.place == piece.place => Ok(true),
+        _ => Ok(!taken.insert(piece.place)?),
+    }
+}
+
 /// The first line at which some of these pieces of a board, as the text shows them, is misplaced, or disagrees with one
 /// that is shown before it.
 fn first_misplaced_of(
@@ -143,7 +168,7 @@ fn first_misplaced_of(
     let mut taken = BTreeSet::new(alloc);
     let mut last = None;
     for piece in pieces {
-        let is_taken = !taken.insert(piece.place)?;
+        let is_taken = take_place(&mut taken, last, piece)?;
         if is_misplaced(sent, piece) || disagrees(last, is_taken, piece) {
             return Ok(Some(piece.line));
         }

@@ -1,8 +1,11 @@
 -- Texts cut into lines.
 use Rattle.std.proofs.Common.{◌≡◌, ◌≢◌, ℕ, zero, suc, ◌+◌, ◌-◌, ◌<◌, List, [], ◌∷◌, ◌++◌, length, get_or, take, drop, nat_eq}
-use Rattle.std.proofs.Common.{refl, sym, ap, ◌∙◌, Bool, true, false, arith, add-one, length-drop}
+use Rattle.std.proofs.Common.{refl, sym, ap, ◌∙◌, Bool, true, false, arith, add-one, length-drop, Option, Some, None}
+use Rattle.std.specs.Prelude.{MatchOption}
+use Rattle.std.proofs.lemmas.Bool.{eqb-true}
 use Rattle.std.proofs.lemmas.Bool.Decides.{nat_tests}
 use Rattle.std.proofs.lemmas.List.{take_all}
+use Rattle.memchr.specs.Find.{IsFirstByte, is_byte}
 use Rattle.transcript_reader.specs.Entries.{lines_of, onto_first}
 use Rattle.transcript_reader.specs.Walks.{IsFirstFeed}
 
@@ -11,6 +14,16 @@ is_feed b e = grind (arith, nat_tests)
 
 is_no_feed : (b : ℕ) → b ≢ 10 → nat_eq b 10 ≡ false
 is_no_feed b e = grind (arith, nat_tests)
+
+-- the first line feed is the first byte that is one
+pub feed_is : (text : List ℕ) (found : Option ℕ) → IsFirstByte (is_byte 10) text found
+    → MatchOption found ((k : ℕ) → k < length text → get_or text k 0 ≢ 10) (IsFirstFeed text)
+feed_is text None none = λ k less e. none k (omega arith) less (is_feed (get_or text k 0) e)
+feed_is text (Some end) (first, here) = record {
+  within = first.high;
+  feed = eqb-true (get_or text end 0) 10 here;
+  before = λ k less e. first.before k (omega arith) less (is_feed (get_or text k 0) e);
+}
 
 cut_at : (text : List ℕ) (end : ℕ) → end < length text → get_or text end 0 ≡ 10
     → ((k : ℕ) → k < end → get_or text k 0 ≢ 10)

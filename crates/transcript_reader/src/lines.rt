@@ -4,16 +4,13 @@ ghost use Rattle.std.specs.Prelude.{◌≡◌, ◌≢◌, ℕ, ◌<◌, [], ◌�
 ghost use Rattle.transcript_reader.specs.Entries.{lines_of};
 ghost use Rattle.transcript_reader.specs.Walks.{IsFirstFeed};
 
+use memchr::memchr;
+
 /// Where the first line feed of a text stands.
 fn first_feed(text: &[u8]) -> Option<usize>
     ensures { MatchOption result ((k : ℕ) → k < length text.now → slice_index text.now k ≢ 10) (IsFirstFeed text.now) }
 {
-    for (i, byte) in text.iter().enumerate() {
-        if *byte == b'\n' {
-            return Some(i);
-        }
-    }
-    None
+    memchr(b'\n', text)
 }
 
 /// The first line of a text, and the text behind it.

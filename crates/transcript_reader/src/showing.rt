@@ -230,14 +230,16 @@ fn read_places(alloc: Global, text: &[u8]) -> Result<Option<LinePlaces>, NoMemor
     ensures read { IfOk result (λ found. Finds (λ places. places) found
         (spec.places_of (front.behind (codes " @") text.now))) }
 {
-    let mut places = Vec::new(alloc);
-    if let Some(rest) = behind(b" @", text) {
-        let Some((first, rest)) = read_place(rest) else {
-            return Ok(None);
-        };
-        places.push(first)?;
-        read_more_places(&mut places, rest)?;
-    }
+    let Some(rest) = behind(b" @", text) else {
+        return Ok(Some(LinePlaces::from_vec(Vec::new(alloc))));
+    };
+    let Some((first, rest)) = read_place(rest) else {
+        return Ok(None);
+    };
+    // most operations have one place
+    let mut places = Vec::with_capacity(alloc, 1)?;
+    places.push(first)?;
+    read_more_places(&mut places, rest)?;
     Ok(Some(LinePlaces::from_vec(places)))
 }
 

@@ -1,12 +1,14 @@
-use Rattle.std.proofs.Common.{◌≡◌, ◌++◌, ◌∷◌, [], ◌+◌, ◌||◌, ◌==◌, Some, get_or, map, not, option_map, sym, ap, ◌∙◌, cond}
+use Rattle.std.proofs.Common.{◌≡◌, ◌++◌, ◌∷◌, [], ◌+◌, ◌||◌, ◌==◌, Some, get_or, map, option_map, sym, ap, ◌∙◌, cond}
 use Rattle.std.proofs.Common.{take}
+use Rattle.std.specs.BTreeSet.{btree_set_len, contains}
 use Rattle.std.specs.List.{slice_get}
+use Rattle.std.specs.Ordering.{nat_cmp}
 use Rattle.std.proofs.lemmas.Option.{slice_get-map}
 use Rattle.run_audit.specs.declared.places.PieceShown.{PieceShown}
 use Rattle.run_audit.specs.Counts.{distinct}
 use Rattle.run_audit.specs.Steps.{place_of, seen}
 use Rattle.run_audit.proofs.Distinct.{among_push, distinct_push, is_among}
-use Rattle.run_audit.proofs.Keys.{key_more, length_more}
+use Rattle.run_audit.proofs.Keys.{last_there}
 use Rattle.run_audit.proofs.Misplacing.{read_mapped, take_next}
 use Rattle.run_audit.proofs.counts.distinct_places.Goals as goal
 
@@ -24,14 +26,17 @@ loop-piece-preserved c =
     slice_get-map place_of pieces i
     ∙ ap (option_map place_of) (read_mapped seen c.args.pieces.now i nothing c.loop-piece-test.true) in
     let next : take (i + 1) places ≡ take i places ++ place ∷ [] = take_next places i place at in
+    let was = c.in_ok-take_place.ensures.was ∙ c.loop-piece.invariant.places place in
     record {
+      last' = last_there (contains nat_cmp c.take_place.new.taken) _ (get_or c.args.pieces.now i nothing)
+          (c.in_ok-take_place.ensures.places place);
       places = λ other.
-          key_more place other _ _ (c.in_ok-insert.ensures.updates.0 other)
+          c.in_ok-take_place.ensures.places other
           ∙ (ap (λ b. b || (other == place)) (c.loop-piece.invariant.places other)
           ∙ (sym (among_push other place (take i places)) ∙ ap (is_among other) (sym next)));
       count =
-          let told = c.in_ok-insert.ensures.added ∙ ap not (c.loop-piece.invariant.places place) in
-          length_more _ _ c.in_ok-insert.field-0 (is_among place (take i places)) c.in_ok-insert.ensures.len told
+          c.in_ok-take_place.ensures.count
+          ∙ (ap (λ b. cond b (btree_set_len c.loop-piece.places) (btree_set_len c.loop-piece.places + 1)) was
           ∙ (ap (λ n. cond (is_among place (take i places)) n (n + 1)) c.loop-piece.invariant.count
-          ∙ (sym (distinct_push (take i places) place) ∙ ap distinct (sym next)));
+          ∙ (sym (distinct_push (take i places) place) ∙ ap distinct (sym next))));
     }

@@ -1,11 +1,13 @@
-use Rattle.std.proofs.Common.{◌≡◌, ◌||◌, ◌==◌, map, not, get_or, arith, sym, ap, ◌∙◌, inl, inr, Some, option_map}
+use Rattle.std.proofs.Common.{◌≡◌, ◌||◌, ◌==◌, map, get_or, arith, sym, ap, ◌∙◌, inl, inr, Some, option_map}
+use Rattle.std.specs.BTreeSet.{contains}
 use Rattle.std.specs.List.{slice_get}
+use Rattle.std.specs.Ordering.{nat_cmp}
 use Rattle.std.proofs.lemmas.Bool.{false≢true}
 use Rattle.std.proofs.lemmas.List.{length-map}
 use Rattle.run_audit.specs.declared.places.PieceShown.{PieceShown}
 use Rattle.run_audit.specs.Steps.{seen}
-use Rattle.run_audit.proofs.Keys.{key_more}
-use Rattle.run_audit.proofs.Misplacing.{not_not, place_more, placing_all, placing_found, placing_more, read_mapped}
+use Rattle.run_audit.proofs.Keys.{last_there}
+use Rattle.run_audit.proofs.Misplacing.{place_more, placing_all, placing_found, placing_more, read_mapped}
 use Rattle.run_audit.proofs.places.first_misplaced_of.Goals as goal
 use Rattle.run_audit.proofs.places.first_misplaced_of.Goals.{then-is_misplaced-via-then-is_misplaced}
 use Rattle.run_audit.proofs.places.first_misplaced_of.Goals.{then-is_misplaced-via-else-is_misplaced+then-disagrees}
@@ -20,8 +22,8 @@ returns-then-is_misplaced c = λ rises.
     let i = c.loop-piece.piece-index in
     let piece = seen (get_or c.args.pieces.now i nothing) in
     let at : slice_get pieces i ≡ Some piece = read_mapped seen c.args.pieces.now i nothing c.loop-piece-test.true in
-    let taken = (let h = c.in_ok-is_taken.ensures.added in ap not h ∙ (not_not _ ∙ c.loop-piece.invariant.places piece.place)) in
-    placing_found c.args.sent pieces i piece rises at (not c.in_ok-is_taken.field-0) taken
+    let taken = c.in_ok-is_taken.ensures.was ∙ c.loop-piece.invariant.places piece.place in
+    placing_found c.args.sent pieces i piece rises at c.in_ok-is_taken.is_taken taken
     (option_map seen c.loop-piece.last) (c.loop-piece.invariant.placing rises)
     (elim c.then-is_misplaced.branch [
       | then-is_misplaced-via-then-is_misplaced w ↦ inl (c.is_misplaced.ensures.0 w.if-is_misplaced.true)
@@ -36,14 +38,16 @@ loop-piece-preserved c =
     let i = c.loop-piece.piece-index in
     let piece = seen (get_or c.args.pieces.now i nothing) in
     let at : slice_get pieces i ≡ Some piece = read_mapped seen c.args.pieces.now i nothing c.loop-piece-test.true in
-    let taken = (let h = c.in_ok-is_taken.ensures.added in ap not h ∙ (not_not _ ∙ c.loop-piece.invariant.places piece.place)) in
+    let taken = c.in_ok-is_taken.ensures.was ∙ c.loop-piece.invariant.places piece.place in
     record {
-      placing = λ rises. placing_more c.args.sent pieces i piece rises at (not c.in_ok-is_taken.field-0) taken
+      placing = λ rises. placing_more c.args.sent pieces i piece rises at c.in_ok-is_taken.is_taken taken
           (option_map seen c.loop-piece.last) (c.loop-piece.invariant.placing rises)
           (λ wrong. false≢true (sym c.if-is_misplaced.false ∙ c.is_misplaced.ensures.1 wrong))
           (sym c.disagrees.ensures ∙ c.if-disagrees.false);
+      last' = last_there (contains nat_cmp c.take_place.new.taken) _ (get_or c.args.pieces.now i nothing)
+          (c.in_ok-is_taken.ensures.places piece.place);
       places = λ place.
-          key_more piece.place place _ _ (c.in_ok-is_taken.ensures.updates.0 place)
+          c.in_ok-is_taken.ensures.places place
           ∙ (ap (λ b. b || (place == piece.place)) (c.loop-piece.invariant.places place)
           ∙ sym (place_more place pieces i piece at));
     }

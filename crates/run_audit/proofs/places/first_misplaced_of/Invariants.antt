@@ -1,6 +1,6 @@
-use Rattle.std.proofs.Common.{◌≡◌, ℕ, map, take}
+use Rattle.std.proofs.Common.{◌≡◌, ℕ, map, take, true}
 use Rattle.std.specs.BTreeSet as tree
-use Rattle.std.specs.Option.{option_map}
+use Rattle.std.specs.Option.{ForSome, option_map}
 use Rattle.std.specs.Ordering.{nat_cmp}
 use Rattle.script_plans.specs.Claims.{Rises}
 use Rattle.run_audit.specs.Steps.{StandsBefore, seen}
@@ -12,6 +12,7 @@ abbrev pub invariant-loop-piece : goal.invariant-loop-piece
 invariant-loop-piece l = record {
   placing : Rises StandsBefore (map seen l.pieces)
       → IsPlacing l.sent (map seen l.pieces) l.piece-index (option_map seen l.last);
+  last' : ForSome l.last (λ last. tree.contains nat_cmp l.taken last.place ≡ true);
   places : (place : ℕ) → tree.contains nat_cmp l.taken place
       ≡ has_place place (take l.piece-index (map seen l.pieces));
 }
