@@ -33,6 +33,8 @@ NOT_AT_ONCE = {
     "a timeout that no line shows": [("replied 4 timeout 0", "replied 3 timeout 1")],
     "unsent with a place": [("= 0x00000002 @4.1", "unsent @4.1")],
     "more places": [("places 4 replied 4", "places 5 replied 5")],
+    "more places than memory holds": [("4 replied 4", "10000000000 replied 10000000000")],
+    "the most places": [("4 replied 4", f"{(1 << 64) - 1} replied {(1 << 64) - 1}")],
     "a silent board": [("places 4 replied 4 timeout 0 lost 0", "silent")],
     "a line of another register": [("read b0:a ", "read b0:a.top ")],
     "a line left out": [("2 read b0:a = 0x00000002 @3.1\n", "")],
