@@ -1,10 +1,11 @@
 """Cases of `audit`: the changed transcripts of this folder, the inputs that are refused, the transcripts that a number
-draws, and the longest inputs, which the second program answers too."""
+draws, and the longest inputs, which the second program answers too. What standard error says beside an answer of no
+stands in NAME.note, and of the others the forms of its lines are known."""
 import pathlib
 
 from model.audit import MOST_DOCUMENT, MOST_INPUT, YES, audit, audit_input, audit_told
 from model.drawn_transcripts import drawn_transcript
-from model.notes import NOTES, is_note_of
+from model.notes import NOTES, is_note_of, is_note_of_verdict
 from model.replay_cases import replay_faults
 
 HERE = pathlib.Path(__file__).resolve().parent
@@ -15,27 +16,26 @@ DRAWN = 2000
 LEAST_OF_EACH = 50
 # so many of these are replayed, too
 REPLAYED = 500
+RULES = ("Form", "Partial", "Place", "Result", "Count")
 # the refusals that the second program knows
 OF_SECOND = ("NoLength", "TooLong", "NotSim")
 # so many characters of what differs are shown
 MOST_SHOWN = 300
 
 
-def is_note(text, status, note):
-    """Whether something that may be said stands beside an answer: what an answer of no says is free."""
+def is_note(text, status, note, transcript):
+    """Whether what is said on standard error is that which belongs to an answer on this transcript."""
     if status == 3:
-        return is_note_of(text, note)
-    lines = note.decode().splitlines()
-    return note == NOTES[0] if status == 0 else all(line.startswith("ipbus: ") for line in lines)
+        return is_note_of(text.encode(), note)
+    return note == NOTES[0] if status == 0 else is_note_of_verdict(text, transcript, note)
 
 
-def faults_of(done, text):
+def faults_of(done, text, transcript=b""):
     """What is wrong where the program owes this text, which has its status."""
     status = 0 if text == YES else 3 if text.startswith("refused: ") else 1
-    faults = []
     if (done.stdout, done.returncode) != (text.encode(), status):
-        faults = [f"{done.stdout[:MOST_SHOWN]!r} with status {done.returncode}, wanted {text!r} with {status}"]
-    return faults if is_note(text.encode(), status, done.stderr) else [*faults, f"it says {done.stderr[:MOST_SHOWN]!r}"]
+        return [f"{done.stdout[:MOST_SHOWN]!r} with status {done.returncode}, wanted {text!r} with {status}"]
+    return [] if is_note(text, status, done.stderr, transcript) else [f"it says {done.stderr[:MOST_SHOWN]!r}"]
 
 
 def rows(folder, suffix):
@@ -54,13 +54,21 @@ def of_files(answer):
     given = audit_input(session.read_bytes(), session.with_suffix(".out").read_bytes())
     is_same = given == session.with_suffix(".input").read_bytes()
     yield "audit one_read.input", [] if is_same else ["it is not the session and what it prints"]
+    noted = set()
     for document in sorted(HERE.glob("*.toml")):
         data = document.read_bytes()
         for name, file, text in rows(document.with_suffix(""), ".transcript"):
-            given = audit_input(data, file.read_bytes())
-            yield f"audit {document.stem}/{name}", faults_of(answer(["audit"], given), text)
+            transcript, note = file.read_bytes(), file.with_suffix(".note")
+            given = audit_input(data, transcript)
+            done = answer(["audit"], given)
+            yield f"audit {document.stem}/{name}", faults_of(done, text, transcript)
             is_same = audit_told(given)[0] == text
             yield f"reference for audit {document.stem}/{name}", [] if is_same else ["it differs"]
+            if note.exists():
+                noted.add(text.split()[-1])
+                is_same = done.stderr == note.read_bytes()
+                yield f"note of audit {document.stem}/{name}", [] if is_same else [f"it is {done.stderr!r}"]
+    yield "rules with notes", [f"no {rule}" for rule in RULES if rule not in noted]
 
 
 def of_refused(answer):
@@ -90,7 +98,7 @@ def of_drawn(answer):
         document, session, text = drawn_transcript(number)
         wanted = audit(session, text)
         answers.append(wanted.split()[-1])
-        yield f"audit drawn {number}", faults_of(answer(["audit"], audit_input(document, text)), wanted)
+        yield f"audit drawn {number}", faults_of(answer(["audit"], audit_input(document, text)), wanted, text)
         if number < REPLAYED and answers[-1] not in ("yes", "Partial"):
             yield f"replay of audit drawn {number}", ["it is right"] if is_right_by_replay(session, text) else []
     for each in ("yes", "Form", "Partial", "Place", "Result", "Count"):
@@ -108,7 +116,7 @@ def of_the_longest(answer):
     rest = MOST_INPUT - len(audit_input(document, text))
     for name, behind in (("in one line", b"x" * rest), ("in many lines", b"\n" * rest)):
         given = audit_input(document, text + behind)
-        yield f"the longest audit {name}", faults_of(answer(["audit"], given), "audit no 4 Form\n")
+        yield f"the longest audit {name}", faults_of(answer(["audit"], given), "audit no 4 Form\n", text + behind)
         yield f"an audit of one byte more {name}", faults_of(answer(["audit"], given + b"\n"), too_long)
     yield "no length of one byte more", faults_of(answer(["audit"], b"x" * (MOST_INPUT + 1)), too_long)
 
@@ -118,13 +126,13 @@ def run_faults(answer, document, session, text):
     of its places alone, and it is that of the second program."""
     wanted = audit(session, text)
     is_of_run = wanted == YES or wanted.endswith(" Partial\n")
-    faults = faults_of(answer(["audit"], audit_input(document, text)), wanted)
+    faults = faults_of(answer(["audit"], audit_input(document, text)), wanted, text)
     return faults if is_of_run else [*faults, f"the second program says {wanted!r}"]
 
 
 def whole_faults(answer, document, text):
     """What is wrong with the audit of a transcript in which no place of an operation is missing: it is yes."""
-    return faults_of(answer(["audit"], audit_input(document, text)), YES)
+    return faults_of(answer(["audit"], audit_input(document, text)), YES, text)
 
 
 def audit_cases(answer):

@@ -147,6 +147,47 @@ def sentences():
 SENTENCES = sentences()
 
 
+# how the second line beside `audit no` begins, by the rule, where it depends on the transcript
+BEGIN = {
+    "Form": ("here belongs: client ", "here belongs operation ", "here belongs the line of board ", "no line belongs"),
+    "Result": ("the registers of its board give at these places: ",),
+}
+
+
+def sentences_of_rules():
+    """What `docs/FORMATS.md` has as the second line beside `audit no`, where it is the same for each transcript."""
+    page = (TOP / "docs" / "FORMATS.md").read_text()
+    return dict(re.findall(r"^\| `(Partial|Place|Count)` \| `(.+)` \|$", page, re.MULTILINE))
+
+
+SENTENCES_OF_RULES = sentences_of_rules()
+
+
+def shown_line(text, number):
+    """The line of this number of a transcript, which may be any bytes, as it is shown."""
+    begin = 0
+    for _ in range(number - 1):
+        begin = text.find(b"\n", begin) + 1 or len(text)
+    if begin == len(text):
+        return "the transcript ends before it"
+    end = text.find(b"\n", begin)
+    try:
+        return shown(text[begin : end if end >= 0 else len(text)].decode())
+    except UnicodeDecodeError:
+        return "bytes that are no text"
+
+
+def is_note_of_verdict(verdict, text, note):
+    """Whether a note has the two lines that stand beside `audit no`: what the line at fault shows, and what its rule
+    wants there."""
+    _, _, number, rule = verdict.split()
+    first, second, *rest = note.decode().split("\n")
+    is_first = first == f"ipbus: line {number}: {shown_line(text, int(number))}"
+    second = second.removeprefix("ipbus: ")
+    is_second = second.startswith(BEGIN[rule]) if rule in BEGIN else second == SENTENCES_OF_RULES[rule]
+    return is_first and is_second and rest == [""]
+
+
 def is_note_of(refusal, note):
     """Whether a note has the sentence of a refusal, which stands in its first line."""
     _, kind, *_, name = refusal.decode().split()
