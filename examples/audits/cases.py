@@ -6,7 +6,8 @@ import pathlib
 from model.audit import MOST_DOCUMENT, MOST_INPUT, YES, audit, audit_input, audit_told
 from model.drawn_transcripts import drawn_transcript
 from model.notes import NOTES, is_note_of, is_note_of_verdict
-from model.replay_cases import replay_faults
+from model.replay import check_text
+from model.told import Wrong
 
 HERE = pathlib.Path(__file__).resolve().parent
 FIRST = HERE.parent / "start" / "first.toml"
@@ -14,8 +15,6 @@ REFUSED = HERE.parent / "refused"
 DRAWN = 2000
 # so many of these must have each answer at the least
 LEAST_OF_EACH = 50
-# so many of these are replayed, too
-REPLAYED = 500
 RULES = ("Form", "Partial", "Place", "Result", "Count")
 # the refusals that the second program knows
 OF_SECOND = ("NoLength", "TooLong", "NotSim")
@@ -87,21 +86,28 @@ def of_refused(answer):
 
 
 def is_right_by_replay(session, text):
-    return any(not replay_faults(session, text.decode("latin-1"), status) for status in (0, 1))
+    """Whether each line shows what it can, by replay. What a board counts of its places as replied, timeout and lost is
+    left aside, since no rule compares it."""
+    try:
+        check_text(session, text.decode("latin-1"), is_counted=False)
+    except Wrong:
+        return False
+    return True
 
 
 def of_drawn(answer):
-    """Changed transcripts that are drawn: the program answers what the second one does, and what is right by replay is
-    found to be so."""
+    """Changed transcripts that are drawn: the program answers what the second one does, and what fits is right by
+    replay, and else nothing is. A line that is partial may be right or not."""
     answers = []
     for number in range(DRAWN):
         document, session, text = drawn_transcript(number)
         wanted = audit(session, text)
         answers.append(wanted.split()[-1])
         yield f"audit drawn {number}", faults_of(answer(["audit"], audit_input(document, text)), wanted, text)
-        if number < REPLAYED and answers[-1] not in ("yes", "Partial"):
-            yield f"replay of audit drawn {number}", ["it is right"] if is_right_by_replay(session, text) else []
-    for each in ("yes", "Form", "Partial", "Place", "Result", "Count"):
+        if answers[-1] != "Partial":
+            is_same = is_right_by_replay(session, text) == (wanted == YES)
+            yield f"replay of audit drawn {number}", [] if is_same else [f"it finds otherwise than {wanted!r}"]
+    for each in ("yes", *RULES):
         count = answers.count(each)
         yield f"drawn audits {each}", [] if count >= LEAST_OF_EACH else [f"{count} of {DRAWN}"]
 

@@ -255,11 +255,20 @@ def check_same_but_for_order(session, text, wanted):
         check(same, f"{line[:80]!r} in place of {other[:80]!r}")
 
 
-def check_transcript(session, text, status):
-    """Raises `Wrong` where the text or the status is not one that the session can have."""
+def check_text(session, text, is_counted=True):
+    """Raises `Wrong` where the text is not one that the session can have, and else gives the status that goes with it.
+    Where it is not counted, what the line of a board counts as replied, timeout and lost makes up its places, and may
+    be anything else."""
     told = read_lines(session, text)
     for each in told:
+        if not is_counted and not each.unplaced:
+            each.counts = [each.sent] * len(each.counts)
         check_board(session, each)
     is_denied = any(operation.denied_by is not None for client in session.clients for operation in client.operations)
-    wanted = 1 if is_denied or not all(line.is_good for each in told for line in each.lines) else 0
+    return 1 if is_denied or not all(line.is_good for each in told for line in each.lines) else 0
+
+
+def check_transcript(session, text, status):
+    """Raises `Wrong` where the text or the status is not one that the session can have."""
+    wanted = check_text(session, text)
     check(status == wanted, f"the status is {status} in place of {wanted}")
