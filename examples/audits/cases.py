@@ -2,6 +2,7 @@
 draws, and the longest inputs, which the second program answers too. What standard error says beside an answer of no
 stands in NAME.note, and of the others the forms of its lines are known."""
 import pathlib
+import re
 
 from model.audit import MOST_DOCUMENT, MOST_INPUT, YES, audit, audit_input, audit_told
 from model.drawn_transcripts import drawn_transcript
@@ -18,6 +19,7 @@ LEAST_OF_EACH = 50
 RULES = ("Form", "Partial", "Place", "Result", "Count")
 # the refusals that the second program knows
 OF_SECOND = ("NoLength", "TooLong", "NotSim")
+PARTIAL = re.compile("audit no [0-9]+ Partial\n")
 # so many characters of what differs are shown
 MOST_SHOWN = 300
 
@@ -131,9 +133,17 @@ def run_faults(answer, document, session, text):
     """What is wrong with the audit of a transcript that `run` printed: it is yes, or no where an operation shows some
     of its places alone, and it is that of the second program."""
     wanted = audit(session, text)
-    is_of_run = wanted == YES or wanted.endswith(" Partial\n")
+    is_of_run = wanted == YES or PARTIAL.fullmatch(wanted)
     faults = faults_of(answer(["audit"], audit_input(document, text)), wanted, text)
     return faults if is_of_run else [*faults, f"the second program says {wanted!r}"]
+
+
+def unread_faults(answer, document, text):
+    """The same where no second program can read the document."""
+    done = answer(["audit"], audit_input(document, text))
+    told = done.stdout.decode()
+    is_of_run = told == YES or PARTIAL.fullmatch(told)
+    return faults_of(done, told, text) if is_of_run else [f"{told[:MOST_SHOWN]!r}"]
 
 
 def whole_faults(answer, document, text):

@@ -1,5 +1,5 @@
 """Session documents with something changed, drawn from a number: the program answers each of them in its time, with a
-status and a text that go together."""
+status and a text that go together, and a transcript that an audit takes."""
 import pathlib
 import random
 import re
@@ -7,6 +7,7 @@ import subprocess
 import tomllib
 from concurrent.futures import ThreadPoolExecutor
 
+from audits import cases as audits
 from model.drawn import drawn_session
 from model.notes import NOTES, denial_notes, is_note_of
 from model.policy import is_told
@@ -223,7 +224,14 @@ def refusal_faults(data, done):
     return []
 
 
-def run_faults(data, done):
+def audit_faults(program, session, data, done):
+    """What is wrong with the audit of a transcript."""
+    if session is None:
+        return audits.unread_faults(program, data, done.stdout)
+    return audits.run_faults(program, data, session, done.stdout)
+
+
+def run_faults(program, data, done):
     """What is wrong in a run."""
     session = session_of(data)
     if session is None:
@@ -236,22 +244,25 @@ def run_faults(data, done):
     strange = [line for line in lines if not TRANSCRIPT_LINE.fullmatch(line)]
     if strange:
         return [f"the line {strange[0]!r}"]
-    return replay_faults(session, done) if session else []
+    return [*(replay_faults(session, done) if session else []), *audit_faults(program, session, data, done)]
 
 
-def faults_of(data, done):
-    """What is wrong in an answer to `run`."""
+def faults_of(program, data, done):
+    """What is wrong in an answer to `run`. `program` runs it with words and an input."""
     if is_toml(data) and not is_told(tomllib.loads(data.decode()), done.stdout):
         return [f"{done.stdout[:200]!r} beside the policy"]
-    return refusal_faults(data, done) if done.returncode == 3 else run_faults(data, done)
+    return refusal_faults(data, done) if done.returncode == 3 else run_faults(program, data, done)
 
 
 def answer(command, data):
+    def program(words, given):
+        return subprocess.run([*command, *words], input=given, capture_output=True, timeout=SECONDS)
+
     try:
-        done = subprocess.run([*command, "run"], input=data, capture_output=True, timeout=SECONDS)
+        done = program(["run"], data)
+        return done.returncode, faults_of(program, data, done)
     except subprocess.TimeoutExpired:
         return None, [f"it took longer than {SECONDS} s"]
-    return done.returncode, faults_of(data, done)
 
 
 def try_documents(command, numbers):
