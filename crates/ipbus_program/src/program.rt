@@ -133,8 +133,8 @@ fn deliver<O: Sink>(out: &mut O, text: &[u8], status: u8) -> u8
 /// reads nothing: it runs the generated session of so many operations and writes its summary. `record` runs the scripts
 /// of a document as `run` does, on its one board, and writes the capture of its datagrams; `describe` reads the text of
 /// a capture and writes its description, and `undescribe` the other way round. `save` reads the kept registers of the
-/// boards of a document and writes their values, and `apply` writes the values that a document has first. Other words
-/// are answered by the usage line. The text of an answer is handed to the output once. The result is the status:
+/// boards of a document and writes their values, and `apply` writes the values that a document has first. `audit` reads
+/// a document and a transcript, and writes whether the one fits the other. Other words are answered by the usage line. The text of an answer is handed to the output once. The result is the status:
 /// `DONE`, `NOT_ALL_DONE`, `USAGE`, `REFUSED`, `READ_FAULT`, `WRITE_FAULT`, `NO_MEMORY`, `RACK_FAULT` or `DOOR_FAULT`.
 pub fn control<S: Source, O: Sink, R: Rack, D: Door, T: Threads + Wait + Sync, G: Gate>(
     rt: &T,
