@@ -1,8 +1,9 @@
 //! What a hub knows of a network: a link to one board.
 
-ghost use Rattle.std.specs.Prelude.{◌≡◌, ◌≤◌, ℕ, Option, length, OnOk, OnErr, Err};
+ghost use Rattle.std.specs.Prelude.{◌≡◌, ◌≤◌, ℕ, List, Option, length, OnOk, OnErr, Err};
 ghost use Rattle.ipb_base.specs.Faults.{Rose};
 ghost use Rattle.world_core.specs.Telling.{gots_after, IfTelling, IsCarried, IsSent, quiets_after, Receives, Telling};
+ghost use Rattle.world_core.specs.Receives.{receives_after};
 
 use ipb_base::NoMemory;
 use link_waiter::Waiter;
@@ -43,9 +44,9 @@ pub enum Received {
 /// A link to one board (profile). It may lose datagrams, repeat them, delay them and change their order.
 ///
 /// Contracts see four counts, none of which falls: its faults, the receives that were quiet and those that got a
-/// datagram, and the datagrams that it lost, delayed or dropped for age. A count stands still at 2^64 - 1. A link may
-/// tell what it carries, as a simulated one does: then contracts see its board and all datagrams ever sent too. Whether
-/// it tells never changes.
+/// datagram, and the datagrams that it lost, delayed or dropped for age. A count stands still at 2^64 - 1. They see what
+/// each receive came to, of which the program need not keep a byte. A link may tell what it carries, as a simulated one
+/// does: then contracts see its board and all datagrams ever sent too. Whether it tells never changes.
 pub trait Link {
     /// What it tells, where it tells: its board and its air, what is still to be heard, and what was handed out. A
     /// first send is a control packet with the identifier of the place after the last first send, and places are
@@ -64,6 +65,10 @@ pub trait Link {
     /// How many datagrams were lost, delayed or dropped for age.
     ghost held: { Self → ℕ };
 
+    /// What the receives came to that did not fail, in order: the bytes of a datagram, or none in the time that the link
+    /// waits.
+    ghost receives: { Self → List (Option (List ℕ)) };
+
     /// Sends a datagram to the board. A refused one changes nothing that the link tells.
     fn send(&mut self, bytes: &[u8]) -> Result<(), LinkFault>
         requires { length bytes.now ≤ MAX_DATAGRAM }
@@ -74,6 +79,7 @@ pub trait Link {
         ensures faults { faults self.old ≤ faults self.new }
         ensures quiets { quiets self.new ≡ quiets self.old }
         ensures gots { gots self.new ≡ gots self.old }
+        ensures receives { receives self.new ≡ receives self.old }
         ensures held { held self.old ≤ held self.new };
 
     /// Waits for a datagram from the board, and puts it into `into` in place of what stood there. `into` is empty where
@@ -88,6 +94,7 @@ pub trait Link {
         ensures quiets_rise { quiets self.old ≤ quiets self.new }
         ensures gots { gots self.new ≡ gots_after result (gots self.old) }
         ensures gots_rise { gots self.old ≤ gots self.new }
+        ensures receives { receives self.new ≡ receives_after result into.new.items (receives self.old) }
         ensures held { held self.old ≤ held self.new };
 
     /// What waits for the next datagram beside the link. `None` where there is nothing to wait for, or no room for it.
@@ -97,6 +104,7 @@ pub trait Link {
         ensures faults { faults self.new ≡ faults self.old }
         ensures quiets { quiets self.new ≡ quiets self.old }
         ensures gots { gots self.new ≡ gots self.old }
+        ensures receives { receives self.new ≡ receives self.old }
         ensures held { held self.new ≡ held self.old }
     {
         None
