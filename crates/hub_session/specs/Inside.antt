@@ -27,12 +27,6 @@ pub record IsSettled (k : Knowledge) : Type 0 where
   pub all_taken : HasTakenAllOf k
   pub none_more : (seq : ℕ) → asked_by k ≤ seq → found took_in k.number seq (own_items k) ≡ None
 
--- A count of faults before and after a call: it rose where the call failed by it, and else it is the same.
-pub record CountsFaults (failed : Type 0) (before after : ℕ) : Type 0 where
-  pub later : before ≤ after
-  pub fault : failed → Rose before after
-  pub unfaulted : ¬ failed → after ≡ before
-
 -- the seat is of the same client and the same turns
 abbrev pub IsSameSeat : SeatState → SeatState → Type 0
 IsSameSeat old new = (new.client ≡ old.client) × (new.turns ≡ old.turns)

@@ -1,11 +1,11 @@
 //! How far a connection has come, and writing what it answers.
 
-ghost use Rattle.std.specs.Prelude.{◌≡◌, ◌<◌, ℕ, List, [], Option, Err, IfErr, OnOk, OnErr, length, take};
+ghost use Rattle.std.specs.Prelude.{◌≡◌, ◌<◌, ℕ, List, [], Option, Err, IfErr, OnOk, OnErr, length, take, IsErr};
 ghost use Rattle.std.specs.Io.KnownBytes.{append_known};
-ghost use Rattle.ipb_base.specs.Faults.{HasCause};
+ghost use Rattle.ipb_outside.specs.Faults.{RisesOnlyIf};
 ghost use Rattle.hub_lane.specs.declared.answers.BoardState.{BoardState};
 ghost use Rattle.hub_multiplexer.specs.Seats.{SeatState};
-ghost use Rattle.hub_session.specs.Inside.{AreWholeIn, ComesToEnd, CountsFaults, GoesOn, NoneWaits, standing};
+ghost use Rattle.hub_session.specs.Inside.{AreWholeIn, ComesToEnd, GoesOn, NoneWaits, standing};
 
 use crate::served::SessionEnd;
 use hub_framing::Framer;
@@ -52,8 +52,7 @@ fn write_counted<O: Sink>(sink: &mut O, bytes: &[u8]) -> Result<(), usize>
     ensures whole { OnOk result (O.written sink.new ≡ append_known (O.written sink.old) bytes.now) }
     ensures part { IfErr result (λ done. (done < length bytes.now)
         × (O.written sink.new ≡ append_known (O.written sink.old) (take done bytes.now))) }
-    ensures cause { HasCause (O.faults sink.old) (O.faults sink.new) result }
-    ensures unfaulted { OnOk result (O.faults sink.new ≡ O.faults sink.old) }
+    ensures faults { RisesOnlyIf (IsErr result) (O.faults sink.old) (O.faults sink.new) }
 {
     let mut done = 0;
     'writing: while done < bytes.len() {
@@ -92,7 +91,7 @@ pub(crate) fn write_replies<O: Sink>(
         (held : List ℕ) → ComesToEnd map (standing seat left (O.written sink.old) held progress.old)
         (standing seat left (O.written sink.new) held progress.new) SessionEnd.WriteFault) }
     ensures only { IfErr result (λ end. end ≡ SessionEnd.WriteFault) }
-    ensures faults { CountsFaults (result ≡ Err SessionEnd.WriteFault) (O.faults sink.old) (O.faults sink.new) }
+    ensures faults { RisesOnlyIf (result ≡ Err SessionEnd.WriteFault) (O.faults sink.old) (O.faults sink.new) }
 {
     let replies = &mut progress.replies;
     match write_counted(sink, replies.bytes.as_slice()) {

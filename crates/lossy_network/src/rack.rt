@@ -1,9 +1,9 @@
 //! Racks of links: what makes them and keeps them once they are done with.
 
-ghost use Rattle.std.specs.Prelude.{◌≡◌, ◌≢◌, ◌≤◌, ◌<◌, ◌++◌, ◌∷◌, ℕ, List, [], length, Err};
+ghost use Rattle.std.specs.Prelude.{◌≡◌, ◌≤◌, ◌<◌, ◌++◌, ◌∷◌, ℕ, List, [], length, Err};
 ghost use Rattle.std.specs.Prelude.{IfOk};
+ghost use Rattle.ipb_outside.specs.Faults.{RisesOnlyIf};
 ghost use Rattle.board_node.specs.declared.spec.LinkSpec.{LinkSpec};
-ghost use Rattle.ipb_base.specs.Faults.{Rose};
 ghost use Rattle.lossy_network.specs.Racks.{IsMakeable, made_after, telling_for};
 
 use board_node::BoardSpec;
@@ -59,9 +59,7 @@ pub trait Rack {
         ensures no_quiets { IfOk result (λ link. Self.L.quiets link ≡ 0) }
         ensures no_gots { IfOk result (λ link. Self.L.gots link ≡ 0) }
         ensures none_held { IfOk result (λ link. Self.L.held link ≡ 0) }
-        ensures failed { result ≡ Err RackFault.Failed → Rose (faults self.old) (faults self.new) }
-        ensures faults { faults self.old ≤ faults self.new }
-        ensures unfaulted { result ≢ Err RackFault.Failed → faults self.new ≡ faults self.old }
+        ensures faults { RisesOnlyIf (result ≡ Err RackFault.Failed) (faults self.old) (faults self.new) }
         ensures kept { kept self.new ≡ kept self.old }
         ensures made { made self.new ≡ made_after result spec.now.link (made self.old) }
         ensures within { length (kept self.old) ≤ length (made self.old) };

@@ -1,8 +1,9 @@
 //! Reads and writes whose errors are counted.
 
-ghost use Rattle.std.specs.Prelude.{◌≡◌, ◌<◌, ◌≤◌, IfOk, OnOk, length};
+ghost use Rattle.std.specs.Prelude.{◌≡◌, ◌<◌, ◌≤◌, IfOk, length, IsErr};
 ghost use Rattle.std.specs.Io.KnownBytes.{ReadConsumes, WriteAppends};
-ghost use Rattle.ipb_base.specs.Faults.{HasCause, one_more};
+ghost use Rattle.ipb_outside.specs.Faults.{RisesOnlyIf};
+ghost use Rattle.ipb_base.specs.Faults.{one_more};
 
 use ipb_outside::Failed;
 use std::io::{Read, Write};
@@ -22,8 +23,7 @@ pub(crate) fn read_counted<R: Read>(
     faults: &mut u64,
 ) -> Result<usize, Failed>
     ensures within { IfOk result (λ count. count ≤ length buf.new) }
-    ensures cause { HasCause faults.old faults.new result }
-    ensures unfaulted { OnOk result (faults.new ≡ faults.old) }
+    ensures faults { RisesOnlyIf (IsErr result) faults.old faults.new }
     ensures handed_on { ReadConsumes (R.remaining reader.old) (R.remaining reader.new) result buf.new }
 {
     match reader.read(buf) {
@@ -44,8 +44,7 @@ pub(crate) fn write_counted<W: Write>(
 ) -> Result<usize, Failed>
     ensures within { IfOk result (λ count. count ≤ length bytes.now) }
     ensures goes_on { IfOk result (λ count. 0 < length bytes.now → 0 < count) }
-    ensures cause { HasCause faults.old faults.new result }
-    ensures unfaulted { OnOk result (faults.new ≡ faults.old) }
+    ensures faults { RisesOnlyIf (IsErr result) faults.old faults.new }
     ensures handed_on { WriteAppends (W.contents writer.old) (W.contents writer.new) result bytes.now }
 {
     match writer.write(bytes) {

@@ -1,9 +1,9 @@
 //! Standard input as a source, standard output as a sink. Neither tells its bytes to the layers above, since a reader
 //! or a writer may tell nothing and then something; what those of a test tell is handed on by clauses of their own.
 
-ghost use Rattle.std.specs.Prelude.{◌≡◌, ◌<◌, ◌≤◌, false, true, Ok, None, IfOk, OnOk, length};
+ghost use Rattle.std.specs.Prelude.{◌≡◌, ◌<◌, ◌≤◌, false, true, Ok, None, IfOk, length, IsErr};
 ghost use Rattle.std.specs.Io.KnownBytes.{IsAtEnd, ReadConsumes, WriteAppends};
-ghost use Rattle.ipb_base.specs.Faults.{HasCause};
+ghost use Rattle.ipb_outside.specs.Faults.{RisesOnlyIf};
 ghost use Rattle.ipb_outside.specs.Told.{Reads, Writes};
 
 use crate::counting::{read_counted, write_counted};
@@ -49,8 +49,7 @@ impl<R: Input> Source for StdinSource<R> {
         ensures within { IfOk result (λ count. count ≤ length buf.new) }
         ensures taken { Reads None None result buf.new }
         ensures at_end { result ≡ Ok 0 → 0 < length buf.new → IsAtEnd None }
-        ensures cause { HasCause self.old.faults self.new.faults result }
-        ensures unfaulted { OnOk result (self.new.faults ≡ self.old.faults) }
+        ensures faults { RisesOnlyIf (IsErr result) self.old.faults self.new.faults }
         ensures handed_on { ReadConsumes self.old.remaining self.new.remaining result buf.new }
     {
         read_counted(&mut self.reader, buf, &mut self.faults)
@@ -126,8 +125,7 @@ impl<W: Write + Drop> Sink for StdoutSink<W> {
         ensures within { IfOk result (λ count. count ≤ length bytes.now) }
         ensures goes_on { IfOk result (λ count. 0 < length bytes.now → 0 < count) }
         ensures appended { Writes None None result bytes.now }
-        ensures cause { HasCause self.old.faults self.new.faults result }
-        ensures unfaulted { OnOk result (self.new.faults ≡ self.old.faults) }
+        ensures faults { RisesOnlyIf (IsErr result) self.old.faults self.new.faults }
         ensures ended_kept { self.new.ended ≡ self.old.ended }
         ensures handed_on { WriteAppends self.old.contents self.new.contents result bytes.now }
     {

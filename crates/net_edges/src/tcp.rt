@@ -1,9 +1,9 @@
 //! The two sides of a TCP connection. They stand on any reader and writer of std, so that a clause says what is handed
 //! to those that tell their bytes, as those of a test do; a stream does not tell them.
 
-ghost use Rattle.std.specs.Prelude.{◌≡◌, ◌<◌, ◌≤◌, false, Ok, None, IfOk, OnOk, length};
+ghost use Rattle.std.specs.Prelude.{◌≡◌, ◌<◌, ◌≤◌, false, Ok, None, IfOk, length, IsErr};
 ghost use Rattle.std.specs.Io.KnownBytes.{IsAtEnd, ReadConsumes, WriteAppends};
-ghost use Rattle.ipb_base.specs.Faults.{HasCause};
+ghost use Rattle.ipb_outside.specs.Faults.{RisesOnlyIf};
 ghost use Rattle.ipb_outside.specs.Told.{Reads, Writes};
 
 use crate::counting::{read_counted, write_counted};
@@ -47,8 +47,7 @@ impl<R: Read + Drop> Source for TcpSource<R> {
         ensures within { IfOk result (λ count. count ≤ length buf.new) }
         ensures taken { Reads None None result buf.new }
         ensures at_end { result ≡ Ok 0 → 0 < length buf.new → IsAtEnd None }
-        ensures cause { HasCause self.old.faults self.new.faults result }
-        ensures unfaulted { OnOk result (self.new.faults ≡ self.old.faults) }
+        ensures faults { RisesOnlyIf (IsErr result) self.old.faults self.new.faults }
         ensures handed_on { ReadConsumes self.old.remaining self.new.remaining result buf.new }
     {
         read_counted(&mut self.stream, buf, &mut self.faults)
@@ -111,8 +110,7 @@ impl<W: EndWriting + Drop> Sink for TcpSink<W> {
         ensures within { IfOk result (λ count. count ≤ length bytes.now) }
         ensures goes_on { IfOk result (λ count. 0 < length bytes.now → 0 < count) }
         ensures appended { Writes None None result bytes.now }
-        ensures cause { HasCause self.old.faults self.new.faults result }
-        ensures unfaulted { OnOk result (self.new.faults ≡ self.old.faults) }
+        ensures faults { RisesOnlyIf (IsErr result) self.old.faults self.new.faults }
         ensures ended_kept { self.new.ended ≡ self.old.ended }
         ensures handed_on { WriteAppends self.old.contents self.new.contents result bytes.now }
     {

@@ -1,8 +1,8 @@
 //! A whole session over the links of a rack.
 
-ghost use Rattle.std.specs.Prelude.{◌≡◌, ◌≢◌, ◌^◌, ◌<◌, ◌≤◌, [], length, Err, IfOk, OnErr};
+ghost use Rattle.std.specs.Prelude.{◌≡◌, ◌^◌, ◌<◌, [], length, Err, IfOk, OnErr};
 ghost use Rattle.std.specs.List.{AllByRecursion};
-ghost use Rattle.ipb_base.specs.Faults.{Rose};
+ghost use Rattle.ipb_outside.specs.Faults.{RisesOnlyIf};
 ghost use Rattle.lane_history.specs.Links.{IsUntouched};
 ghost use Rattle.lane_history.specs.Runs.{AreRunsOver};
 ghost use Rattle.board_greeting.specs.Boards.{AreReached, HasMemory, HasRoom};
@@ -161,11 +161,9 @@ pub fn run_session<R: Rack, T: Threads + Wait + Sync, G: Gate>(
     ensures left { Keeps R.L.Link (R.kept rack.old) (R.kept rack.new) (AreLeft 0 specs.now scripts.now) }
     ensures made { Keeps R.L.Link (R.kept rack.old) (R.kept rack.new)
         (λ links. AreMadeFor specs.now (length links) (R.made rack.old) (R.made rack.new)) }
-    ensures rack_fault { result ≡ Err RunFault.Rack → Rose (R.faults rack.old) (R.faults rack.new) }
+    ensures rack_faults { RisesOnlyIf (result ≡ Err RunFault.Rack) (R.faults rack.old) (R.faults rack.new) }
     ensures untouched { result ≡ Err RunFault.Rack → Keeps R.L.Link (R.kept rack.old) (R.kept rack.new)
         (AllByRecursion IsUntouched) }
-    ensures later { R.faults rack.old ≤ R.faults rack.new }
-    ensures unfaulted { result ≢ Err RunFault.Rack → R.faults rack.new ≡ R.faults rack.old }
 {
     a_fresh_link_is_left();
     let _rounds = settings.rounds();
