@@ -6,7 +6,7 @@ use Rattle.ipb_base.specs.Digits.{digits_number, is_between}
 use Rattle.command_words.specs.declared.command.Command.{Command}
 use Rattle.command_words.specs.declared.command.Command.TheVariants.{Run, Check, Serve, Load, Audit}
 use Rattle.command_words.specs.declared.command.Command.TheVariants.{Record, Describe, Undescribe, Save, Apply}
-use Rattle.command_words.specs.Numbers.{greatest_port, most_connections, most_operations}
+use Rattle.ipb_base.specs.Numbers.{greatest_port, most_connections, most_operations}
 
 -- a word begins with a hyphen
 abbrev pub is_option : List ℕ → Bool

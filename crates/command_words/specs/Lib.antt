@@ -1,4 +1,3 @@
-pub mod Numbers
 pub mod Commands
 pub mod Forms
 pub mod App

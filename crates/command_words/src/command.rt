@@ -2,7 +2,7 @@
 
 ghost use Rattle.std.specs.Prelude.{◌≡◌, IfOk, map, string_bytes};
 ghost use Rattle.command_words.specs.Commands as spec;
-ghost use Rattle.command_words.specs.Numbers.{greatest_port};
+ghost use Rattle.ipb_base.specs.Numbers.{greatest_port};
 ghost use Rattle.command_words.specs.Read.{form_of, named};
 
 use crate::line::{Line, LineError, read_line};

@@ -2,10 +2,10 @@
 
 ghost use Rattle.std.specs.Prelude.{◌≡◌, ◌≤◌, ◌∷◌, ℕ, List, [], true, codes, Some, None};
 ghost use Rattle.clap.specs.Words.{takes, fault_of};
+ghost use Rattle.ipb_base.specs.Numbers.{greatest_port, most_connections, most_operations};
 ghost use Rattle.command_words.specs.App.{ipbus};
 ghost use Rattle.command_words.specs.Commands.{command_of, usage_text};
 ghost use Rattle.command_words.specs.Forms.{Form, words_of, ArePlain, IsNamed};
-ghost use Rattle.command_words.specs.Numbers.{greatest_port, most_connections, most_operations};
 ghost use Rattle.command_words.specs.declared.command.TheConstants.{MAX_CONNECTIONS, MAX_OPERATIONS, MAX_PORT};
 ghost use Rattle.command_words.specs.declared.command.TheConstants.{USAGE_LINE};
 ghost use Rattle.command_words.specs.declared.command.Command.TheVariants.{Run, Check, Serve, Load, Audit};

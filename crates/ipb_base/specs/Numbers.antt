@@ -31,3 +31,31 @@ least_payload = 16
 
 abbrev pub greatest_payload : ℕ
 greatest_payload = 2243
+
+-- the greatest UDP or TCP port
+abbrev pub greatest_port : ℕ
+greatest_port = 65535
+
+-- the most boards and the most clients of a session, and the most packets ahead of their replies (profile)
+abbrev pub most_boards : ℕ
+most_boards = 16
+
+abbrev pub most_clients : ℕ
+most_clients = 64
+
+abbrev pub most_window : ℕ
+most_window = 16
+
+-- the most lines of all scripts, the most operations in them, and the most words of one block (profile)
+abbrev pub most_lines : ℕ
+most_lines = 200000
+
+abbrev pub most_operations : ℕ
+most_operations = 100000
+
+abbrev pub most_block_words : ℕ
+most_block_words = 1048576
+
+-- the most connections that a server lets in (profile)
+abbrev pub most_connections : ℕ
+most_connections = 64

@@ -12,7 +12,7 @@ ghost use Rattle.ipb_outside.specs.Faults.{RisesOnlyIf};
 ghost use Rattle.command_terms.specs.Leaving.{Leaves};
 ghost use Rattle.command_terms.specs.Numbers.{refused_status};
 ghost use Rattle.command_terms.specs.Terms.{AreTerms, Reads};
-ghost use Rattle.load_run.specs.Generated.{most_operations};
+ghost use Rattle.ipb_base.specs.Numbers.{most_operations};
 ghost use Rattle.ipbus_program.specs.Commands.{terms_of};
 ghost use Rattle.ipbus_program.specs.Steps.{IsFailure, LeavesAlone};
 

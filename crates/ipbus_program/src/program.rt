@@ -9,7 +9,7 @@ ghost use Rattle.board_greeting.specs.Links.{Keeps};
 ghost use Rattle.session_serve.specs.Executed.{CameInFrames};
 ghost use Rattle.command_words.specs.declared.command.Command.{Command as Asked};
 ghost use Rattle.command_words.specs.declared.command.Command.TheVariants.{Load, Serve};
-ghost use Rattle.load_run.specs.Generated.{most_operations};
+ghost use Rattle.ipb_base.specs.Numbers.{most_operations};
 ghost use Rattle.ipb_outside.specs.Faults.{RisesOnlyIf};
 ghost use Rattle.command_terms.specs.Numbers.{IsDoneStatus, usage_status, refused_status};
 ghost use Rattle.command_terms.specs.Numbers.{read_fault_status, write_fault_status};

@@ -12,7 +12,8 @@ use Rattle.script_plans.specs.declared.board_run.BoardRun.{BoardRun}
 use Rattle.script_plans.specs.Runs.{HaveOwnNames}
 use Rattle.lane_history.specs.Links.{CanBeMade, IsUntouched, LinkReport}
 use Rattle.command_terms.proofs.Leaving.{Told}
-use Rattle.load_run.specs.Generated.{boards, most_operations, steps}
+use Rattle.ipb_base.specs.Numbers.{most_operations}
+use Rattle.load_run.specs.Generated.{boards, steps}
 use Rattle.board_greeting.proofs.Boards.{none_made}
 use Rattle.session_run.specs.Links.{AreLeft, AreMadeFor, CanBeReached}
 use Rattle.session_run.specs.declared.session.RunFault.{RunFault}

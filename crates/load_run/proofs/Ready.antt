@@ -10,7 +10,8 @@ use Rattle.script_lang.specs.declared.script_refusal.TheConstants.{MAX_LINES}
 use Rattle.script_steps.specs.Executable.{AreExecutable}
 use Rattle.script_steps.specs.Packing.{AreWithinLimits, CanBePacked, HaveFewPieces, all_operations}
 use Rattle.script_steps.specs.Packing as script
-use Rattle.load_run.specs.Generated.{shares, steps, steps_behind, most_operations}
+use Rattle.ipb_base.specs.Numbers.{most_operations}
+use Rattle.load_run.specs.Generated.{shares, steps, steps_behind}
 use Rattle.load_run.proofs.Shares.{all-shares}
 
 executable : (before n : ℕ) → AreExecutable (steps_behind before n)

@@ -29,7 +29,8 @@ use Rattle.board_history.specs.Runs.{opening_of}
 use Rattle.lane_history.specs.Links.{LinkReport, IsBoardOf, board_there}
 use Rattle.lane_history.specs.Runs.{AreRunsOver, IsAsTold, IsRunOver, IsTrueRun}
 use Rattle.load_run.specs.Claims.{HasEachBelow, is_done, order_on, sum_below, TellsRuns, word_at_place}
-use Rattle.load_run.specs.Generated.{board, boards, link, most_operations, settings, shares, steps, steps_behind}
+use Rattle.ipb_base.specs.Numbers.{most_operations}
+use Rattle.load_run.specs.Generated.{board, boards, link, settings, shares, steps, steps_behind}
 use Rattle.load_run.specs.Summary.{all_done, summary_of, words_before}
 use Rattle.load_run.proofs.Shares.{all-shares}
 use Rattle.load_run.proofs.Plans.{bodies-length, bodies-planned, bodies_of, payload, pieces-planned}

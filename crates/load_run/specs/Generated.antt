@@ -14,10 +14,6 @@ use Rattle.script_steps.specs.declared.operation.Step.{Step}
 use Rattle.script_steps.specs.declared.operation.Step.TheVariants.{Do, Dispatch}
 use Rattle.script_steps.specs.declared.operation.Verb.TheVariants.{RmwSum}
 
--- the most operations that may be asked for
-abbrev pub most_operations : ℕ
-most_operations = 100000
-
 abbrev pub settings : Limits
 settings = record { rounds = 255; window = 16 }
 

@@ -21,7 +21,8 @@ use Rattle.lane_history.specs.Runs.{AreRunsOver, AreWholeRuns, IsLineOfRounds, I
 use Rattle.lane_history.specs.Runs.{RepliesCame, ShowAloneRuns, TimeOutsWaited}
 use Rattle.session_run.specs.Scripts.{CanBeRun}
 use Rattle.load_run.specs.Claims.{HasEachBelow, TellsRuns, sum_below}
-use Rattle.load_run.specs.Generated.{boards, most_operations, settings, steps}
+use Rattle.ipb_base.specs.Numbers.{most_operations}
+use Rattle.load_run.specs.Generated.{boards, settings, steps}
 use Rattle.load_run.specs.Summary.{all_done, summary_of, summary_text, words_before}
 use Rattle.session_run.specs.Links.{AreLeft, AreMadeFor, CanBeReached}
 use Rattle.session_run.specs.declared.session.RunFault.{RunFault}

@@ -7,7 +7,7 @@ ghost use Rattle.ipb_outside.specs.Faults.{RisesOnlyIf};
 ghost use Rattle.command_terms.specs.Leaving.{Leaves};
 ghost use Rattle.command_terms.specs.Numbers.{refused_status};
 ghost use Rattle.command_terms.specs.Outside.{NoneCame, no_pairs};
-ghost use Rattle.load_run.specs.Generated.{most_operations};
+ghost use Rattle.ipb_base.specs.Numbers.{most_operations};
 ghost use Rattle.load_run.specs.Terms.{load_terms};
 
 use crate::run::run_load;

@@ -4,7 +4,7 @@ ghost use Rattle.std.specs.Prelude.{◌≡◌, ◌≤◌, Err, IfOk};
 ghost use Rattle.ipb_outside.specs.Faults.{RisesOnlyIf};
 ghost use Rattle.board_greeting.specs.Links.{Keeps};
 ghost use Rattle.load_run.specs.Loading.{IsGenerated, IsLoadOf, LoadLeaves, PrintsLoad};
-ghost use Rattle.load_run.specs.Generated.{most_operations};
+ghost use Rattle.ipb_base.specs.Numbers.{most_operations};
 ghost use Rattle.load_run.specs.Summary as spec;
 ghost use Rattle.transcript.specs.Lines.{transcript_of};
 

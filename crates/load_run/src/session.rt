@@ -1,6 +1,7 @@
 //! The generated session.
 
 ghost use Rattle.std.specs.Prelude.{◌≡◌, ◌≤◌, IfOk};
+ghost use Rattle.ipb_base.specs.Numbers.{most_operations};
 ghost use Rattle.load_run.specs.Generated as spec;
 
 use board_bus::{Range, RangeKind};
@@ -67,7 +68,7 @@ fn board(alloc: Global, count: u32) -> Result<BoardSpec, NoMemory>
 
 /// Adds 1 to the register, behind so many operations of its client.
 fn operation(alloc: Global, before: u32) -> Result<RegOp, NoMemory>
-    requires { before ≤ spec.most_operations }
+    requires { before ≤ most_operations }
     ensures { IfOk result (λ op. op ≡ spec.operation before) }
 {
     Ok(RegOp {
@@ -83,7 +84,7 @@ fn operation(alloc: Global, before: u32) -> Result<RegOp, NoMemory>
 /// So many operations of one client, each with a dispatch.
 #[tactic(auto, using(crate::proofs::Scripts::one_step, crate::proofs::Scripts::no_step))]
 fn client_steps(alloc: Global, operations: u32) -> Result<Steps, NoMemory>
-    requires { operations ≤ spec.most_operations }
+    requires { operations ≤ most_operations }
     ensures { IfOk result (λ steps. steps ≡ spec.steps_behind 0 operations) }
 {
     let mut steps = Vec::new(alloc);
@@ -96,7 +97,7 @@ fn client_steps(alloc: Global, operations: u32) -> Result<Steps, NoMemory>
 
 /// How many operations a client, counted from 0, has of all.
 fn share(count: u32, client: u32) -> u32
-    requires few { count ≤ spec.most_operations }
+    requires few { count ≤ most_operations }
     requires client { client ≤ 3 }
     ensures share { result ≡ spec.share count client }
     ensures few { result ≤ count }
@@ -106,7 +107,7 @@ fn share(count: u32, client: u32) -> u32
 
 /// The steps of the four clients.
 fn all_steps(alloc: Global, count: u32) -> Result<Vec<Steps>, NoMemory>
-    requires { count ≤ spec.most_operations }
+    requires { count ≤ most_operations }
     ensures { IfOk result (λ steps. steps.items ≡ spec.steps count) }
 {
     let first = client_steps(alloc, share(count, 0))?;
@@ -122,7 +123,7 @@ fn all_steps(alloc: Global, count: u32) -> Result<Vec<Steps>, NoMemory>
 /// replies, expects the identifier 1 first and has 16 words, all 0. `NoMemory` comes where there is no memory for the
 /// session; nothing else is refused.
 pub fn generated(alloc: Global, count: u32) -> Result<GeneratedSession, NoMemory>
-    requires { count ≤ spec.most_operations }
+    requires { count ≤ most_operations }
     ensures settings { IfOk result (λ session. session.settings ≡ spec.settings) }
     ensures boards { IfOk result (λ session. session.boards.items ≡ spec.boards count) }
     ensures steps { IfOk result (λ session. session.steps.items ≡ spec.steps count) }

@@ -2,6 +2,7 @@
 
 use crate::escaping::shown;
 use crate::help::{HELP, VERSION};
+use command_words::{MAX_CONNECTIONS, MAX_OPERATIONS, MAX_PORT};
 use ipb_base::{NoMemory, number_in_text};
 use std::alloc::Global;
 
@@ -81,17 +82,17 @@ struct Needed {
 
 const PORT: Needed = Needed {
     what: "port",
-    most: 65_535,
+    most: MAX_PORT,
 };
 
 const CONNECTIONS: Needed = Needed {
     what: "number of connections",
-    most: 64,
+    most: MAX_CONNECTIONS,
 };
 
 const OPERATIONS: Needed = Needed {
     what: "number of operations",
-    most: 100_000,
+    most: MAX_OPERATIONS,
 };
 
 /// A word that is one too many.

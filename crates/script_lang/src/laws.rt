@@ -2,6 +2,7 @@
 //! what is proved.
 
 ghost use Rattle.std.specs.Prelude.{◌≡◌, ◌≢◌, ℕ, List, length, [], ◌∷◌, Some, None, codes};
+ghost use Rattle.ipb_base.specs.Numbers.{most_boards, most_clients, most_lines, most_window};
 ghost use Rattle.script_lang.specs.Document as spec;
 ghost use Rattle.std.specs.List.{AllByRecursion, AllZip};
 ghost use Rattle.toml.specs.Data.{Members, get_member};
@@ -22,7 +23,6 @@ ghost use Rattle.script_lang.specs.declared.refusal.SessionRefusal.{SessionRefus
 ghost use Rattle.script_lang.specs.declared.refusal.SessionRefusal.TheVariants.{NoMemory as no_memory};
 ghost use Rattle.world_model.specs.declared.settings.TheConstants.{MAX_WINDOW};
 ghost use Rattle.script_lang.specs.declared.refusal.TheConstants.{MAX_BOARDS, MAX_CLIENTS};
-ghost use Rattle.script_steps.specs.declared.limits.TheConstants.{MAX_OPERATIONS, MAX_BLOCK_WORDS};
 ghost use Rattle.script_lang.specs.declared.script_refusal.TheConstants.{MAX_LINES};
 ghost use Rattle.script_lang.specs.declared.session.Session.{Session};
 ghost use Rattle.script_lang.specs.declared.steps.PathStep.TheVariants.{Key, Item};
@@ -96,12 +96,10 @@ pub fn a_key_taken_out_leaves_the_others()
 
 /// The limits of a session.
 pub fn limits()
-    ensures boards { MAX_BOARDS ≡ 16 }
-    ensures clients { MAX_CLIENTS ≡ 64 }
-    ensures window { MAX_WINDOW ≡ 16 }
-    ensures lines { MAX_LINES ≡ 200000 }
-    ensures operations { MAX_OPERATIONS ≡ 100000 }
-    ensures block_words { MAX_BLOCK_WORDS ≡ 1048576 }
+    ensures boards { MAX_BOARDS ≡ most_boards }
+    ensures clients { MAX_CLIENTS ≡ most_clients }
+    ensures window { MAX_WINDOW ≡ most_window }
+    ensures lines { MAX_LINES ≡ most_lines }
 {}
 
 /// The way to the MTU of the first board.

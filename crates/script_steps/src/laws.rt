@@ -2,6 +2,7 @@
 
 ghost use Rattle.std.specs.Prelude.{◌≡◌, List, length, map};
 ghost use Rattle.std.specs.List.{AllByRecursion};
+ghost use Rattle.ipb_base.specs.Numbers.{most_block_words, most_operations};
 ghost use Rattle.script_steps.specs.Executable.{AreExecutable};
 ghost use Rattle.script_steps.specs.Judging.{judged};
 ghost use Rattle.script_steps.specs.Packing.{AreWithinLimits, CanBePacked, HaveFewPieces};
@@ -13,8 +14,8 @@ ghost use Rattle.script_steps.specs.declared.operation.Step.{Step};
 
 /// How much the scripts of a session may ask.
 pub fn limits_of_scripts()
-    ensures operations { MAX_OPERATIONS ≡ 100000 }
-    ensures block_words { MAX_BLOCK_WORDS ≡ 1048576 }
+    ensures operations { MAX_OPERATIONS ≡ most_operations }
+    ensures block_words { MAX_BLOCK_WORDS ≡ most_block_words }
 {}
 
 /// Under a policy steps ask for no more than before: where they could be executed and packed, in few pieces and within
