@@ -20,6 +20,7 @@ use Rattle.board_history.specs.GiveUps.{IsExact, time_outs, times_given_up, was_
 use Rattle.board_history.specs.History.{dispatches_by_client}
 use Rattle.board_history.specs.Runs.{opening_of}
 use Rattle.lane_history.specs.Links.{HasFailed, IsLostOnlyIfFailed, LinkReport, board_there}
+use Rattle.lane_history.specs.Receives.{IsReplyBrought, quiets_since_status}
 use Rattle.lane_history.specs.Runs.{IsAsTold, IsTrueRun, RepliesCame, TimeOutsWaited}
 use Rattle.lane_history.proofs.BoardLines.{line_at, line_heard, line_waited}
 use Rattle.lane_history.proofs.Shown.{some_then}
@@ -27,7 +28,7 @@ use Rattle.lane_history.proofs.Waits.{count_cons}
 use Rattle.client_history.specs.Connections.{dispatches_of, outcomes_of}
 use Rattle.client_history.specs.Boards.{IsAskedOnlyIfLive, IsServedOver, ServedBoard, run_of}
 use Rattle.client_history.specs.Shown.{GaveUpOnlyAfterRounds, HasLostOnlyIfFailed, IsAddedUp, IsNotLostUnlessFailed}
-use Rattle.client_history.specs.Shown.{OfEach, given_up}
+use Rattle.client_history.specs.Shown.{IsReplyCarried, OfEach, given_up}
 use Rattle.client_history.proofs.Parts.{all_outcomes, dispatches_shown, flat_again, one_dispatch_each, outcomes_shown}
 use Rattle.client_history.proofs.Parts.{same_dispatches}
 use Rattle.lane_history.proofs.Told.{of_telling}
@@ -136,6 +137,8 @@ paid_as : (settings : Limits) (spec : BoardSpec) (served : ServedBoard) (link : 
 paid_as settings spec served link (Live payload) asked is = record {
   quiets' = λ exact. all_paid (settings.rounds + 1) link.quiets served.connections
       (is.any_link.rounds.dispatches exact);
+  since = all_paid (settings.rounds + 1) (quiets_since_status link) served.connections
+      is.any_link.rounds_since.dispatches;
   held' = of_telling (IsExact link.held → Paid settings.rounds link.held served.connections) link.telling
       (some_then (IsTrueRun settings (opening_of spec.link) (run_of spec served) link.held)
       (λ (b : Board). IsExact link.held → Paid settings.rounds link.held served.connections) (board_there link.telling)
@@ -143,12 +146,14 @@ paid_as settings spec served link (Live payload) asked is = record {
 }
 paid_as settings spec served link Silent asked is = record {
   quiets' = λ exact. none_paid (settings.rounds + 1) link.quiets served.connections asked;
+  since = none_paid (settings.rounds + 1) (quiets_since_status link) served.connections asked;
   held' = some_then (λ _. settings.rounds ≤ link.held)
       (λ _. IsExact link.held → Paid settings.rounds link.held served.connections) link.telling
       (λ t waited exact. none_paid settings.rounds link.held served.connections asked) is.held;
 }
 paid_as settings spec served link Down asked is = record {
   quiets' = λ exact. none_paid (settings.rounds + 1) link.quiets served.connections asked;
+  since = none_paid (settings.rounds + 1) (quiets_since_status link) served.connections asked;
   held' = of_telling (IsExact link.held → Paid settings.rounds link.held served.connections) link.telling
       (some_then (λ (b : Board). executed b ≡ [])
       (λ (b : Board). IsExact link.held → Paid settings.rounds link.held served.connections) (board_there link.telling)
@@ -224,3 +229,18 @@ pub lost_bodies : (settings : Limits) (spec : BoardSpec) (served : ServedBoard) 
     → IsServedOver settings spec served link → OfEach (IsNotLostUnlessFailed link) served.connections
 lost_bodies settings spec served link is =
     bodies_as settings spec served link served.told is.asked is.as_told
+
+-- ---- the words of replies
+
+words_as : (settings : Limits) (spec : BoardSpec) (served : ServedBoard) (link : LinkReport) (told : Greeting)
+    → IsAskedOnlyIfLive told served.connections → IsAsTold settings spec (run_of spec served) link told
+    → OfEach (IsReplyCarried link) served.connections
+words_as settings spec served link (Live payload) asked is =
+    of_each (IsReplyBrought link) served.connections is.any_link.words
+words_as settings spec served link Silent asked is = of_none (IsReplyCarried link) served.connections asked
+words_as settings spec served link Down asked is = of_none (IsReplyCarried link) served.connections asked
+
+pub words_carried : (settings : Limits) (spec : BoardSpec) (served : ServedBoard) (link : LinkReport)
+    → IsServedOver settings spec served link → OfEach (IsReplyCarried link) served.connections
+words_carried settings spec served link is =
+    words_as settings spec served link served.told is.asked is.as_told

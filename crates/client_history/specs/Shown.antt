@@ -15,6 +15,7 @@ use Rattle.transcript.specs.declared.line.BoardLine.TheVariants.{Live, Silent, D
 use Rattle.board_history.specs.Order.{RisesFrom}
 use Rattle.board_history.specs.GiveUps.{IsExact}
 use Rattle.lane_history.specs.Links.{HasFailed, IsLostOnlyIfFailed, LinkReport}
+use Rattle.lane_history.specs.Receives.{IsReplyBrought, quiets_since_status}
 
 -- so of each body of each connection
 abbrev pub OfEach : (Submission → Type 0) → List (List Submission) → Type 0
@@ -52,6 +53,11 @@ IsRight opening done body (LinkLost place) = Unit {0}
 abbrev pub IsRightlyReplied : CellMap → List (List ℕ) → Submission → Type 0
 IsRightlyReplied opening done s = IsRight opening done s.body s.outcome
 
+-- Whether the link tells or not, it brought the words of a body that was replied to in a control packet with the
+-- identifier of its place.
+abbrev pub IsReplyCarried : LinkReport → Submission → Type 0
+IsReplyCarried link s = IsReplyBrought link s.outcome
+
 -- ---- the line of a board
 
 -- the bodies that the line tells lost with the link; a board that is not live has none
@@ -80,11 +86,14 @@ IsNotLostUnlessFailed link s = IsLostOnlyIfFailed link s.outcome
 abbrev pub given_up : List Submission → ℕ
 given_up submissions = count_by (λ (s : Submission). is_given_up s.outcome) submissions
 
--- Each such body of a connection took the rounds of the settings and one more, each with a quiet receive, and where the
--- link tells a datagram was held in each of the rounds. A count that stands at its end tells nothing.
+-- Each such body of a connection took the rounds of the settings and one more, each with a quiet receive, which came
+-- behind the greeting, and where the link tells a datagram was held in each of the rounds. A count that stands at its
+-- end tells nothing.
 pub record GaveUpOnlyAfterRounds (settings : Limits) (link : LinkReport) (connections : List (List Submission)) : Type 0
   where
     pub quiets' : IsExact link.quiets
         → AllByRecursion (λ (s : List Submission). (settings.rounds + 1) * given_up s ≤ link.quiets) connections
+    pub since : AllByRecursion (λ (s : List Submission). (settings.rounds + 1) * given_up s ≤ quiets_since_status link)
+        connections
     pub held' : IfSome link.telling (λ _. IsExact link.held
         → AllByRecursion (λ (s : List Submission). settings.rounds * given_up s ≤ link.held) connections)

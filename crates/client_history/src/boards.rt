@@ -18,8 +18,8 @@ ghost use Rattle.lane_history.specs.Runs.{RepliesCame, TimeOutsWaited};
 ghost use Rattle.client_history.specs.Boards.{AreServedOver, IsServedAt, IsServedOver, ServedBoard, run_of};
 ghost use Rattle.client_history.specs.Connections.{outcomes_of};
 ghost use Rattle.client_history.specs.Shown.{GaveUpOnlyAfterRounds, HasLostOnlyIfFailed, IsAddedUp};
-ghost use Rattle.client_history.specs.Shown.{IsNotLostUnlessFailed, IsRightlyReplied, OfEach, PlacesDiffer};
-ghost use Rattle.client_history.specs.Shown.{PlacesRise};
+ghost use Rattle.client_history.specs.Shown.{IsNotLostUnlessFailed, IsReplyCarried, IsRightlyReplied, OfEach};
+ghost use Rattle.client_history.specs.Shown.{PlacesDiffer, PlacesRise};
 
 use board_history::laws::the_first_sends_are_the_order;
 
@@ -64,9 +64,9 @@ pub fn a_board_line_counts_the_bodies_of_its_connections()
     ensures sum { (spec : BoardSpec) (served : ServedBoard) → IsAddedUp (board_line (run_of spec served)) }
 {}
 
-/// Bodies are given up only after the rounds of the settings, each of which ended with a quiet receive, and in each of
-/// which a datagram was held where the link tells: those that a board line tells timed out, `window` at a time, and
-/// those of one connection that were timed out or never sent, one at a time.
+/// Bodies are given up only after the rounds of the settings, each of which ended with a quiet receive behind the
+/// greeting, and in each of which a datagram was held where the link tells: those that a board line tells timed out,
+/// `window` at a time, and those of one connection that were timed out or never sent, one at a time.
 pub fn a_board_waited_for_what_was_given_up()
     ensures line { (settings : Limits) (spec : BoardSpec) (served : ServedBoard) (link : LinkReport) →
         IsServedOver settings spec served link → TimeOutsWaited settings (board_line (run_of spec served)) link }
@@ -79,6 +79,13 @@ pub fn a_board_waited_for_what_was_given_up()
 pub fn replies_of_a_served_board_came_over_its_link()
     ensures { (settings : Limits) (spec : BoardSpec) (served : ServedBoard) (link : LinkReport) →
         IsServedOver settings spec served link → RepliesCame (board_line (run_of spec served)) link }
+{}
+
+/// Over any link, also one that does not tell, the words of each body that was replied to are the body of a control
+/// packet that the link brought behind the greeting, with the identifier of its place.
+pub fn words_of_replies_came_over_their_link()
+    ensures { (settings : Limits) (spec : BoardSpec) (served : ServedBoard) (link : LinkReport) →
+        IsServedOver settings spec served link → OfEach (IsReplyCarried link) served.connections }
 {}
 
 /// Bodies are lost with the link only where it failed.

@@ -82,7 +82,7 @@ pub fn a_finished_lane_was_served()
         (lates : List (Option (List ℕ))) (give_ups : ℕ) →
         IsBoardOf spec.link (board_there link.telling) → TellsPayload spec.link payload →
         IsRecordOf (map bodies_of connections) (map dispatches_of connections) items →
-        IsSoundLane settings (opening_of spec.link) link items outcomes lates give_ups →
+        IsSoundLane settings (opening_of spec.link) payload link items outcomes lates give_ups →
         IsServedOver settings spec (record { told = Live payload; connections = connections }) link }
 {
     a_finished_lane_is_live();

@@ -18,6 +18,7 @@ use Rattle.board_history.specs.GiveUps.{IsExact, time_outs}
 use Rattle.board_history.specs.History.{dispatches_by_client}
 use Rattle.board_history.specs.Runs.{opening_of}
 use Rattle.lane_history.specs.Links.{LinkReport, board_there}
+use Rattle.lane_history.specs.Receives.{quiets_since_status}
 use Rattle.lane_history.specs.Runs.{AreRunsOver, IsAsTold, IsTrueRun, ShowsScripts}
 use Rattle.lane_history.specs.Runs.{RepliesCame, TimeOutsWaited}
 
@@ -49,11 +50,13 @@ line_at run told = elim told as (λ _. BoardLine) [
 pub line_waited : (settings : Limits) (spec : BoardSpec) (run : BoardRun) (link : LinkReport) (told : Greeting)
     → time_outs (dispatches_by_client run) ≡ count_by is_timed_out (outcomes_on run)
     → IsAsTold settings spec run link told → TimeOutsWaited settings (line_at run told) link
-line_waited settings spec run link (Live payload) same live = (
-  subst (λ (n : ℕ). IsExact link.quiets → (settings.rounds + 1) * n ≤ settings.window * link.quiets) same
-      live.any_link.rounds.bodies,
-  held_by_line settings spec run link.held link.telling same live.told,
-)
+line_waited settings spec run link (Live payload) same live = record {
+  quiets' = subst (λ (n : ℕ). IsExact link.quiets → (settings.rounds + 1) * n ≤ settings.window * link.quiets) same
+      live.any_link.rounds.bodies;
+  since = subst (λ (n : ℕ). (settings.rounds + 1) * n ≤ settings.window * quiets_since_status link) same
+      live.any_link.rounds_since.bodies;
+  held' = held_by_line settings spec run link.held link.telling same live.told;
+}
 line_waited settings spec run link Silent same silent = tt
 line_waited settings spec run link Down same down = tt
 

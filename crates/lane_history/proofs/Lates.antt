@@ -14,6 +14,8 @@ use Rattle.script_plans.specs.declared.board_run.ClientPart.{ClientPart}
 use Rattle.board_history.specs.Parts.{AreBeside, IsExecutedLate, IsLateReplyOf, IsReplied}
 use Rattle.lane_history.specs.Lates.{AreLateExactly, AreLatesOf, AreLateOnlyIfTimedOut, IsLateExactly, IsLateOnlyIfTimedOut}
 use Rattle.lane_history.specs.Lates.{if_any_came, late_for, lates_of}
+use Rattle.lane_history.specs.Links.{LinkReport}
+use Rattle.lane_history.specs.Receives.{HasBroughtReply, IsLateBrought}
 
 -- ---- side by side
 
@@ -84,6 +86,23 @@ module _ (lates : List (Option (List ℕ))) where
       → AreBeside (AreBeside (IsExecutedLate executed)) outcomes shown
   lates_executed executed within outcomes shown are =
       all_beside_then IsOfLane (IsExecutedLate executed) (late_executed executed within) outcomes shown are
+
+  -- the link brought it
+  late_brought : (link : LinkReport)
+      → ((place : ℕ) (words : List ℕ) → late_in lates place ≡ Some words → HasBroughtReply link place words)
+      → (outcome : Outcome) (late : Option (List ℕ)) → IsOfLane outcome late → IsLateBrought link outcome late
+  late_brought link brought outcome None is = tt
+  late_brought link brought (Replied place told) (Some words) is = absurd cc
+  late_brought link brought (TimedOut place rounds) (Some words) is = brought place words is
+  late_brought link brought Unsent (Some words) is = absurd cc
+  late_brought link brought (LinkLost place) (Some words) is = absurd cc
+
+  pub lates_brought : (link : LinkReport)
+      → ((place : ℕ) (words : List ℕ) → late_in lates place ≡ Some words → HasBroughtReply link place words)
+      → (outcomes : List (List Outcome)) (shown : List (List (Option (List ℕ)))) → AreLatesOf lates outcomes shown
+      → AreBeside (AreBeside (IsLateBrought link)) outcomes shown
+  lates_brought link brought outcomes shown are =
+      all_beside_then IsOfLane (IsLateBrought link) (late_brought link brought) outcomes shown are
 
   -- ---- the lists of clients
 

@@ -2,7 +2,7 @@
 use Rattle.std.proofs.Common.{◌≡◌, ℕ, ◌+◌, ◌*◌, ◌≤◌, List, [], ◌∷◌, length, map, Option, Some, None, refl, sym, ap}
 use Rattle.std.proofs.Common.{◌∙◌, subst}
 use Rattle.std.specs.Prelude.{IfSome}
-use Rattle.std.specs.List.{AllByRecursion, count_by, flat_map}
+use Rattle.std.specs.List.{AllByRecursion, count_by, flat_map, slice_get}
 use Rattle.std.proofs.lemmas.List.Folds.{flat_map-map}
 use Rattle.board_bus.specs.Cells.{CellMap}
 use Rattle.board_node.specs.declared.spec.BoardSpec.{BoardSpec}
@@ -13,6 +13,7 @@ use Rattle.world_core.specs.Telling.{Telling}
 use Rattle.ipb_base.proofs.AllLemmas.{all-map}
 use Rattle.script_steps.specs.declared.operation.Step.{Step}
 use Rattle.lane_record.specs.declared.outcome.Outcome.{Outcome}
+use Rattle.lane_record.specs.declared.outcome.Outcome.TheVariants.{Replied, TimedOut, Unsent, LinkLost}
 use Rattle.lane_record.specs.declared.item.Item.{Item}
 use Rattle.lane_record.specs.Outcomes.{TellsRounds, is_replied}
 use Rattle.lane_record.specs.Claims.{claims, taken}
@@ -36,16 +37,17 @@ use Rattle.board_history.proofs.Shaped.{Standing, is_cut, whole_again, heads, le
 use Rattle.lane_history.specs.Links.{LinkReport, HasFailed, IsBoardOf, IsLostOnlyIfFailed, board_there}
 use Rattle.lane_history.specs.Runs.{ShowsScripts, TellsPayload, IsTrueRun, IsLiveRun, IsAsTold, IsRunOver}
 use Rattle.lane_history.specs.Runs.{HoldsOverAnyLink, ShowsLates}
+use Rattle.lane_history.specs.Receives.{HasBroughtReply, IsReplyBrought, quiets_since_status}
 use Rattle.lane_history.specs.Records.{IsClientsRecord, IsRecordOf, has_become}
 use Rattle.lane_history.specs.Lanes.{IsTrueOf, IsLateAsHanded, IsSoundLane}
 use Rattle.lane_history.specs.Lates.{AreLateExactly, AreLatesOf, AreLateOnlyIfTimedOut, lates_of}
-use Rattle.lane_history.proofs.Lates.{IsAsHanded, are_of_lane, exactly_late, of_timed_out}
+use Rattle.lane_history.proofs.Lates.{IsAsHanded, are_of_lane, exactly_late, lates_brought, of_timed_out}
 use Rattle.lane_history.proofs.Opening.{same_shape}
 use Rattle.lane_history.proofs.Steps.{steps, steps_of_all, finished}
 use Rattle.lane_history.proofs.Orders.{AreInOrder, in_order, order_is, one_order, keeps_scripts, sent_bodies}
 use Rattle.lane_history.proofs.Histories.{IsTrueOfSteps, true_steps, executed_once, replies_of, late_replies_of}
 use Rattle.lane_history.proofs.Histories.{are_settled, became_outcomes, each_outcome}
-use Rattle.lane_history.proofs.Waits.{became_counted, has_waited, reached}
+use Rattle.lane_history.proofs.Waits.{became_counted, has_paid, has_waited, reached}
 use Rattle.lane_history.proofs.Sealed.{is_record_of}
 use Rattle.lane_history.proofs.Told.{of_board, some_then}
 
@@ -172,6 +174,27 @@ all_tell bodies outcomes items became rounds is legal tell =
     (became_outcomes (TellsRounds rounds) items became legal (finished bodies outcomes items became is legal)
     (λ k o there. all_get (λ (x : Option Outcome). IfSome x (TellsRounds rounds)) became k (Some o) tell there))
 
+reply_brought : (link : LinkReport) (o : Outcome)
+    → ((place : ℕ) (words : List ℕ) → o ≡ Replied place words → HasBroughtReply link place words)
+    → IsReplyBrought link o
+reply_brought link (Replied place words) brought = brought place words refl
+reply_brought link (TimedOut place rounds) brought = tt
+reply_brought link Unsent brought = tt
+reply_brought link (LinkLost place) brought = tt
+
+-- the link brought the words of each reply
+all_brought : (bodies : List (List (List ℕ))) (outcomes : List (List (List Outcome))) (items : List Item)
+    (became : List (Option Outcome)) (link : LinkReport) → IsRecordOf bodies outcomes items → IsLegal items became
+    → ((k place : ℕ) (words : List ℕ) → slice_get became k ≡ Some (Some (Replied place words))
+    → HasBroughtReply link place words)
+    → AllByRecursion (AllByRecursion (IsReplyBrought link)) (map joined outcomes)
+all_brought bodies outcomes items became link is legal brought =
+    each_outcome (IsReplyBrought link) bodies (map joined outcomes) (steps items)
+    (steps_of_all bodies outcomes items became is legal)
+    (became_outcomes (IsReplyBrought link) items became legal (finished bodies outcomes items became is legal)
+    (λ k o there. reply_brought link o
+    (λ place words same. brought k place words (there ∙ ap (λ (p : Outcome). Some (Some p)) same))))
+
 -- a lane counts its replies among the datagrams of its link, and the line of its board counts the same ones
 replies_heard : (run : BoardRun) (gots : ℕ) (items : List Item) (became : List (Option Outcome))
     → map joined (dispatches_by_client run) ≡ outcomes_by_client run
@@ -221,7 +244,7 @@ pub live : (settings : Limits) (spec : BoardSpec) (run : BoardRun) (link : LinkR
     → map joined (dispatches_by_client run) ≡ outcomes_by_client run → TellsPayload spec.link payload
     → IsRecordOf (bodies_by_client run) (dispatches_by_client run) items
     → AreLatesOf lates (outcomes_by_client run) (lates_by_client run)
-    → IsSoundLane settings (opening_of spec.link) link items became lates given_up
+    → IsSoundLane settings (opening_of spec.link) payload link items became lates given_up
     → IsLiveRun settings spec payload run link
 live settings spec run link payload items became lates given_up same packets is of_lane lane =
     let bodies = bodies_by_client run in
@@ -229,11 +252,17 @@ live settings spec run link payload items became lates given_up same packets is 
     let legal = lane.kept.legal in
     let any_link : HoldsOverAnyLink settings spec payload run link = record {
       packets = packets;
+      greeted = lane.greeted;
       one_order = subst (HasOneOrder bodies) same (in_one_order bodies outcomes items became is legal);
       script_order = subst (KeepsScripts bodies) same (in_script_order bodies outcomes items became is legal);
       rounds = has_waited settings.window (settings.rounds + 1) link.quiets given_up bodies outcomes items became is
           lane.kept lane.waited;
+      rounds_since = has_paid settings.window (settings.rounds + 1) (quiets_since_status link) given_up bodies outcomes
+          items became is lane.kept lane.waited_since;
       heard = replies_heard run link.gots items became same is legal lane.heard;
+      words = subst (AllByRecursion (AllByRecursion (IsReplyBrought link))) same
+          (all_brought bodies outcomes items became link is legal lane.words);
+      late_words = lates_brought lates link lane.late_words (outcomes_by_client run) (lates_by_client run) of_lane;
       lost = subst (AllByRecursion (AllByRecursion (IsLostOnlyIfFailed link))) same
           (only_lost bodies outcomes items became link is legal lane.lost);
       tells = subst (AllByRecursion (AllByRecursion (TellsRounds settings.rounds))) same
@@ -313,7 +342,7 @@ module _ (standing : Standing) where
       → IsBoardOf spec.link (board_there link.telling) → run.greeting ≡ Live payload → TellsPayload spec.link payload
       → IsClientsRecord (bodies_by_client run) (dispatches_by_client run) items
       → lates_by_client run ≡ map (lates_of lates) (outcomes_by_client run)
-      → IsSoundLane settings (opening_of spec.link) link items became lates given_up
+      → IsSoundLane settings (opening_of spec.link) payload link items became lates given_up
       → IsRunOver settings spec board scripts run link
   run_over settings spec board scripts run link payload items became lates given_up shows of greeted packets is shown
       lane =

@@ -27,6 +27,7 @@ use Rattle.lane_record.specs.Dispatches.{joined}
 use Rattle.board_history.specs.GiveUps.{time_outs, was_given_up, times_given_up, IsExact, GaveUpOnlyAfter}
 use Rattle.lane_record.specs.Dispatches.{entries_by}
 use Rattle.lane_history.specs.Records.{IsRecordOf, beside_plans, has_become, planned_in}
+use Rattle.lane_history.specs.Runs.{PaidForGiveUps}
 use Rattle.lane_history.proofs.Own.{by_append, own_found, Climbs, climbs_of, climbs_lower, own_climbs}
 use Rattle.lane_history.proofs.Rans.{Taking, Ran, outcome_took, outcomes_ran, ask_items, took_items, ran_items}
 use Rattle.lane_history.proofs.Rans.{AreWhole}
@@ -510,20 +511,29 @@ bodies_at_most window cost paid bodies given_up few enough =
 pub reached : (n count : ℕ) → HasReached n count → IsExact count → n ≤ count
 reached n count has exact = omega (arith, has, exact)
 
+pub has_paid : (window cost paid given_up : ℕ) (bodies : List (List (List ℕ)))
+    (outcomes : List (List (List Outcome))) (items : List Item) (became : List (Option Outcome))
+    → IsRecordOf bodies outcomes items → IsKept items became window given_up → cost * given_up ≤ paid
+    → PaidForGiveUps window cost paid outcomes
+has_paid window cost paid given_up bodies outcomes items became is kept enough =
+    let climbs = climbs_of 0 given_up (give_ups items) (omega arith) kept.legal.give_ups_rise.rise kept.within in
+    let late : EachBehind HasLate [] items = each_then IsLate HasLate [] items
+    (λ before x after _ l. found_late before x x.what l) kept.legal.give_ups_rise.later in
+    record {
+      bodies = subst (λ (n : ℕ). cost * n ≤ window * paid)
+          (sym (time_outs_are bodies outcomes items became is kept.legal))
+          (bodies_at_most window cost paid (timeouts became) given_up kept.few enough);
+      dispatches = clients_gave_up cost paid given_up 1 bodies outcomes items enough climbs late
+          (each_ran bodies outcomes items is);
+    }
+
+-- the same of a count that stands still at its end
 pub has_waited : (window cost paid given_up : ℕ) (bodies : List (List (List ℕ)))
     (outcomes : List (List (List Outcome))) (items : List Item) (became : List (Option Outcome))
     → IsRecordOf bodies outcomes items → IsKept items became window given_up → HasReached (cost * given_up) paid
     → GaveUpOnlyAfter window cost paid outcomes
 has_waited window cost paid given_up bodies outcomes items became is kept has =
-    let climbs = climbs_of 0 given_up (give_ups items) (omega arith) kept.legal.give_ups_rise.rise kept.within in
-    let late : EachBehind HasLate [] items = each_then IsLate HasLate [] items
-    (λ before x after _ l. found_late before x x.what l) kept.legal.give_ups_rise.later in
-    record {
-      bodies = λ exact. subst (λ (n : ℕ). cost * n ≤ window * paid)
-          (sym (time_outs_are bodies outcomes items became is kept.legal))
-          (bodies_at_most window cost paid (timeouts became) given_up kept.few
-          (reached (cost * given_up) paid has exact));
-      dispatches = λ exact. clients_gave_up cost paid given_up 1 bodies outcomes items
-          (reached (cost * given_up) paid has exact) climbs late
-          (each_ran bodies outcomes items is);
-    }
+    let exactly : IsExact paid → PaidForGiveUps window cost paid outcomes =
+    λ exact. has_paid window cost paid given_up bodies outcomes items became is kept
+    (reached (cost * given_up) paid has exact) in
+    record { bodies = λ exact. (exactly exact).bodies; dispatches = λ exact. (exactly exact).dispatches }

@@ -1,4 +1,5 @@
 pub mod Links
+pub mod Receives
 pub mod Lates
 pub mod Runs
 pub mod Records

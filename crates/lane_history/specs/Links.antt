@@ -1,5 +1,5 @@
 -- What a link shows after a run. Profile.
-use Rattle.std.specs.Prelude.{◌≡◌, ℕ, ◌≤◌, true, [], Option, Some, None, IfSome}
+use Rattle.std.specs.Prelude.{◌≡◌, ℕ, ◌≤◌, true, List, [], Option, Some, None, IfSome}
 use Rattle.board_bus.specs.Ranges.{opening_bus}
 use Rattle.world_model.specs.Board.{Board, executed}
 use Rattle.world_core.specs.Telling.{Telling}
@@ -10,13 +10,15 @@ use Rattle.lane_record.specs.declared.outcome.Outcome.{Outcome}
 use Rattle.lane_record.specs.Outcomes.{is_lost}
 
 -- Counts since the link was made, each of 64 bits: how often the network failed, how many receives were quiet and how
--- many got a datagram, and how many datagrams were lost, delayed or dropped; and what the link tells of its board and
--- of the datagrams that it carried, where it tells.
+-- many got a datagram, and how many datagrams were lost, delayed or dropped; what each receive came to that did not
+-- fail, in order, the bytes of a datagram or none; and what the link tells of its board and of the datagrams that it
+-- carried, where it tells.
 pub record LinkReport : Type 0 where
   pub faults : ℕ
   pub quiets : ℕ
   pub gots : ℕ
   pub held : ℕ
+  pub receives : List (Option (List ℕ))
   pub telling : Option Telling
 
 -- the board of a link that tells

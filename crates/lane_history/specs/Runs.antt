@@ -10,6 +10,8 @@ use Rattle.board_node.specs.declared.spec.LinkSpec.{LinkSpec}
 use Rattle.board_node.specs.declared.spec.LinkSpec.TheVariants.{Sim, Udp}
 use Rattle.world_model.specs.Board.{Board, executed}
 use Rattle.world_model.specs.Settings.{Limits}
+use Rattle.world_core.specs.Receives.{first_status}
+use Rattle.lane_record.specs.declared.outcome.Outcome.{Outcome}
 use Rattle.lane_record.specs.Outcomes.{TellsRounds, is_replied}
 use Rattle.script_steps.specs.declared.operation.Step.{Step}
 use Rattle.script_plans.specs.declared.greeting.Greeting.{Greeting}
@@ -29,16 +31,17 @@ use Rattle.script_plans.specs.Runs.{outcomes_on, IsPlanned}
 use Rattle.script_plans.specs.Plan.{ClientBodies, plans_on}
 use Rattle.board_history.specs.Order.{order}
 use Rattle.board_history.specs.Parts.{HasOneOrder, KeepsScripts, AreRepliesOf, AreLateRepliesOf, IsExecutedOnce}
-use Rattle.board_history.specs.Parts.{AllReplied}
+use Rattle.board_history.specs.Parts.{AllReplied, AreBeside}
 use Rattle.board_history.specs.History.{ShowsHistory, bodies_by_client, outcomes_by_client, dispatches_by_client}
 use Rattle.board_history.specs.History.{lates_by_client}
-use Rattle.board_history.specs.GiveUps.{GaveUpOnlyAfter, IsExact}
+use Rattle.board_history.specs.GiveUps.{GaveUpOnlyAfter, IsExact, time_outs, times_given_up}
 use Rattle.board_history.specs.Merges.{IsMergeOfSome, IsMergeOfAll}
 use Rattle.board_history.specs.InTurn.{IsUsedByOne}
 use Rattle.board_history.specs.Runs.{board_run, greeting_of, opening_of}
 use Rattle.lane_history.specs.Lates.{AreLateExactly, AreLateOnlyIfTimedOut}
 use Rattle.lane_history.specs.Links.{LinkReport, HasFailed, IsBoardOf, IsLostOnlyIfFailed}
 use Rattle.lane_history.specs.Links.{IsUntouched, board_there}
+use Rattle.lane_history.specs.Receives.{HasToldPayload, IsLateBrought, IsReplyBrought, quiets_since_status}
 
 -- ---- what the scripts ask
 
@@ -68,18 +71,35 @@ pub record IsTrueRun (settings : Limits) (opening : CellMap) (run : BoardRun) (h
   -- the hub gave up only where datagrams were held in each round
   pub held' : GaveUpOnlyAfter settings.window settings.rounds held (dispatches_by_client run)
 
+-- Each give-up cost so much of what was paid, and ended at most `window` bodies that were sent. The outcomes stand client
+-- by client and dispatch by dispatch. `GaveUpOnlyAfter` is the same of a count that stands still at its end.
+pub record PaidForGiveUps (window cost paid : ℕ) (outcomes : List (List (List Outcome))) : Type 0 where
+  -- bodies are timed out only at that cost
+  pub bodies : cost * time_outs outcomes ≤ window * paid
+  -- a client finds so many dispatches given up only at that cost
+  pub dispatches : AllByRecursion (λ client. cost * times_given_up client ≤ paid) outcomes
+
 -- Of a board that answered the greeting and its link, whether it tells or not:
 pub record HoldsOverAnyLink (settings : Limits) (spec : BoardSpec) (payload : ℕ) (run : BoardRun) (link : LinkReport)
     : Type 0 where
   pub packets : TellsPayload spec.link payload
+  -- so the board told in the greeting
+  pub greeted : HasToldPayload link payload
   -- the places are 1, 2, 3, .., and each belongs to one body
   pub one_order : HasOneOrder (bodies_by_client run) (outcomes_by_client run)
   -- the bodies of each client stand in the order of its script
   pub script_order : KeepsScripts (bodies_by_client run) (outcomes_by_client run)
   -- the hub gave up only after the rounds of the settings, each of which ended with a quiet receive
   pub rounds : GaveUpOnlyAfter settings.window (settings.rounds + 1) link.quiets (dispatches_by_client run)
+  -- and with one behind the greeting
+  pub rounds_since : PaidForGiveUps settings.window (settings.rounds + 1) (quiets_since_status link)
+      (dispatches_by_client run)
   -- each reply came in a datagram of its own, behind the one that answered the greeting
   pub heard : IsExact link.gots → count_by is_replied (outcomes_on run) + 1 ≤ link.gots
+  -- its words are those that the link brought for its place
+  pub words : AllByRecursion (AllByRecursion (IsReplyBrought link)) (outcomes_by_client run)
+  -- so are those of each late answer
+  pub late_words : AreBeside (AreBeside (IsLateBrought link)) (outcomes_by_client run) (lates_by_client run)
   -- a body was lost with the link only where the link failed
   pub lost : AllByRecursion (AllByRecursion (IsLostOnlyIfFailed link)) (outcomes_by_client run)
   -- a body that was timed out tells the rounds of the settings
@@ -104,9 +124,11 @@ pub record ShowsLates (run : BoardRun) (link : LinkReport) : Type 0 where
 
 -- ---- the others
 
--- A board is silent only where each round of its greeting ended with a quiet receive or 64 datagrams of no use. Over a
--- link that tells each ended with a quiet receive, datagrams were held in each, and the board executed nothing.
+-- A board is silent only where no datagram told its status, and each round of its greeting ended with a quiet receive or
+-- 64 datagrams of no use. Over a link that tells each ended with a quiet receive, datagrams were held in each, and the
+-- board executed nothing.
 pub record IsSilentRun (settings : Limits) (link : LinkReport) : Type 0 where
+  pub untold : first_status link.receives ≡ None
   pub waited : 64 * settings.rounds ≤ 64 * link.quiets + link.gots
   pub quiet : IfSome link.telling (λ _. settings.rounds ≤ link.quiets)
   pub held : IfSome link.telling (λ _. settings.rounds ≤ link.held)
@@ -176,12 +198,18 @@ IsLineOfRounds rounds line = ShowsRounds rounds line.result
 
 -- ---- the line of a board
 
--- With so many timeouts in the line of a live board, its link had quiet receives for the rounds of their give-ups, each
--- of which ended at most `window` bodies, and where it tells it held datagrams in each of these rounds.
+-- A link had quiet receives for the rounds of the give-ups of so many timeouts, each of which ended at most `window`
+-- bodies; it had them behind the greeting; and where it tells it held datagrams in each of these rounds.
+pub record WaitedForTimeOuts (settings : Limits) (timed_out : ℕ) (link : LinkReport) : Type 0 where
+  pub quiets' : IsExact link.quiets → (settings.rounds + 1) * timed_out ≤ settings.window * link.quiets
+  pub since : (settings.rounds + 1) * timed_out ≤ settings.window * quiets_since_status link
+  pub held' : IfSome link.telling
+      (λ _. IsExact link.held → settings.rounds * timed_out ≤ settings.window * link.held)
+
+-- so of the timeouts in the line of a live board
 abbrev pub TimeOutsWaited : Limits → BoardLine → LinkReport → Type 0
 TimeOutsWaited settings (board_lines.Live name sent replied timed_out lost) link =
-    (IsExact link.quiets → (settings.rounds + 1) * timed_out ≤ settings.window * link.quiets)
-    × IfSome link.telling (λ _. IsExact link.held → settings.rounds * timed_out ≤ settings.window * link.held)
+    WaitedForTimeOuts settings timed_out link
 TimeOutsWaited settings (board_lines.Silent name) link = Unit {0}
 TimeOutsWaited settings (board_lines.Down name) link = Unit {0}
 

@@ -140,7 +140,7 @@ pub fn a_lane_left_at_any_moment_executed_a_merge()
         (payload : ℕ) (items : List Item) (became : List (Option Outcome)) (lates : List (Option (List ℕ)))
         (given_up : ℕ) → TellsPayload spec.link payload →
         IsPartlyPlanned (map (λ (p : ClientBodies). p.bodies) (plans_on board (Live payload) scripts)) items →
-        IsSoundLane settings (opening_of spec.link) link items became lates given_up →
+        IsSoundLane settings (opening_of spec.link) payload link items became lates given_up →
         IfSome (board_there link.telling) (λ there. IsMergeOfAsked spec board scripts (executed there)) }
     ensures untouched { (spec : BoardSpec) (board : ℕ) (scripts : List (List Step)) (link : LinkReport) →
         IsUntouched link →
@@ -164,7 +164,7 @@ pub fn a_finished_lane_is_live()
         map joined (dispatches_by_client run) ≡ outcomes_by_client run → TellsPayload spec.link payload →
         IsRecordOf (bodies_by_client run) (dispatches_by_client run) items →
         AreLatesOf lates (outcomes_by_client run) (lates_by_client run) →
-        IsSoundLane settings (opening_of spec.link) link items became lates given_up →
+        IsSoundLane settings (opening_of spec.link) payload link items became lates given_up →
         IsLiveRun settings spec payload run link }
 {}
 
@@ -178,7 +178,7 @@ pub fn a_finished_lane_is_a_live_run()
         run.greeting ≡ Live payload → TellsPayload spec.link payload →
         IsClientsRecord (bodies_by_client run) (dispatches_by_client run) items →
         lates_by_client run ≡ map (lates_of lates) (outcomes_by_client run) →
-        IsSoundLane settings (opening_of spec.link) link items became lates given_up →
+        IsSoundLane settings (opening_of spec.link) payload link items became lates given_up →
         IsRunOver settings spec board scripts run link }
 {
     bodies_stand_dispatch_by_dispatch();

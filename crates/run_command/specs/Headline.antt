@@ -23,7 +23,7 @@
 --                                AreLateRepliesOf                        board_history/specs/Parts
 --   timeouts                     GaveUpOnlyAfter, TimeOutsWaited,        board_history/specs/GiveUps,
 --                                IsLineOfRounds                          lane_history/specs/Runs
---   replies over any link        RepliesCame                             lane_history/specs/Runs
+--   replies over any link        RepliesCame, HasBroughtReply            lane_history/specs/Runs, Receives
 --   lost links, down, silent     IsLostOnlyIfFailed, IsDownRun,          lane_history/specs/Links, Runs
 --                                IsSilentRun                             lane_history/specs/Runs
 --   error and skipped            op_result, told_of                      transcript/specs/Results, Ends

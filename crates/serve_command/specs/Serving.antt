@@ -46,6 +46,8 @@
 --                                PlacesOfFramesDiffer, IsPlaced
 --   code 0: executed there       IsAnsweredRightly, IsReplyAt            server_summary/specs/Frames,
 --                                                                        client_history/specs/Shown
+--   code 0: over any link        IsAnsweredAsCarried,                    server_summary/specs/Frames,
+--                                HasBroughtReply                         lane_history/specs/Receives
 --   codes 1 and 2: the rounds    FramesGivenUpOnlyAfterRounds            server_summary/specs/Frames
 --   code 3: the link failed      IsLostOnlyWithLink                      server_summary/specs/Frames
 --   codes 4, 5, idle boards      HasUnaskedCodes                         server_summary/specs/Frames
@@ -85,7 +87,8 @@ use Rattle.session_serve.specs.Boards.{AreLinksTo, states_of}
 use Rattle.session_serve.specs.Connections.{Conversation}
 use Rattle.session_serve.specs.Serving.{AreServed, HadMemory}
 use Rattle.server_summary.specs.Answers.{AllTellAnswers, HasWrittenAll}
-use Rattle.server_summary.specs.Frames.{FramesGivenUpOnlyAfterRounds, HasLane, HasUnaskedCodes, IsAnsweredRightly}
+use Rattle.server_summary.specs.Frames.{FramesGivenUpOnlyAfterRounds, HasLane, HasUnaskedCodes, IsAnsweredAsCarried}
+use Rattle.server_summary.specs.Frames.{IsAnsweredRightly}
 use Rattle.server_summary.specs.Frames.{IsLostOnlyWithLink, IsPlaced, NoneIsGivenUpOrLost, OfEachBoard, OfEachFrame}
 use Rattle.server_summary.specs.Frames.{OfEachWithCode, PlacesOfFramesDiffer, PlacesOfFramesRise, place_on}
 use Rattle.server_summary.specs.Ruled.{AreCodedByRules}
@@ -132,8 +135,12 @@ pub record AreAnsweredRightly (settings : Limits) (boards : List BoardState) (co
   -- reply frame has the words of a bus with a single thread there
   pub replied : IfSome (board_there link.telling) (λ board. OfEachWithCode replied_code position boards
       (IsAnsweredRightly (opening_of spec.link) (executed board) boards position) conversations)
+  -- whether the link tells or not, each frame that is answered by code 0 has the words of a control packet that the link
+  -- brought behind the greeting, with the identifier of its place
+  pub carried : OfEachWithCode replied_code position boards (IsAnsweredAsCarried link boards position) conversations
   -- where the board is live and so many frames of a connection are answered by code 1 or 2, the link had a quiet
-  -- receive in each of the rounds of each and one more, and where it tells it held a datagram in each of the rounds
+  -- receive behind the greeting in each of the rounds of each and one more, and where it tells it held a datagram in
+  -- each of the rounds
   pub gave_up : HasLane position boards
       → FramesGivenUpOnlyAfterRounds settings link position boards conversations
   -- a frame is answered by code 3 only where the link failed

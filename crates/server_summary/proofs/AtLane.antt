@@ -21,9 +21,9 @@ use Rattle.board_bus.specs.Cells.{CellMap}
 use Rattle.board_history.specs.Parts.{IsReplied}
 use Rattle.lane_history.specs.Links.{HasFailed, LinkReport}
 use Rattle.lane_history.proofs.Waits.{count_cons}
-use Rattle.client_history.specs.Shown.{IsNotLostUnlessFailed, IsRightlyReplied, given_up, places_in}
+use Rattle.client_history.specs.Shown.{IsNotLostUnlessFailed, IsReplyCarried, IsRightlyReplied, given_up, places_in}
 use Rattle.server_summary.specs.Answers.{has_code_at}
-use Rattle.server_summary.specs.Frames.{IsAnsweredRightly, is_given_up_at, place_in, place_on}
+use Rattle.server_summary.specs.Frames.{IsAnsweredAsCarried, IsAnsweredRightly, is_given_up_at, place_in, place_on}
 use Rattle.server_summary.proofs.Counting.{IsCodeOf}
 use Rattle.server_summary.proofs.Lanes.{same_lane}
 use Rattle.server_summary.proofs.OneFrame.{Became, HasBecome, IsAsked, IsNothing, at_packet}
@@ -215,6 +215,39 @@ module _ (boards : List BoardState) (position lane : ℕ) (here : slice_get boar
         (λ e is coded. let never = sym (is.no_code replied_code (omega arith)) ∙ coded in absurd cc)
         (λ e s is one coded.
         outcome_right e s.body s.outcome is (sym (code_is replied_code e s is) ∙ coded) one) es asked right
+
+  module _ (link : LinkReport) where
+    outcome_carried : (e : Exchange) (body : List ℕ) (outcome : Outcome)
+        (is : BecameSo e (record { body = body; outcome = outcome }))
+        → ((reply_of e is.request outcome).code == replied_code) ≡ true
+        → IsReplyCarried link (record { body = body; outcome = outcome })
+        → IsAnsweredAsCarried link boards position e
+    outcome_carried e body (Replied place words) is coded brought =
+        let s : Submission = record { body = body; outcome = Replied place words } in record {
+          place = place;
+          place' = place_is e s is;
+          request = is.request;
+          request' = is.packet';
+          words = words;
+          carried = brought;
+          reply = reply_is e s is
+              ∙ ap (λ (board : ℕ). reply_of_outcome board is.request.order is.request.id (Replied place words))
+              (at_position e s is);
+        }
+    outcome_carried e body (TimedOut place rounds) is coded brought = absurd cc
+    outcome_carried e body Unsent is coded brought = absurd cc
+    outcome_carried e body (LinkLost place) is coded brought = absurd cc
+
+    pub all_carried : (es : List Exchange) → AllByRecursion (IsAsked boards) es
+        → AllByRecursion (IsReplyCarried link) (submissions_on boards lane es)
+        → AllByRecursion (λ e. has_code_at replied_code position boards e ≡ true
+        → IsAnsweredAsCarried link boards position e) es
+    all_carried es asked brought =
+        each_then (IsReplyCarried link)
+        (λ e. has_code_at replied_code position boards e ≡ true → IsAnsweredAsCarried link boards position e)
+        (λ e is coded. let never = sym (is.no_code replied_code (omega arith)) ∙ coded in absurd cc)
+        (λ e s is one coded.
+        outcome_carried e s.body s.outcome is (sym (code_is replied_code e s is) ∙ coded) one) es asked brought
 
   -- ---- codes 1 and 2
 

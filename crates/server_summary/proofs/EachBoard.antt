@@ -22,24 +22,26 @@ use Rattle.board_node.specs.declared.spec.LinkSpec.{LinkSpec}
 use Rattle.board_node.specs.declared.spec.LinkSpec.TheVariants.{Sim, Udp}
 use Rattle.board_history.specs.Runs.{greeting_of}
 use Rattle.lane_history.specs.Links.{HasFailed, IsBoardOf, IsFaithful, LinkReport, board_there}
+use Rattle.lane_history.specs.Receives.{quiets_since_status}
 use Rattle.lane_history.specs.Runs.{IsAsTold}
 use Rattle.lane_history.proofs.Shown.{some_then}
 use Rattle.client_history.specs.Boards.{AreServedOver, IsServedOver, ServedBoard, run_of}
-use Rattle.client_history.specs.Shown.{GaveUpOnlyAfterRounds, IsNotLostUnlessFailed, IsRightlyReplied, OfEach}
-use Rattle.client_history.specs.Shown.{PlacesDiffer, PlacesRise, given_up, places_in}
+use Rattle.client_history.specs.Shown.{GaveUpOnlyAfterRounds, IsNotLostUnlessFailed, IsReplyCarried, IsRightlyReplied}
+use Rattle.client_history.specs.Shown.{OfEach, PlacesDiffer, PlacesRise, given_up, places_in}
 use Rattle.hub_session.specs.Codes.{link_lost_code, replied_code, timed_out_code, unsent_code}
 use Rattle.hub_session.specs.Exchanges.{Exchange}
 use Rattle.session_serve.specs.Boards.{states_of}
 use Rattle.session_serve.specs.Connections.{Conversation, exchanges_of, submissions_to}
 use Rattle.server_summary.specs.Answers.{has_code_at}
 use Rattle.server_summary.specs.Frames.{PlacesOfFramesDiffer, PlacesOfFramesRise, FramesGivenUpOnlyAfterRounds}
-use Rattle.server_summary.specs.Frames.{IsAnsweredRightly}
+use Rattle.server_summary.specs.Frames.{IsAnsweredAsCarried, IsAnsweredRightly}
 use Rattle.server_summary.specs.Frames.{IsLostOnlyWithLink, NoneWithCode, NoneIsGivenUpOrLost, OfEachWithCode}
 use Rattle.server_summary.specs.Frames.{IsPlaced, frames_given_up, place_on, places_on}
 use Rattle.server_summary.proofs.Counting.{IsPlacing, unsent_unplaced}
 use Rattle.server_summary.proofs.Asked.{AreAsked}
 use Rattle.server_summary.proofs.AtIdle.{down_is, never_coded, no_places, none_placed, silent_is}
-use Rattle.server_summary.proofs.AtLane.{all_lost, all_right, given_up_are, none_coded, placed_by_code, places_are}
+use Rattle.server_summary.proofs.AtLane.{all_carried, all_lost, all_right, given_up_are, none_coded, placed_by_code}
+use Rattle.server_summary.proofs.AtLane.{places_are}
 use Rattle.server_summary.proofs.Lanes.{down_at, lane_at, one_place, silent_at}
 
 -- ---- the board at a position
@@ -205,6 +207,29 @@ module _ (boards : List ServedBoard) (position : ℕ) where
     all_rightly state here (c ∷ cs) asked right =
         (rightly_at state here c asked.0 right.0, all_rightly state here cs asked.1 right.1)
 
+  module _ (link : LinkReport) where
+    carried_at : (state : BoardState) → slice_get states position ≡ Some state → (c : Conversation)
+        → AreAsked states c → AllByRecursion (IsReplyCarried link) (submissions_to states state c)
+        → AllByRecursion
+        (λ e. has_code_at replied_code position states e ≡ true → IsAnsweredAsCarried link states position e)
+        (exchanges_of c)
+    carried_at (stands.Lane lane) here c asked brought =
+        all_carried states position lane here (alone lane here) link (exchanges_of c) asked brought
+    carried_at stands.Silent here c asked brought =
+        never_coded stands.Silent unsent_code silent_is states position here replied_code (omega arith)
+        (λ same. absurd cc) (IsAnsweredAsCarried link states position) (exchanges_of c)
+    carried_at stands.Down here c asked brought =
+        never_coded stands.Down link_lost_code down_is states position here replied_code (omega arith)
+        (λ same. absurd cc) (IsAnsweredAsCarried link states position) (exchanges_of c)
+
+    pub all_as_carried : (state : BoardState) → slice_get states position ≡ Some state → (cs : List Conversation)
+        → AllByRecursion (AreAsked states) cs
+        → OfEach (IsReplyCarried link) (map (submissions_to states state) cs)
+        → OfEachWithCode replied_code position states (IsAnsweredAsCarried link states position) cs
+    all_as_carried state here [] asked brought = tt
+    all_as_carried state here (c ∷ cs) asked brought =
+        (carried_at state here c asked.0 brought.0, all_as_carried state here cs asked.1 brought.1)
+
   -- ---- codes 1 and 2
 
   pub all_paid : (cost paid lane : ℕ) → slice_get states position ≡ Some (stands.Lane lane) → (cs : List Conversation)
@@ -225,6 +250,7 @@ module _ (boards : List ServedBoard) (position : ℕ) where
       → FramesGivenUpOnlyAfterRounds settings link position states cs
   all_waited settings link lane cs here asked gave_up = record {
     quiets' = λ exact. all_paid (settings.rounds + 1) link.quiets lane here cs asked (gave_up.quiets' exact);
+    since = all_paid (settings.rounds + 1) (quiets_since_status link) lane here cs asked gave_up.since;
     held' = some_then (λ _. IsExact link.held → AllByRecursion
         (λ (s : List Submission). settings.rounds * given_up s ≤ link.held)
         (map (submissions_to states (stands.Lane lane)) cs)) (λ _. IsExact link.held → AllByRecursion

@@ -1,5 +1,5 @@
 -- Connections at three boards, worked by hand: one that is live, one that was silent, one whose link was down. Profile.
-use Rattle.std.specs.Prelude.{ℕ, List, [], ◌∷◌, None}
+use Rattle.std.specs.Prelude.{ℕ, List, [], ◌∷◌, None, replicate}
 use Rattle.world_model.specs.Settings.{Limits}
 use Rattle.lane_record.specs.declared.outcome.Outcome.TheVariants.{TimedOut}
 use Rattle.board_history.specs.Examples.{read_body, reads_at}
@@ -59,6 +59,13 @@ write_body = 0x2000011f ∷ 0 ∷ 5 ∷ []
 abbrev pub two_rounds : Limits
 two_rounds = record { rounds = 2; window = 16 }
 
--- a link that does not tell, with so many quiet receives and no fault
+-- a link that does not tell, with no fault, whose receives were so many quiet ones, all in the greeting
 abbrev pub quiet_link : ℕ → LinkReport
-quiet_link quiets = record { faults = 0; quiets = quiets; gots = 0; held = 0; telling = None }
+quiet_link quiets = record {
+  faults = 0;
+  quiets = quiets;
+  gots = 0;
+  held = 0;
+  receives = replicate quiets None;
+  telling = None;
+}

@@ -13,6 +13,7 @@ use Rattle.script_plans.specs.Claims.{Rises}
 use Rattle.board_history.specs.Order.{RisesFrom}
 use Rattle.board_history.specs.GiveUps.{IsExact}
 use Rattle.lane_history.specs.Links.{HasFailed, LinkReport}
+use Rattle.lane_history.specs.Receives.{HasBroughtReply, quiets_since_status}
 use Rattle.hub_lane.specs.declared.answers.BoardState.{BoardState}
 use Rattle.hub_lane.specs.declared.answers.BoardState.TheVariants.{Lane, Silent, Down}
 use Rattle.client_history.specs.Shown.{IsReplyAt}
@@ -100,6 +101,23 @@ pub record IsAnsweredRightly (opening : CellMap) (done : List (List ℕ)) (board
     packet = packet_bytes (reply_packet request.order request.id words);
   }
 
+-- Whether the link tells or not, the frame was answered with what the link brought. It has a place, and the link brought
+-- the reply to the packet of this place behind the greeting: a control packet with its identifier. The packet of the
+-- reply frame has the words of that one, and the byte order and the identifier of the request.
+pub record IsAnsweredAsCarried (link : LinkReport) (boards : List BoardState) (position : ℕ) (e : Exchange) : Type 0
+  where
+    pub place : ℕ
+    pub place' : place_on position e ≡ Some place
+    pub request : Packet
+    pub request' : control_packet e.frame.packet ≡ Some request
+    pub words : List ℕ
+    pub carried : HasBroughtReply link place words
+    pub reply : reply_to boards e.frame e.got ≡ record {
+      board = position;
+      code = replied_code;
+      packet = packet_bytes (reply_packet request.order request.id words);
+    }
+
 -- ---- codes 1 and 2
 
 -- the frame is for the board at this position, and its reply frame has code 1 or code 2
@@ -111,12 +129,15 @@ is_given_up_at position boards e =
 abbrev pub frames_given_up : ℕ → List BoardState → Conversation → ℕ
 frames_given_up position boards c = count_by (is_given_up_at position boards) (exchanges_of c)
 
--- Each such frame of a connection took the rounds of the settings and one more, each with a quiet receive, and where
--- the link tells a datagram was held in each of the rounds. A count that stands at its end tells nothing.
+-- Each such frame of a connection took the rounds of the settings and one more, each with a quiet receive, which came
+-- behind the greeting, and where the link tells a datagram was held in each of the rounds. A count that stands at its
+-- end tells nothing.
 pub record FramesGivenUpOnlyAfterRounds (settings : Limits) (link : LinkReport) (position : ℕ)
     (boards : List BoardState) (conversations : List Conversation) : Type 0 where
   pub quiets' : IsExact link.quiets → AllByRecursion
       (λ (c : Conversation). (settings.rounds + 1) * frames_given_up position boards c ≤ link.quiets) conversations
+  pub since : AllByRecursion (λ (c : Conversation).
+      (settings.rounds + 1) * frames_given_up position boards c ≤ quiets_since_status link) conversations
   pub held' : IfSome link.telling (λ _. IsExact link.held → AllByRecursion
       (λ (c : Conversation). settings.rounds * frames_given_up position boards c ≤ link.held) conversations)
 

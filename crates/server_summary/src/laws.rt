@@ -15,7 +15,8 @@ ghost use Rattle.session_serve.specs.Boards.{states_of};
 ghost use Rattle.session_serve.specs.Serving.{AreServed, HadMemory};
 ghost use Rattle.server_summary.specs.Answers.{AllTellAnswers, HasWrittenAll};
 ghost use Rattle.server_summary.specs.Frames.{FramesGivenUpOnlyAfterRounds, HasLane, HasUnaskedCodes};
-ghost use Rattle.server_summary.specs.Frames.{IsAnsweredRightly, IsLostOnlyWithLink, IsPlaced, NoneIsGivenUpOrLost};
+ghost use Rattle.server_summary.specs.Frames.{IsAnsweredAsCarried, IsAnsweredRightly, IsLostOnlyWithLink, IsPlaced};
+ghost use Rattle.server_summary.specs.Frames.{NoneIsGivenUpOrLost};
 ghost use Rattle.server_summary.specs.Frames.{OfEachBoard, OfEachFrame, OfEachWithCode, PlacesOfFramesDiffer};
 ghost use Rattle.server_summary.specs.Frames.{PlacesOfFramesRise, place_on};
 ghost use Rattle.server_summary.specs.Ruled.{AreCodedByRules};
@@ -24,7 +25,7 @@ use client_history::boards::{
     a_board_line_counts_the_bodies_of_its_connections,
     a_board_that_tells_executed_what_was_replied, a_board_waited_for_what_was_given_up,
     a_faithful_link_serves_all, a_served_board_loses_bodies_only_with_its_link,
-    each_body_has_a_place_of_its_own,
+    each_body_has_a_place_of_its_own, words_of_replies_came_over_their_link,
 };
 
 /// Where no connection ended with a fault of writing or want of memory, the line of a live board tells as many bodies
@@ -84,9 +85,22 @@ pub fn code_0_answers_what_was_executed()
     a_board_that_tells_executed_what_was_replied();
 }
 
+/// Whether the link of a board tells or not, each frame that is answered by code 0 has a place, and the words of the
+/// reply frame are the body of a control packet that the link brought behind the greeting, with the identifier of the
+/// place.
+pub fn code_0_answers_what_the_link_brought()
+    ensures { (settings : Limits) (specs : List BoardSpec) (links : List LinkReport) (came back : List PairReport)
+        (connections : List Served) (lines : List BoardLine)
+        (is : AreServed settings specs links came back connections lines)
+        → OfEachBoard (λ position spec link. OfEachWithCode replied_code position (states_of is.boards)
+        (IsAnsweredAsCarried link (states_of is.boards) position) is.conversations) specs links }
+{
+    words_of_replies_came_over_their_link();
+}
+
 /// A frame for a live board is answered by code 1 or 2 only after the rounds of the settings, each of which ended with
-/// a quiet receive, and in each of which a datagram was held where the link tells: so many for each of them that one
-/// connection has.
+/// a quiet receive behind the greeting, and in each of which a datagram was held where the link tells: so many for each
+/// of them that one connection has.
 pub fn codes_1_and_2_answer_after_the_rounds()
     ensures { (settings : Limits) (specs : List BoardSpec) (links : List LinkReport) (came back : List PairReport)
         (connections : List Served) (lines : List BoardLine)

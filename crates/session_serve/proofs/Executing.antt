@@ -19,6 +19,7 @@ use Rattle.lane_record.specs.Claims.{claims}
 use Rattle.lane_record.specs.Legal.{IsLegal}
 use Rattle.board_history.specs.Merges.{AreSubsequences, IsMergeOfSome, IsOfClients, IsSubsequence, Owned, bodies_by}
 use Rattle.board_history.specs.Merges.{bodies_owned}
+use Rattle.ipb_base.specs.Numbers.{payload_of}
 use Rattle.board_history.specs.Runs.{opening_of}
 use Rattle.lane_history.specs.Lanes.{IsSoundLane, IsTrueOf, bodies_offered}
 use Rattle.lane_history.specs.Links.{IsUntouched, LinkReport, board_there}
@@ -95,10 +96,11 @@ MergeLaw = (bodies : List (List (List ℕ))) (items : List Item) (became : List 
 
 -- a board whose lane plans bodies of frames
 lane_only : MergeLaw → (settings : Limits) (spec : BoardSpec) (position : ℕ) (connections : List (List RequestFrame))
-    (link : LinkReport) (items : List Item) (outcomes : List (Option Outcome)) (lates : List (Option (List ℕ)))
-    (give_ups : ℕ) → IsSoundLane settings (opening_of spec.link) link items outcomes lates give_ups
+    (payload : ℕ) (link : LinkReport) (items : List Item) (outcomes : List (Option Outcome))
+    (lates : List (Option (List ℕ))) (give_ups : ℕ)
+    → IsSoundLane settings (opening_of spec.link) payload link items outcomes lates give_ups
     → PlansFrames position connections items → HasExecutedOnly position connections link
-lane_only law settings spec position connections link items outcomes lates give_ups sound plans =
+lane_only law settings spec position connections payload link items outcomes lates give_ups sound plans =
     let bodies = map (bodies_for position) connections in
     some_then (λ (b : Board). IsTrueOf (opening_of spec.link) (claims items) outcomes lates (executed b))
     (λ (b : Board). IsMergeOfSome bodies (executed b)) (board_there link.telling)
@@ -209,8 +211,8 @@ module _ (L C : Type 0) (seen : Ghosts L) (settings : Limits) (law : MergeLaw) (
       ap (λ k. slice_get (states_from 0 told) k) (let up : position ≡ position + 0 = omega arith in up) ∙ stand 0 in
       let planned = first_of lane old (lanes_in boards) n news (PlansAt told connections) plans position
       (lane_of_board told lane position here) in (
-        lane_only law settings s position connections (shows n.link) n.items n.outcomes n.lates n.give_ups
-            (sound.0.1 settings s to).sound planned,
+        lane_only law settings s position connections (payload_of n.status.mtu) (shows n.link) n.items n.outcomes n.lates
+            n.give_ups (sound.0.1 settings s to).sound planned,
         executed_only (position + 1) (lane + 1) specs boards news (omega (arith, long)) memory.1 are.1
             (one_later (states_from 0 told) _ position _ stand)
             (rest_of lane old (lanes_in boards) n news (λ k. KeepsHead seen.telling) heads)

@@ -68,7 +68,7 @@ ServedLaw = (settings : Limits) (spec : BoardSpec) (link : LinkReport) (payload 
     (connections : List (List Submission)) (items : List Item) (outcomes : List (Option Outcome))
     (lates : List (Option (List ℕ))) (give_ups : ℕ) → IsBoardOf spec.link (board_there link.telling) → TellsPayload spec.link payload
     → IsRecordOf (map bodies_of connections) (map dispatches_of connections) items
-    → IsSoundLane settings (opening_of spec.link) link items outcomes lates give_ups
+    → IsSoundLane settings (opening_of spec.link) payload link items outcomes lates give_ups
     → IsServedOver settings spec (record { told = greeting.Live payload; connections = connections }) link
 
 abbrev pub LineLaw : Type 0
@@ -193,9 +193,11 @@ module _ (L C : Type 0) (seen : Ghosts L) (settings : Limits) where
         served.after
         (shown seen.telling new) served.served_on served.ended refl in
         let mtu : new.status.mtu ≡ old.status.mtu = ap (λ (h : Head). h.mtu) heads in
-        let payload = subst (λ n. TellsPayload spec.link (payload_of n)) mtu ended.payload in (
+        let payload = subst (λ n. TellsPayload spec.link (payload_of n)) mtu ended.payload in
+        let sound = subst (λ n. IsSoundLane settings (opening_of spec.link) (payload_of n) (shown_by seen new.link)
+        new.items new.outcomes new.lates new.give_ups) mtu ended.sound in (
           served_law settings spec (shown_by seen new.link) (payload_of old.status.mtu) connections new.items
-              new.outcomes new.lates new.give_ups ended.board' payload left ended.sound,
+              new.outcomes new.lates new.give_ups ended.board' payload left sound,
           line_law new.settings new.status new.hub new.items new.outcomes new.lates new.give_ups new.down new.spent
               (seen.telling new.link) (seen.faults new.link) (seen.quiets new.link) spec (payload_of old.status.mtu)
               connections is left,

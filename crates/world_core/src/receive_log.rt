@@ -8,6 +8,9 @@ use std::alloc::Global;
 use std::marker::Model;
 use std::snapshot::Snapshot;
 
+/// More receives than any link does; a vector holds fewer than 2^63 entries.
+const ROOM: usize = 0x4000_0000_0000_0000;
+
 /// What one receive came to: a datagram of these bytes, or none. It has no bytes where the program runs.
 #[derive(Drop)]
 struct Receive {
@@ -40,6 +43,17 @@ impl ReceiveLog {
         }
     }
 
+    /// Takes the room for all receives at once, where there is none yet. It is room for no bytes: behind it no receive
+    /// asks for memory to be added.
+    pub fn reserve(&mut self) -> Result<(), NoMemory>
+        ensures { self.new ≡ self.old }
+    {
+        if self.receives.capacity() == 0 {
+            self.receives.reserve(ROOM)?;
+        }
+        Ok(())
+    }
+
     /// Adds one that got this datagram. Want of memory adds none.
     pub fn add_got(&mut self, datagram: &Vec<u8>) -> Result<(), NoMemory>
         ensures { self.new ≡ with_receive result (Some datagram.now.items) self.old }
@@ -51,13 +65,14 @@ impl ReceiveLog {
         Ok(())
     }
 
-    /// Adds one that was quiet and left this buffer. Want of memory adds none.
-    pub fn add_quiet(&mut self, empty: &Vec<u8>) -> Result<(), NoMemory>
+    /// Adds one that was quiet. Want of memory adds none.
+    pub fn add_quiet(&mut self) -> Result<(), NoMemory>
         ensures { self.new ≡ with_receive result None self.old }
     {
+        let empty: Vec<u8> = Vec::new(*self.receives.allocator());
         self.receives.push(Receive {
             got: Snapshot::of(&false),
-            datagram: Snapshot::of(empty),
+            datagram: Snapshot::of(&empty),
         })?;
         Ok(())
     }

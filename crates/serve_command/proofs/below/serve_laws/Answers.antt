@@ -33,6 +33,8 @@ returns c = record {
             position spec link at there;
         replied = c.code_0_answers_what_was_executed.ensures settings specs links came back connections lines is
             position spec link at there;
+        carried = c.code_0_answers_what_the_link_brought.ensures settings specs links came back connections lines is
+            position spec link at there;
         gave_up = c.codes_1_and_2_answer_after_the_rounds.ensures settings specs links came back connections lines is
             position spec link at there;
         lost = c.code_3_answers_where_the_link_failed.ensures settings specs links came back connections lines is
