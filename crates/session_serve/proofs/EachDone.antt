@@ -223,10 +223,6 @@ pub with_ok : {A E : Type 0} (P : A → Type 0) (Q : Type 0) (r : Result A E) �
 with_ok P Q (Ok x) p q = (p, q)
 with_ok P Q (Err e) p q = tt
 
-pub on_ok_of : {A E : Type 0} {b : Bool} (P : Type 0) (r : Result A E) → OnOk r P → b ≡ is_err r → b ≡ false → P
-on_ok_of P (Ok x) p is no_error = p
-on_ok_of P (Err e) p is no_error = absurd cc
-
 -- the port that was opened where a listen went well
 pub opened_of : {A E : Type 0} {b : Bool} (port : ℕ) (old new : List ℕ) (r : Result A E) → Opens port old new r
     → b ≡ is_err r → b ≡ false → new ≡ old ++ port ∷ []

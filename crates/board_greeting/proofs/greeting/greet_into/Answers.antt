@@ -80,7 +80,7 @@ loop-spec-preserved g c =
       memory = subst (AllByRecursion HasMemory) (sym pushed)
           (AllByRecursion-append HasMemory boards (board ∷ []) c.loop-spec.invariant.memory
           (c.is_out_of_memory-is_last.ensures c.if-is_last.false, tt));
-      faults = c.in_ok-board.ensures.unfaulted (λ e. cc) ∙ c.loop-spec.invariant.faults;
+      faults = c.in_ok-board.ensures.faults.2 (λ e. cc) ∙ c.loop-spec.invariant.faults;
       kept = c.greet_board.ensures.kept ∙ c.loop-spec.invariant.kept;
       made = made_still c.args.specs.now (length boards + 1) (length c.push_reserved.new.self.items)
           (g.R.Rack.made c.args.rack.now) new new (made_more c.args.specs.now (length boards) c.spec-item.result

@@ -41,8 +41,8 @@ pub returns-in_err-greeted-clause-rack_faults : goal.returns-in_err-greeted-clau
 returns-in_err-greeted-clause-rack_faults g c =
     rises_by c.in_err-greeted.field-0.0 c.from_residual-in_err-greeted.result (g.R.Rack.faults c.args.rack.now)
     (g.R.Rack.faults c.greet_tapped.new.rack) c.from_residual-in_err-greeted.ensures.0
-    c.from_residual-in_err-greeted.ensures.1 (λ is. c.in_err-greeted.ensures.failed (ap Err is))
-    c.in_err-greeted.ensures.faults (λ other. c.in_err-greeted.ensures.unfaulted (λ e. other (same_Err _ _ e)))
+    c.from_residual-in_err-greeted.ensures.1 (λ is. c.in_err-greeted.ensures.faults.0 (ap Err is))
+    c.in_err-greeted.ensures.faults.1 (λ other. c.in_err-greeted.ensures.faults.2 (λ e. other (same_Err _ _ e)))
 
 pub run_tapped-tap-requires-clause-reached : goal.run_tapped-tap-requires-clause-reached
 run_tapped-tap-requires-clause-reached g c κs within = λ spec is.

@@ -1,9 +1,10 @@
-use Rattle.std.proofs.Common.{◌≡◌, ◌∙◌, inr, true, List, Vec, Global, ap, length}
+use Rattle.std.proofs.Common.{◌≡◌, ◌≤◌, ◌∙◌, ℕ, inr, true, List, Vec, Global, ap, length}
 use Rattle.std.proofs.Common.{subst, sym, arith}
 use Rattle.std.specs.List.{AllByRecursion}
 use Rattle.std.specs.Vec.Iter.{into_iter_items}
 use Rattle.std.proofs.lemmas.List.{length-map}
 use Rattle.std.proofs.lemmas.Result.{IfOk-weaker}
+use Rattle.ipb_base.specs.Faults.{Rose}
 use Rattle.ipb_outside.specs.Pairs.{pair_shown}
 use Rattle.hub_multiplexer.specs.Seats.{SeatState}
 use Rattle.hub_session.specs.declared.served.Served.{Served}
@@ -11,7 +12,7 @@ use Rattle.session_serve.specs.Hubs.{HasServedAll}
 use Rattle.session_serve.specs.Seats.{AreTakenIn, HasServed, IsFresh}
 use Rattle.session_serve.proofs.EachDone.{all_back, all_in_turn, all_served, each_back, each_long, fresh_all_back}
 use Rattle.session_serve.proofs.EachDone.{fresh_befores}
-use Rattle.session_serve.proofs.EachDone.{longer, none_back, on_ok_of, opened_of, with_ok}
+use Rattle.session_serve.proofs.EachDone.{longer, none_back, opened_of, with_ok}
 use Rattle.session_serve.proofs.hub.serve_seats.Goals as goal
 
 pub returns-then-is_err-clause-all_back : goal.returns-then-is_err-clause-all_back
@@ -139,12 +140,19 @@ returns-clause-taken_in g c =
     (coming c.serve_all-ended.new.door) ended) same c.serve_all-ended.ensures.served) c.requires.seats.clients
     c.give_back.ensures.taken_in c.join_all-2.ensures.taken_in
 
-pub returns-clause-unfaulted : goal.returns-clause-unfaulted
-returns-clause-unfaulted g c =
-    λ no_door. c.give_back.ensures.faults ∙ (c.serve_all-ended.ensures.unfaulted (c.conclude.ensures.no_door no_door)
-    ∙ on_ok_of (g.D.Door.faults c.listen.new.self ≡ g.D.Door.faults c.args.door.now) c.listen.result
-    c.listen.ensures.unfaulted
-    c.is_err.ensures.value c.if-is_err.false)
+pub returns-clause-door_faults : goal.returns-clause-door_faults
+returns-clause-door_faults g c =
+    let faults = g.D.Door.faults in
+    let ended = c.serve_all-ended.ensures.door_faults in
+    let same : faults c.listen.new.self ≡ faults c.args.door.now = c.listen.ensures.faults.2 (λ failed.
+    let value = c.is_err.ensures.value in let none = c.if-is_err.false in cc) in
+    let back : faults c.give_back.new.door ≡ faults c.serve_all-ended.new.door = c.give_back.ensures.faults in (
+      λ failed. subst (λ (count : ℕ). Rose count (faults c.give_back.new.door)) same
+          (subst (Rose (faults c.listen.new.self)) (sym back) (ended.0 (c.conclude.ensures.door failed))),
+      subst (λ (count : ℕ). count ≤ faults c.give_back.new.door) same
+          (subst (λ (count : ℕ). faults c.listen.new.self ≤ count) (sym back) ended.1),
+      λ no_door. back ∙ (ended.2 (λ failed. let whole = c.conclude.ensures.no_door no_door in cc) ∙ same),
+    )
 
 pub returns-clause-listens : goal.returns-clause-listens
 returns-clause-listens g c =

@@ -55,5 +55,5 @@ loop-preserved g c =
       out = omega (arith, longer, out, counted);
       kept = c.accept.ensures.others_kept ∙ i.kept;
       ports = c.accept.ensures.ports_kept ∙ i.ports;
-      faults = c.in-Ok.ensures.unfaulted ∙ i.faults;
+      faults = c.in-Ok.ensures.faults.2 (λ e. cc) ∙ i.faults;
     }

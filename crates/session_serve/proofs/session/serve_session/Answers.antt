@@ -57,9 +57,10 @@ returns-clause-links g c =
       ),
     )
 
-pub returns-clause-rack_unfaulted : goal.returns-clause-rack_unfaulted
-returns-clause-rack_unfaulted g c =
-    λ no_rack. c.serve_greeted.ensures.rack_faults ∙ c.in_ok-boards.ensures.unfaulted (λ e. cc)
+pub returns-clause-rack_faults : goal.returns-clause-rack_faults
+returns-clause-rack_faults g c =
+    let same = c.serve_greeted.ensures.rack_faults ∙ c.in_ok-boards.ensures.faults.2 (λ e. cc) in
+    (λ failed. absurd (c.serve_greeted.ensures.not_rack failed), omega same, λ other. same)
 
 pub returns-in_err-boards-clause-in_frames : goal.returns-in_err-boards-clause-in_frames
 returns-in_err-boards-clause-in_frames g c =

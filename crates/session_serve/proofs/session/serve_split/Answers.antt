@@ -178,10 +178,14 @@ returns-in-Ok-clause-served g c =
       ),
     )
 
-pub returns-in-Err-clause-door_unfaulted : goal.returns-in-Err-clause-door_unfaulted
-returns-in-Err-clause-door_unfaulted g c =
-    λ no_door. c.serve_at_hub-lanes.ensures.unfaulted (λ e. no_door (ap Err (let same : c.in-Err.fault ≡ Door =
-    (let is = c.in-Err.is in cc) in same)))
+pub returns-in-Err-clause-door_faults : goal.returns-in-Err-clause-door_faults
+returns-in-Err-clause-door_faults g c =
+    let served = c.serve_at_hub-lanes.ensures.door_faults in (
+      λ failed. let same : c.in-Err.fault ≡ Door = cc in served.0 (c.in-Err.is ∙ ap Err same),
+      served.1,
+      λ no_door. served.2 (λ e. no_door (ap Err (let same : c.in-Err.fault ≡ Door =
+          (let is = c.in-Err.is in cc) in same))),
+    )
 
 -- the boards stood as their greetings told
 pub returns-in-Ok-clause-pairs : goal.returns-in-Ok-clause-pairs
@@ -203,10 +207,6 @@ returns-in-Err-clause-pairs g c =
 -- a server that has no report
 pub returns-in-Err-clause-listens : goal.returns-in-Err-clause-listens
 returns-in-Err-clause-listens g c = (λ never. absurd cc, c.serve_at_hub-lanes.ensures.listens.1)
-
-pub returns-in-Err-clause-door_fault : goal.returns-in-Err-clause-door_fault
-returns-in-Err-clause-door_fault g c = λ failed.
-    let same : c.in-Err.fault ≡ Door = cc in c.serve_at_hub-lanes.ensures.fault (c.in-Err.is ∙ ap Err same)
 
 -- no board executed a body of its own
 pub returns-in-Ok-clause-in_frames : goal.returns-in-Ok-clause-in_frames

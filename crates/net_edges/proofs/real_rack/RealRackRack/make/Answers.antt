@@ -14,12 +14,12 @@ returns-clause-made g c =
     ap (λ (rack : RealRackState). rack.made) c.make.ensures.rack
     ∙ put_down c.make.result c.args.spec.now.link c.args.self.now
 
-pub returns-clause-failed : goal.returns-clause-failed
-returns-clause-failed g c = λ failed.
-    subst (λ (rack : RealRackState). Rose c.args.self.now.faults rack.faults) (sym c.make.ensures.rack)
-    (faults_rise c.make.result c.args.spec.now.link c.args.self.now failed)
-
-pub returns-clause-unfaulted : goal.returns-clause-unfaulted
-returns-clause-unfaulted g c = λ other.
-    ap (λ (rack : RealRackState). rack.faults) c.make.ensures.rack
-    ∙ faults_stay c.make.result c.args.spec.now.link c.args.self.now other
+pub returns-clause-faults : goal.returns-clause-faults
+returns-clause-faults g c =
+    let spec = c.args.spec.now.link in (
+      λ failed. subst (λ (rack : RealRackState). Rose c.args.self.now.faults rack.faults) (sym c.make.ensures.rack)
+          (faults_rise c.make.result spec c.args.self.now failed),
+      c.make.ensures.later,
+      λ other. ap (λ (rack : RealRackState). rack.faults) c.make.ensures.rack
+          ∙ faults_stay c.make.result spec c.args.self.now other,
+    )
