@@ -135,6 +135,20 @@ replies_counted (o ∷ os) = count_cons (has_become is_replied) o os
     ∙ ap (λ (b : Bool). cond b 1 0 + count_by (has_become is_replied) os) (reply_counted o)
     ∙ ap (λ (n : ℕ). cond (lane.is_replied o) 1 0 + n) (replies_counted os) ∙ sym (count_cons lane.is_replied o os)
 
+-- ---- the words of replies
+
+-- what is among the receives behind the status is what the link brought
+brought : (link : LinkReport) (status : BoardStatus) (place : ℕ) (words : List ℕ)
+    → first_status link.receives ≡ Some (StatusReply status.mtu status.buffers status.next)
+    → IsReplyAmong status.next place words (since_status link.receives) → HasBroughtReply link place words
+brought link status place words told among = record {
+  mtu = status.mtu;
+  buffers = status.buffers;
+  first = status.next;
+  status = told;
+  among = among;
+}
+
 -- ---- a lane
 
 pub sound_lane : TrueLaw → EachLateLaw → (settings : Limits) (status : BoardStatus) (hub : Hub) (items : List Item)
@@ -142,14 +156,28 @@ pub sound_lane : TrueLaw → EachLateLaw → (settings : Limits) (status : Board
     (link : LinkReport) (opening : CellMap)
     → IsLane settings status hub items outcomes lates give_ups down spent link.telling link.faults link.quiets
     → IfSome link.telling (λ _. HasReached (settings.rounds * give_ups) link.held) → HasHeard outcomes link.gots
-    → IfSome link.telling (OpenedWith opening) → IsSoundLane settings opening link items outcomes lates give_ups
-sound_lane law each settings status hub items outcomes lates give_ups down spent link opening is paid heard
-    opened = record {
+    → first_status link.receives ≡ Some (StatusReply status.mtu status.buffers status.next)
+    → (settings.rounds + 1) * give_ups ≤ quiets_in (since_status link.receives)
+    → AreHeard status.next outcomes lates (since_status link.receives)
+    → IfSome link.telling (OpenedWith opening)
+    → IsSoundLane settings opening (payload_of status.mtu) link items outcomes lates give_ups
+sound_lane law each settings status hub items outcomes lates give_ups down spent link opening is paid heard told waited
+    came opened = record {
+      greeted = record {
+        mtu = status.mtu;
+        buffers = status.buffers;
+        first = status.next;
+        status = told;
+        packets = refl;
+      };
       kept = wider items outcomes hub.window settings.window give_ups (let w = is.knows.window in omega (arith, w))
           is.kept;
       waited = waited_all settings.rounds give_ups hub.status_requests link.quiets
           (subst (λ (r : ℕ). HasWaited r give_ups hub.status_requests link.quiets) is.knows.rounds is.waited);
+      waited_since = waited;
       heard = subst (λ (n : ℕ). HasReached (n + 1) link.gots) (sym (replies_counted outcomes)) heard;
+      words = λ k place words there. brought link status place words told (came.replied k place words there);
+      late_words = λ place words there. brought link status place words told (came.late place words there);
       lost = lost_if (down ≡ true) (1 ≤ link.faults) outcomes is.fault is.lost;
       tells = is.tells;
       late = is.late.timed_out;
