@@ -16,6 +16,7 @@ use Rattle.board_node.specs.declared.spec.LinkSpec.TheVariants.{Sim, Udp}
 use Rattle.world_model.specs.Board.{Board, executed}
 use Rattle.world_model.specs.Settings.{AreLimits, Limits}
 use Rattle.world_core.specs.declared.link.Link.{Ghosts}
+use Rattle.world_core.specs.Receives.{first_status}
 use Rattle.world_core.specs.Telling.{IfTelling, Telling}
 use Rattle.board_node.specs.OpeningWords.{LinkNamesWords}
 use Rattle.lossy_network.specs.Racks.{telling_for}
@@ -100,11 +101,13 @@ module _ {L : Type 0} (seen : Ghosts L) (settings : Limits) where
       × (64 * settings.rounds ≤ 64 * seen.quiets after + seen.gots after))
       → IfSilent board (λ after rounds. IfSome (seen.telling after)
       (λ _. (settings.rounds ≤ seen.quiets after) × (settings.rounds ≤ seen.held after)))
+      → IfSilent board (λ after rounds. first_status (seen.receives after) ≡ None)
       → IfDown board (λ after. Rose (seen.faults link) (seen.faults after))
       → IsUntouched (shown_by seen (link_of board))
       → IsGreetedAs settings board (shown_by seen (link_of board))
-  told_as link (Ready lane) ready told silent quiet down untouched = record { opened' = ready; greeted = told }
-  told_as link (Silent after rounds) ready told silent quiet down untouched = record {
+  told_as link (Ready lane) ready told silent quiet untold down untouched = record { opened' = ready; greeted = told }
+  told_as link (Silent after rounds) ready told silent quiet untold down untouched = record {
+    untold = untold;
     waited = silent.1;
     quiet =
         first_told (settings.rounds ≤ seen.quiets after) (settings.rounds ≤ seen.held after) (seen.telling after) quiet;
@@ -113,9 +116,9 @@ module _ {L : Type 0} (seen : Ghosts L) (settings : Limits) where
         quiet;
     untouched = untouched;
   }
-  told_as link (Down after) ready told silent quiet down untouched =
+  told_as link (Down after) ready told silent quiet untold down untouched =
       record { failed = omega (arith, down); untouched = untouched }
-  told_as link (NoMemory after) ready told silent quiet down untouched = tt
+  told_as link (NoMemory after) ready told silent quiet untold down untouched = tt
 
   pub is_reached : (spec : BoardSpec) (link : L) (board : Greeted L) → seen.telling link ≡ telling_for spec.link
       → IfTelling (seen.telling link) (seen.telling (link_of board)) (StaysFresh settings)
@@ -125,9 +128,10 @@ module _ {L : Type 0} (seen : Ghosts L) (settings : Limits) where
       × (64 * settings.rounds ≤ 64 * seen.quiets after + seen.gots after))
       → IfSilent board (λ after rounds. IfSome (seen.telling after)
       (λ _. (settings.rounds ≤ seen.quiets after) × (settings.rounds ≤ seen.held after)))
+      → IfSilent board (λ after rounds. first_status (seen.receives after) ≡ None)
       → IfDown board (λ after. Rose (seen.faults link) (seen.faults after))
       → IsReached settings spec board (shown_by seen (link_of board))
-  is_reached spec link board made fresh ready told silent quiet down =
+  is_reached spec link board made fresh ready told silent quiet untold down =
       let call = subst (λ (t : Option Telling). IfTelling t (seen.telling (link_of board)) (StaysFresh settings)) made
       fresh in
       let untouched = untouched_there settings spec.link (seen.telling (link_of board)) call in
@@ -137,7 +141,7 @@ module _ {L : Type 0} (seen : Ghosts L) (settings : Limits) where
           untouched = untouched;
           begins = begins_still settings (telling_for spec.link) (seen.telling (link_of board)) call;
         };
-        as_told = told_as link board ready told silent quiet down untouched;
+        as_told = told_as link board ready told silent quiet untold down untouched;
       }
 
 -- ---- links given back

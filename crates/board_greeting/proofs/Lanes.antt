@@ -22,7 +22,7 @@ use Rattle.lane_history.specs.Lanes.{IsSoundLane}
 use Rattle.lane_history.specs.Runs.{TellsPayload}
 use Rattle.board_history.specs.Runs.{opening_of as opens_with}
 use Rattle.board_greeting.specs.Reports.{OpenedWith}
-use Rattle.hub_lane.specs.Heard.{HasHeard}
+use Rattle.hub_lane.specs.Heard.{HasHeard, HasListened}
 use Rattle.hub_lane.specs.Lanes.{BoardStatus, HasToldStatus, IsGreeted, IsLane, LaneState, opening_of}
 use Rattle.hub_lane.specs.declared.greeting.Greeted.{Greeted}
 use Rattle.hub_lane.specs.declared.greeting.Greeted.TheVariants.{Ready, Silent, Down, NoMemory}
@@ -122,23 +122,27 @@ SoundLaw = (settings : Limits) (status : BoardStatus) (hub : Hub) (items : List 
     (link : LinkReport) (opening : CellMap)
     → IsLane settings status hub items outcomes lates give_ups down spent link.telling link.faults link.quiets
     → IfSome link.telling (λ _. HasReached (settings.rounds * give_ups) link.held) → HasHeard outcomes link.gots
-    → IfSome link.telling (OpenedWith opening) → IsSoundLane settings opening link items outcomes lates give_ups
+    → HasListened status hub outcomes lates give_ups link.receives → IfSome link.telling (OpenedWith opening)
+    → IsSoundLane settings opening (payload_of status.mtu) link items outcomes lates give_ups
 
 pub at_end : {L : Type 0} → SoundLaw → (settings : Limits) (spec : BoardSpec) (lane : LaneState L)
     (link : LinkReport) → IsLaneTo settings spec link.telling lane
     → IsLane lane.settings lane.status lane.hub lane.items lane.outcomes lane.lates lane.give_ups lane.down lane.spent
     link.telling link.faults link.quiets
     → IfSome link.telling (λ _. HasReached (lane.settings.rounds * lane.give_ups) link.held)
-    → HasHeard lane.outcomes link.gots → IsEndedLane settings spec lane link
-at_end {L} law settings spec lane link to is paid heard =
+    → HasHeard lane.outcomes link.gots
+    → HasListened lane.status lane.hub lane.outcomes lane.lates lane.give_ups link.receives
+    → IsEndedLane settings spec lane link
+at_end {L} law settings spec lane link to is paid heard listened =
     let here = board_known lane.status spec.link link.telling to.board' is.told in
     record {
       board' = here;
       payload = payload_known lane.status spec.link (opening_of link.telling) to.board' is.knows.mtu;
       sound = subst (λ (s : Limits).
-          IsSoundLane s (opens_with spec.link) link lane.items lane.outcomes lane.lates lane.give_ups)
+          IsSoundLane s (opens_with spec.link) (payload_of lane.status.mtu) link lane.items lane.outcomes lane.lates
+          lane.give_ups)
           to.settings' (law lane.settings lane.status lane.hub lane.items lane.outcomes lane.lates lane.give_ups
-          lane.down lane.spent link (opens_with spec.link) is paid heard (opened_so spec.link link.telling here));
+          lane.down lane.spent link (opens_with spec.link) is paid heard listened (opened_so spec.link link.telling here));
     }
 
 -- ---- a lane that came back

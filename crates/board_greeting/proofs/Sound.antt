@@ -5,6 +5,7 @@ use Rattle.std.specs.Prelude.{IfSome}
 use Rattle.std.specs.List.{count_by, slice_get}
 use Rattle.std.proofs.Math.Nat.{mul-le-mul_left, mul_comm}
 use Rattle.ipb_base.specs.Lists.{IsPrefix}
+use Rattle.ipb_base.specs.Numbers.{payload_of}
 use Rattle.board_bus.specs.Cells.{CellMap}
 use Rattle.board_bus.specs.Bodies.{replay}
 use Rattle.world_model.specs.declared.offered.Offered.{Offered}
@@ -13,6 +14,7 @@ use Rattle.world_model.specs.Places.{at_place}
 use Rattle.world_model.specs.Facts.{bodies_of}
 use Rattle.world_model.specs.Hub.{Hub}
 use Rattle.world_model.specs.Settings.{Limits}
+use Rattle.world_core.specs.Receives.{IsReplyAmong, first_status, quiets_in, since_status}
 use Rattle.world_core.specs.Telling.{Telling}
 use Rattle.lane_record.specs.declared.outcome.Outcome.{Outcome}
 use Rattle.lane_record.specs.declared.outcome.Outcome.TheVariants.{Replied, TimedOut, Unsent, LinkLost}
@@ -22,7 +24,7 @@ use Rattle.lane_record.specs.Bounds.{AreLostOnlyIf, HasReached, HasWaited, IsKep
 use Rattle.lane_record.specs.Offers.{offers_from}
 use Rattle.lane_record.specs.Outcomes.{AreSettled, is_replied}
 use Rattle.hub_lane.specs.Calls as lane
-use Rattle.hub_lane.specs.Heard.{HasHeard}
+use Rattle.hub_lane.specs.Heard.{HasHeard, HasListened, HasWaitedIn, told_by}
 use Rattle.hub_lane.specs.Lanes.{BoardStatus, IsLane}
 use Rattle.hub_lane.specs.Standing.{IsStanding}
 use Rattle.hub_lane.specs.Truth.{AreRightReplies, HasEachLate, IsTrueTo}
@@ -32,6 +34,7 @@ use Rattle.lane_history.proofs.Merges.{sent_offered}
 use Rattle.lane_history.proofs.Waits.{count_cons}
 use Rattle.lane_history.specs.Lanes.{IsLateAsHanded, IsSoundLane, IsTrueOf, bodies_offered}
 use Rattle.lane_history.specs.Links.{LinkReport, board_there}
+use Rattle.lane_history.specs.Receives.{HasBroughtReply}
 use Rattle.board_greeting.specs.Reports.{OpenedWith}
 
 abbrev pub TrueLaw : Type 0
@@ -56,6 +59,10 @@ few_more n less more g le few =
 
 waited_all : (rounds g requests quiets : ℕ) → HasWaited rounds g requests quiets → HasReached ((rounds + 1) * g) quiets
 waited_all rounds g requests quiets is = omega (arith, is)
+
+waited_behind : (rounds g requests : ℕ) (receives : List (Option (List ℕ)))
+    → HasWaitedIn rounds g requests receives → (rounds + 1) * g ≤ quiets_in receives
+waited_behind rounds g requests receives is = omega (arith, is)
 
 wider : (items : List Item) (outcomes : List (Option Outcome)) (less more g : ℕ) → less ≤ more
     → IsKept items outcomes less g → IsKept items outcomes more g
@@ -135,6 +142,20 @@ replies_counted (o ∷ os) = count_cons (has_become is_replied) o os
     ∙ ap (λ (b : Bool). cond b 1 0 + count_by (has_become is_replied) os) (reply_counted o)
     ∙ ap (λ (n : ℕ). cond (lane.is_replied o) 1 0 + n) (replies_counted os) ∙ sym (count_cons lane.is_replied o os)
 
+-- ---- the words of replies
+
+-- what is among the receives behind the status is what the link brought
+brought : (link : LinkReport) (status : BoardStatus) (place : ℕ) (words : List ℕ)
+    → first_status link.receives ≡ Some (told_by status)
+    → IsReplyAmong status.next place words (since_status link.receives) → HasBroughtReply link place words
+brought link status place words told among = record {
+  mtu = status.mtu;
+  buffers = status.buffers;
+  first = status.next;
+  status = told;
+  among = among;
+}
+
 -- ---- a lane
 
 pub sound_lane : TrueLaw → EachLateLaw → (settings : Limits) (status : BoardStatus) (hub : Hub) (items : List Item)
@@ -142,14 +163,29 @@ pub sound_lane : TrueLaw → EachLateLaw → (settings : Limits) (status : Board
     (link : LinkReport) (opening : CellMap)
     → IsLane settings status hub items outcomes lates give_ups down spent link.telling link.faults link.quiets
     → IfSome link.telling (λ _. HasReached (settings.rounds * give_ups) link.held) → HasHeard outcomes link.gots
-    → IfSome link.telling (OpenedWith opening) → IsSoundLane settings opening link items outcomes lates give_ups
-sound_lane law each settings status hub items outcomes lates give_ups down spent link opening is paid heard
+    → HasListened status hub outcomes lates give_ups link.receives → IfSome link.telling (OpenedWith opening)
+    → IsSoundLane settings opening (payload_of status.mtu) link items outcomes lates give_ups
+sound_lane law each settings status hub items outcomes lates give_ups down spent link opening is paid heard listened
     opened = record {
+      greeted = record {
+        mtu = status.mtu;
+        buffers = status.buffers;
+        first = status.next;
+        status = listened.greeting;
+        packets = refl;
+      };
       kept = wider items outcomes hub.window settings.window give_ups (let w = is.knows.window in omega (arith, w))
           is.kept;
       waited = waited_all settings.rounds give_ups hub.status_requests link.quiets
           (subst (λ (r : ℕ). HasWaited r give_ups hub.status_requests link.quiets) is.knows.rounds is.waited);
+      waited_since = waited_behind settings.rounds give_ups hub.status_requests (since_status link.receives)
+          (subst (λ (r : ℕ). HasWaitedIn r give_ups hub.status_requests (since_status link.receives)) is.knows.rounds
+          listened.waited);
       heard = subst (λ (n : ℕ). HasReached (n + 1) link.gots) (sym (replies_counted outcomes)) heard;
+      words = λ k place words there. brought link status place words listened.greeting
+          (listened.heard.replied k place words there);
+      late_words = λ place words there. brought link status place words listened.greeting
+          (listened.heard.late place words there);
       lost = lost_if (down ≡ true) (1 ≤ link.faults) outcomes is.fault is.lost;
       tells = is.tells;
       late = is.late.timed_out;

@@ -106,4 +106,5 @@ pub record IsEndedLane {L : Type 0} (settings : Limits) (spec : BoardSpec) (lane
     : Type 0 where
   pub board' : IsBoardOf spec.link (board_there shown.telling)
   pub payload : TellsPayload spec.link (payload_of lane.status.mtu)
-  pub sound : IsSoundLane settings (opens_with spec.link) shown lane.items lane.outcomes lane.lates lane.give_ups
+  pub sound : IsSoundLane settings (opens_with spec.link) (payload_of lane.status.mtu) shown lane.items lane.outcomes
+      lane.lates lane.give_ups

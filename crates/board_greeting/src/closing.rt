@@ -20,5 +20,6 @@ pub fn close_lane<L: Link>(lane: Lane<L>) -> L
     lane.is_sound();
     lane.has_paid();
     lane.has_heard();
+    lane.has_listened();
     lane.close()
 }

@@ -33,7 +33,7 @@ ghost use Rattle.client_history.specs.Connections.{WereServedOn, bodies_of, disp
 ghost use Rattle.client_history.specs.Planned.{IsAmongSubmitted, KeepLimits, WerePlannedLast};
 
 use board_history::laws::the_first_sends_are_the_order;
-use hub_lane::laws::a_finished_lane_is_whole;
+use lane_record::laws::finished::a_hub_has_sent_what_a_finished_record_tells;
 use lane_history::records::{
     a_clients_record_is_finished, a_finished_lane_is_live, a_record_counts_what_became_of_bodies,
     the_order_is_the_first_sends,
@@ -100,7 +100,7 @@ pub fn a_finished_lane_tells_the_numbers_of_its_line()
         board_lines.Live spec.name (length hub.sent) (count_by is_replied outcomes) (timeouts outcomes)
         (count_by is_lost_at_place outcomes) }
 {
-    a_finished_lane_is_whole();
+    a_hub_has_sent_what_a_finished_record_tells();
     a_clients_record_is_finished();
     a_record_counts_what_became_of_bodies();
     the_first_sends_are_the_order();

@@ -19,6 +19,7 @@ mod Asking
 mod Ready
 mod Lanes
 mod Exchanges
+mod Listened
 mod Pumps
 mod Steps
 mod Records

@@ -26,14 +26,15 @@ use Rattle.hub_lane.specs.Hearing.{IsHeardAs, WasReceived}
 use Rattle.hub_lane.specs.Rounds.{PaysOn, RoundFor, Sends}
 use Rattle.hub_lane.specs.Sends.{HasSent, all_sent}
 use Rattle.hub_lane.specs.Standing.{GoesOn, IsRunning, IsStopped, NoneOpenHanded, StaysUnanswered, Stops}
-use Rattle.hub_lane.proofs.Closed.{got_closed, quiet_closed, refused_closed, sent_closed, unheard_closed}
+use Rattle.hub_lane.proofs.Closed.{got_closed, quiet_closed, refused_closed, sent_closed}
 use Rattle.hub_lane.proofs.Standing.{HandedLaw, HeardLaw, QuietLaw, SameBoard, SendLeaves, SendLaw}
 use Rattle.hub_lane.proofs.Standing.{after_call, got_running, if_told, other_running, quiet_running, refused_stopped}
 use Rattle.hub_lane.proofs.Standing.{sent_running}
 
 -- so far sends went out
 pub record IsSending (before : Option Telling) (old : Hub) (telling : Option Telling) (now : Hub)
-    (faults faults_now quiets quiets_now gots gots_now held held_now : ℕ) : Type 0 where
+    (faults faults_now quiets quiets_now gots gots_now held held_now : ℕ)
+    (receives receives_now : List (Option (List ℕ))) : Type 0 where
   pub sent : AreSendable now.sent
   pub queue : AreSendable now.queue
   pub all : all_sent now ≡ all_sent old
@@ -43,6 +44,7 @@ pub record IsSending (before : Option Telling) (old : Hub) (telling : Option Tel
   pub fault : faults ≤ faults_now
   pub quiet : quiets_now ≡ quiets
   pub got : gots_now ≡ gots
+  pub receive : receives_now ≡ receives
   pub hold : held ≤ held_now
   pub pays : PaysOn before old held telling now held_now
   pub round : RoundFor Sends before old held telling now held_now

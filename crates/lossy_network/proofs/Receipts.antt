@@ -64,12 +64,12 @@ handed_for told place bytes (Some d) there is = handed_by told place bytes d.byt
 
 got_receipt : (old mid : Network) (place : ℕ) (bytes rest : List ℕ) → mid ≡ all_taken (called old)
     → front mid ≡ ForHub place bytes → mid.traffic.queue ≡ place ∷ rest
-    → received old ≡ record { answer = Got; bytes = bytes; after = handed_out (with_queue mid rest) place }
+    → received old ≡ record { answer = Got; bytes = bytes; after = handed_out (with_queue mid rest) place bytes }
 got_receipt old mid place bytes rest is front_is queue = sym (received_is old mid is)
     ∙ (ap (receipt_at mid) front_is ∙ ap (λ (xs : List ℕ). record {
       answer = Got;
       bytes = bytes;
-      after = handed_out (with_queue mid (without_front xs)) place;
+      after = handed_out (with_queue mid (without_front xs)) place bytes;
     }) queue)
 
 cases_by : (old : Network) (f : Front) → front (all_taken (called old)) ≡ f → stands f ≡ true

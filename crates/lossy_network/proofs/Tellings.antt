@@ -15,6 +15,7 @@ use Rattle.world_core.specs.declared.link.LinkFault.TheVariants.{Failed, NoMemor
 use Rattle.world_core.specs.declared.link.Received.{Received}
 use Rattle.world_core.specs.declared.link.Received.TheVariants.{Got, Quiet}
 use Rattle.world_core.specs.Telling.{IsCarried, IsGot, IsQuiet, IsReceived, IsSent, KeepsBut, Receives, Telling}
+use Rattle.world_core.specs.Receives.{receives_after}
 use Rattle.world_core.specs.Telling.{gots_after, quiets_after}
 use Rattle.lossy_network.specs.declared.fates.DatagramFate.{DatagramFate}
 use Rattle.lossy_network.specs.declared.fates.DatagramFate.TheVariants.{Delivered, Lost, Repeated, Delayed}
@@ -265,7 +266,7 @@ is_got : (steps : ReceiveSteps) (old new : Network) (bytes : List ℕ) → IsCou
 is_got steps old new bytes small after_is bytes_is got =
     let mid = all_taken (called old) in
     let one = received_step steps old small in
-    let end = handed_out (with_queue mid got.rest) got.place in
+    let end = handed_out (with_queue mid got.rest) got.place got.bytes in
     let there : IsHandedAt mid.told bytes got.place =
     subst (λ (xs : List ℕ). IsHandedAt mid.told xs got.place)
     (sym (bytes_is ∙ ap (λ (r : Receipt). r.bytes) got.is)) got.there in
@@ -320,44 +321,55 @@ carried (Err fault) bytes old new is short none = none
 
 -- ---- the counts
 
--- but for its own counts, a receive leaves all counts but those of datagrams held
-pub record AreCounts (result : Result Received LinkFault) (old new : Network) : Type 0 where
+-- but for its own counts, a receive leaves all counts but those of datagrams held; and what it came to is known
+pub record AreCounts (result : Result Received LinkFault) (bytes : List ℕ) (old new : Network) : Type 0 where
   pub quiets : new.quiets ≡ quiets_after result old.quiets
   pub gots : new.gots ≡ gots_after result old.gots
+  pub receives : new.receives ≡ receives_after result bytes old.receives
   pub faults : (new.faults ≡ old.faults) ⊎ (new.faults ≡ one_more old.faults)
 
 counts_after : (old : Network) → with_carried (called old) (all_taken (called old)) ≡ all_taken (called old)
 counts_after old = sym (takes_keep (most_takings (called old)) (called old))
 
-counts_quiet : (old new : Network) → new ≡ (received old).after → QuietReceipt old → AreCounts (Ok Quiet) old new
-counts_quiet old new after_is quiet =
+counts_quiet : (old new : Network) (bytes : List ℕ) → new ≡ (received old).after → QuietReceipt old
+    → AreCounts (Ok Quiet) bytes old new
+counts_quiet old new bytes after_is quiet =
     let same = counts_after old in
     let end = after_is ∙ ap (λ (r : Receipt). r.after) quiet.is in
     record {
       quiets = ap (λ (n : Network). n.quiets) end ∙ sym (ap (λ (n : Network). one_more n.quiets) same);
       gots = ap (λ (n : Network). n.gots) end ∙ sym (ap (λ (n : Network). n.gots) same);
+      receives =
+          ap (λ (n : Network). n.receives) end ∙ sym (ap (λ (n : Network). n.receives ++ None ∷ []) same);
       faults = inl (ap (λ (n : Network). n.faults) end ∙ sym (ap (λ (n : Network). n.faults) same));
     }
 
-counts_got : (old new : Network) → new ≡ (received old).after → GotReceipt old → AreCounts (Ok Got) old new
-counts_got old new after_is got =
+counts_got : (old new : Network) (bytes : List ℕ) → new ≡ (received old).after → bytes ≡ (received old).bytes
+    → GotReceipt old → AreCounts (Ok Got) bytes old new
+counts_got old new bytes after_is bytes_is got =
     let same = counts_after old in
     let end = after_is ∙ ap (λ (r : Receipt). r.after) got.is in
     record {
       quiets = ap (λ (n : Network). n.quiets) end ∙ sym (ap (λ (n : Network). n.quiets) same);
       gots = ap (λ (n : Network). n.gots) end ∙ sym (ap (λ (n : Network). one_more n.gots) same);
+      receives =
+          ap (λ (n : Network). n.receives) end
+          ∙ (sym (ap (λ (n : Network). n.receives ++ Some got.bytes ∷ []) same)
+          ∙ ap (λ (xs : List ℕ). old.receives ++ Some xs ∷ [])
+          (sym (bytes_is ∙ ap (λ (r : Receipt). r.bytes) got.is)));
       faults = inl (ap (λ (n : Network). n.faults) end ∙ sym (ap (λ (n : Network). n.faults) same));
     }
 
 pub counts : (result : Result Received LinkFault) (bytes : List ℕ) (old new : Network)
-    → IsReceipt result bytes old new → AreCounts result old new
-counts (Ok Got) bytes old new is = counts_got old new is.after (the_got old is.answer)
-counts (Ok Quiet) bytes old new is = counts_quiet old new is.after (the_quiet old is.answer)
+    → IsReceipt result bytes old new → AreCounts result bytes old new
+counts (Ok Got) bytes old new is = counts_got old new bytes is.after is.bytes_are (the_got old is.answer)
+counts (Ok Quiet) bytes old new is = counts_quiet old new bytes is.after (the_quiet old is.answer)
 counts (Err Failed) bytes old new is =
     let same = is.fault refl in
     record {
       quiets = ap (λ (n : Network). n.quiets) same;
       gots = ap (λ (n : Network). n.gots) same;
+      receives = ap (λ (n : Network). n.receives) same;
       faults = inr (ap (λ (n : Network). n.faults) same);
     }
 counts (Err NoMemory) bytes old new is =
@@ -366,6 +378,7 @@ counts (Err NoMemory) bytes old new is =
     record {
       quiets = ap (λ (n : Network). n.quiets) same;
       gots = ap (λ (n : Network). n.gots) same;
+      receives = ap (λ (n : Network). n.receives) same;
       faults = inl (ap (λ (n : Network). n.faults) same);
     }
 

@@ -17,7 +17,8 @@ use Rattle.lossy_network.specs.Traffic.{Traffic, put_on, place_of}
 
 -- The board and all datagrams ever sent; those under way; the places of those that were handed out, in order; the fates
 -- of datagrams; and the numbers, from 1, of the calls that fail. It counts its calls, its faults, and the receives that
--- were quiet and that got a datagram. A count stands still at 2^64 - 1.
+-- were quiet and that got a datagram. A count stands still at 2^64 - 1. It knows what the receives came to that did not
+-- fail, in order: the bytes of a datagram, or none.
 pub record Network : Type 0 where
   pub told : Told
   pub traffic : Traffic
@@ -28,6 +29,7 @@ pub record Network : Type 0 where
   pub faults : ℕ
   pub quiets : ℕ
   pub gots : ℕ
+  pub receives : List (Option (List ℕ))
 
 -- a link to this board, before its first call
 abbrev pub new_network : Board → Fates → List ℕ → Network
@@ -41,6 +43,7 @@ new_network board fates fail = record {
   faults = 0;
   quiets = 0;
   gots = 0;
+  receives = [];
 }
 
 -- what it tells: what is in the queue is still to be heard before the next quiet receive
@@ -152,11 +155,19 @@ pub record Receipt : Type 0 where
   pub after : Network
 
 abbrev pub quiet_receipt : Network → Receipt
-quiet_receipt net = record { answer = Quiet; bytes = []; after = record net { quiets = one_more net.quiets } }
+quiet_receipt net = record {
+  answer = Quiet;
+  bytes = [];
+  after = record net { quiets = one_more net.quiets; receives = net.receives ++ None ∷ [] };
+}
 
--- one is handed out
-abbrev pub handed_out : Network → ℕ → Network
-handed_out net place = record net { handed = net.handed ++ place ∷ []; gots = one_more net.gots }
+-- the datagram at this place, of these bytes, is handed out
+abbrev pub handed_out : Network → ℕ → List ℕ → Network
+handed_out net place bytes = record net {
+  handed = net.handed ++ place ∷ [];
+  gots = one_more net.gots;
+  receives = net.receives ++ Some bytes ∷ [];
+}
 
 abbrev pub without_front : List ℕ → List ℕ
 without_front [] = []
@@ -167,7 +178,7 @@ receipt_at net Nothing = quiet_receipt net
 receipt_at net (ForHub place bytes) = record {
   answer = Got;
   bytes = bytes;
-  after = handed_out (with_queue net (without_front net.traffic.queue)) place;
+  after = handed_out (with_queue net (without_front net.traffic.queue)) place bytes;
 }
 receipt_at net (Taken taking after) = quiet_receipt net
 

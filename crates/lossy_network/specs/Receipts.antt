@@ -19,5 +19,5 @@ pub record GotReceipt (old : Network) : Type 0 where
   pub is : received old ≡ record {
     answer = Got;
     bytes = bytes;
-    after = handed_out (with_queue (all_taken (called old)) rest) place;
+    after = handed_out (with_queue (all_taken (called old)) rest) place bytes;
   }

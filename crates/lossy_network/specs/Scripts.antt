@@ -1,6 +1,6 @@
 -- Links whose answers are given beforehand, as those of a board that answers anything, and a rack of them. Profile
 -- throughout.
-use Rattle.std.specs.Prelude.{ℕ, ◌≤◌, ◌==◌, Bool, true, false, List, [], ◌∷◌, ◌++◌, map, Result, Ok, Err}
+use Rattle.std.specs.Prelude.{ℕ, ◌≤◌, ◌==◌, Bool, true, false, List, [], ◌∷◌, ◌++◌, map, Option, Some, None, Result, Ok, Err}
 use Rattle.std.specs.Prelude.{vec_len}
 use Rattle.std.specs.List.{All, list_any}
 use Rattle.std.specs.Global.{Vec}
@@ -25,9 +25,9 @@ lists_of lists = map (λ answers. bytes_of answers.items) lists
 
 -- ---- a link
 
--- The answers that were handed out and those that are left, in order; the numbers, from 1, of the calls that fail; and
--- the counts of its calls, its faults, and the receives that were quiet and that got an answer. A count stands still at
--- 2^64 - 1.
+-- The answers that were handed out and those that are left, in order; the numbers, from 1, of the calls that fail; the
+-- counts of its calls, its faults, and the receives that were quiet and that got an answer; and what the receives came
+-- to that did not fail, in order: an answer, or none. A count stands still at 2^64 - 1.
 pub record ScriptState : Type 0 where
   pub handed : List (List ℕ)
   pub left : List (List ℕ)
@@ -36,11 +36,12 @@ pub record ScriptState : Type 0 where
   pub faults : ℕ
   pub quiets : ℕ
   pub gots : ℕ
+  pub receives : List (Option (List ℕ))
 
 -- a link with these answers, before its first call
 abbrev pub new_script : List (List ℕ) → List ℕ → ScriptState
 new_script answers fail =
-    record { handed = []; left = answers; fail = fail; calls = 0; faults = 0; quiets = 0; gots = 0 }
+    record { handed = []; left = answers; fail = fail; calls = 0; faults = 0; quiets = 0; gots = 0; receives = [] }
 
 -- each call is counted, and those whose numbers are named fail
 abbrev pub called : ScriptState → ScriptState
@@ -59,11 +60,20 @@ pub record ScriptReceipt : Type 0 where
   pub after : ScriptState
 
 abbrev pub receipt_of : ScriptState → List (List ℕ) → ScriptReceipt
-receipt_of link [] = record { answer = Quiet; bytes = []; after = record link { quiets = one_more link.quiets } }
+receipt_of link [] = record {
+  answer = Quiet;
+  bytes = [];
+  after = record link { quiets = one_more link.quiets; receives = link.receives ++ None ∷ [] };
+}
 receipt_of link (bytes ∷ left) = record {
   answer = Got;
   bytes = bytes;
-  after = record link { handed = link.handed ++ bytes ∷ []; left = left; gots = one_more link.gots };
+  after = record link {
+    handed = link.handed ++ bytes ∷ [];
+    left = left;
+    gots = one_more link.gots;
+    receives = link.receives ++ Some bytes ∷ [];
+  };
 }
 
 -- a receive takes the first of the answers that are left, and is quiet behind the last

@@ -16,7 +16,7 @@ use ipb_base::NoMemory;
 use rand_pcg::Lcg64Xsh32;
 use std::alloc::Global;
 use std::marker::Model;
-use world_core::{Air, LinkFault, MAX_DATAGRAM, Received};
+use world_core::{Air, LinkFault, MAX_DATAGRAM, ReceiveLog, Received};
 
 /// A link to a board in the same process. Every datagram that is sent on it, by the hub or by the board, meets the fate
 /// that the link was made with. Contracts see it as a `Network`.
@@ -32,6 +32,7 @@ pub struct SimLink {
     faults: u64,
     quiets: u64,
     gots: u64,
+    receives: ReceiveLog,
 }
 
 impl Model for SimLink {
@@ -60,6 +61,8 @@ impl SimLink {
         ensures { IfOk result (λ link. link ≡ new_network board fates fail.items) }
     {
         let noise = noise_generator(&fates);
+        let mut receives = ReceiveLog::new(alloc);
+        receives.reserve()?;
         Ok(SimLink {
             air: Air::new(alloc, board),
             under_way: UnderWay::new(alloc)?,
@@ -71,6 +74,7 @@ impl SimLink {
             faults: 0,
             quiets: 0,
             gots: 0,
+            receives,
         })
     }
 
@@ -235,6 +239,7 @@ impl SimLink {
         ensures none { OnErr result (into.new.items ≡ []) }
     {
         let Some(place) = self.under_way.front() else {
+            self.receives.add_quiet()?;
             self.quiets = self.quiets.saturating_add(1);
             return Ok(Received::Quiet);
         };
@@ -243,6 +248,10 @@ impl SimLink {
         };
         self.handed.reserve(1)?;
         into.extend_from_slice(bytes)?;
+        if self.receives.add_got(into).is_err() {
+            into.clear();
+            return Err(NoMemory);
+        }
         self.under_way.queue.pop_front();
         self.handed.push_reserved(place);
         self.gots = self.gots.saturating_add(1);

@@ -10,7 +10,7 @@ ghost use Rattle.lossy_network.specs.Scripts.{receipt_of, received};
 use crate::link::fits;
 use ipb_base::NoMemory;
 use std::marker::Model;
-use world_core::{Link, LinkFault, MAX_DATAGRAM, Received};
+use world_core::{Link, LinkFault, MAX_DATAGRAM, ReceiveLog, Received};
 
 /// A link whose answers are given beforehand, whatever is sent: those of a board that may answer anything. It tells
 /// nothing of what it carries, and holds nothing back. Contracts see it as a `ScriptState`.
@@ -23,6 +23,7 @@ pub struct ScriptLink {
     faults: u64,
     quiets: u64,
     gots: u64,
+    receives: ReceiveLog,
 }
 
 impl Model for ScriptLink {
@@ -51,6 +52,7 @@ impl ScriptLink {
         requires { AreDatagrams answers.items }
         ensures { result ≡ new_script (bytes_of answers.items) fail.items }
     {
+        let receives = ReceiveLog::new(*answers.allocator());
         ScriptLink {
             answers,
             next: 0,
@@ -59,6 +61,7 @@ impl ScriptLink {
             faults: 0,
             quiets: 0,
             gots: 0,
+            receives,
         }
     }
 
@@ -143,11 +146,17 @@ impl ScriptLink {
         ensures unchanged { OnErr result (self.new ≡ self.old) }
         ensures none { OnErr result (into.new.items ≡ []) }
     {
+        self.receives.reserve()?;
         let Some(bytes) = self.answers.get(self.next) else {
+            self.receives.add_quiet()?;
             self.quiets = self.quiets.saturating_add(1);
             return Ok(Received::Quiet);
         };
         into.extend_from_slice(bytes)?;
+        if self.receives.add_got(into).is_err() {
+            into.clear();
+            return Err(NoMemory);
+        }
         self.next += 1;
         self.gots = self.gots.saturating_add(1);
         Ok(Received::Got)
@@ -166,6 +175,8 @@ impl Link for ScriptLink {
     ghost gots = { λ link. link.gots };
 
     ghost held = { λ link. 0 };
+
+    ghost receives = { λ link. link.receives };
 
     fn send(&mut self, bytes: &[u8]) -> Result<(), LinkFault> {
         self.counts_fit();

@@ -18,6 +18,8 @@ impl Link for SimLink {
 
     ghost held = { λ link. link.traffic.held };
 
+    ghost receives = { λ link. link.receives };
+
     fn send(&mut self, bytes: &[u8]) -> Result<(), LinkFault> {
         self.counts_fit();
         SimLink::send(self, bytes)

@@ -33,8 +33,13 @@ abbrev pub held_of : AnyLink → ℕ
 held_of (Sim link) = link.traffic.held
 held_of (Udp link) = 0
 
+-- what the receives came to that did not fail
+abbrev pub receives_of : AnyLink → List (Option (List ℕ))
+receives_of (Sim link) = link.receives
+receives_of (Udp link) = link.receives
+
 -- The link that is made for a board: no call of a simulated one fails. One over UDP goes to the address and the port of
--- the board, waits as long as its document says, and starts with counts of 0.
+-- the board, waits as long as its document says, and starts with counts of 0 and no receives.
 abbrev pub new_link : LinkSpec → AnyLink
 new_link (SimBoard mtu buffers first ranges fates) =
     Sim (new_network (fresh_board mtu buffers first ranges) fates [])
@@ -45,6 +50,7 @@ new_link (UdpBoard address port wait) = Udp (record {
   faults = 0;
   quiets = 0;
   gots = 0;
+  receives = [];
 })
 
 abbrev pub IsOnNetwork : LinkSpec → Type 0

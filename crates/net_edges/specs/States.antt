@@ -45,3 +45,5 @@ pub record UdpState : Type 0 where
   pub quiets : ℕ
   -- how many receives got a datagram
   pub gots : ℕ
+  -- what the receives came to that did not fail, in order: the bytes of a datagram, or none
+  pub receives : List (Option (List ℕ))

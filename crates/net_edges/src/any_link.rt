@@ -16,7 +16,7 @@ pub enum AnyLink {
 }
 
 impl Link for AnyLink {
-    ghost use Rattle.net_edges.specs.Links.{telling_of, faults_of, quiets_of, gots_of, held_of};
+    ghost use Rattle.net_edges.specs.Links.{telling_of, faults_of, quiets_of, gots_of, held_of, receives_of};
 
     ghost telling = { telling_of };
 
@@ -27,6 +27,8 @@ impl Link for AnyLink {
     ghost gots = { gots_of };
 
     ghost held = { held_of };
+
+    ghost receives = { receives_of };
 
     /// Sends a datagram on the link that it is.
     fn send(&mut self, bytes: &[u8]) -> Result<(), LinkFault> {

@@ -1,8 +1,9 @@
 //! A link to a board over UDP.
 
-ghost use Rattle.std.specs.Prelude.{◌≡◌, ◌≤◌, length, IfOk, IfSome, OnOk, OnErr, None};
+ghost use Rattle.std.specs.Prelude.{◌≡◌, ◌≤◌, [], length, IfOk, IfSome, OnOk, OnErr, None};
 ghost use Rattle.ipb_base.specs.Faults.{one_more};
 ghost use Rattle.world_core.specs.declared.link.TheConstants.{MAX_DATAGRAM};
+ghost use Rattle.world_core.specs.Receives.{receives_after};
 ghost use Rattle.net_edges.specs.Heard.{told_of, counted};
 ghost use Rattle.net_edges.specs.Numbers.{wait_nanos};
 
@@ -20,7 +21,7 @@ use std::io::{self, Stderr};
 use std::marker::Model;
 use std::net::{Net, SocketAddr};
 use std::sync::Arc;
-use world_core::{Link, LinkFault, MAX_DATAGRAM, Received};
+use world_core::{Link, LinkFault, MAX_DATAGRAM, ReceiveLog, Received};
 
 /// A link to a board at an IPv4 address and a UDP port. It does not tell what it carries, and knows of no datagram that
 /// was lost. Contracts see a `UdpState`.
@@ -37,6 +38,7 @@ pub struct UdpLink {
     faults: u64,
     quiets: u64,
     gots: u64,
+    receives: ReceiveLog,
     notes: LinkNotes,
 }
 
@@ -54,6 +56,7 @@ impl Model for UdpLink {
       faults = link.faults;
       quiets = link.quiets;
       gots = link.gots;
+      receives = link.receives;
     } };
 }
 
@@ -73,6 +76,7 @@ impl UdpLink {
           faults = 0;
           quiets = 0;
           gots = 0;
+          receives = [];
         }) }
     {
         UdpLink::with_notes(rt, address, port, wait, None)
@@ -94,6 +98,7 @@ impl UdpLink {
           faults = 0;
           quiets = 0;
           gots = 0;
+          receives = [];
         }) }
     {
         let board = place_of_board(address, port);
@@ -107,6 +112,7 @@ impl UdpLink {
                 faults: 0,
                 quiets: 0,
                 gots: 0,
+                receives: ReceiveLog::new(rt.alloc()),
                 notes,
             }),
             Err(error) => {
@@ -163,6 +169,7 @@ impl UdpLink {
         ensures faults { self.old.faults ≤ self.new.faults }
         ensures quiets { self.old.quiets ≤ self.new.quiets }
         ensures gots { self.old.gots ≤ self.new.gots }
+        ensures receives { self.new.receives ≡ self.old.receives }
     {
         match heard {
             Heard::Board(_) => Ok(self.count_got()),
@@ -193,6 +200,8 @@ impl Link for UdpLink {
 
     ghost held = { λ _. 0 };
 
+    ghost receives = { λ link. link.receives };
+
     /// One datagram to the board. An error, of any kind, is counted, and so is a datagram of which a part alone went.
     /// After an error that passes (`is_passing`) the datagram counts as sent: it is lost, as on the network.
     fn send(&mut self, bytes: &[u8]) -> Result<(), LinkFault> {
@@ -221,7 +230,9 @@ impl Link for UdpLink {
     /// came in that time. An error, of any kind, is counted, those that pass once for the receive.
     fn receive(&mut self, into: &mut Vec<u8>) -> Result<Received, LinkFault> {
         into.clear();
+        self.receives.reserve()?;
         if self.is_silent() {
+            self.receives.add_quiet()?;
             return Ok(self.count_quiet());
         }
         // all memory is taken before a datagram is
@@ -232,6 +243,10 @@ impl Link for UdpLink {
         let heard = hear_board(self.socket.socket(), self.board, buffer, &mut passed);
         count_passed(passed, &mut self.faults, &mut self.notes);
         copy_heard(&heard, &self.buffer, into)?;
+        if log_heard(&heard, &mut self.receives, into).is_err() {
+            into.clear();
+            return Err(LinkFault::NoMemory);
+        }
         self.count_heard(heard)
     }
 
@@ -258,6 +273,18 @@ fn count_passed(passed: Option<io::Error>, faults: &mut u64, notes: &mut LinkNot
     if let Some(error) = passed {
         notes.failed(error);
         *faults = incremented(*faults);
+    }
+}
+
+// Adds what was heard, and copied, to what the receives came to. Want of memory adds nothing.
+fn log_heard(heard: &Heard, receives: &mut ReceiveLog, copied: &Vec<u8>) -> Result<(), NoMemory>
+    ensures added { OnOk result (receives.new ≡ receives_after (told_of heard.now) copied.now.items receives.old) }
+    ensures unchanged { OnErr result (receives.new ≡ receives.old) }
+{
+    match heard {
+        Heard::Board(_) => receives.add_got(copied),
+        Heard::Elsewhere | Heard::Nothing => receives.add_quiet(),
+        Heard::Fault(_) => Ok(()),
     }
 }
 

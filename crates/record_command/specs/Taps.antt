@@ -19,4 +19,5 @@ tapped seen = record {
   quiets = λ tap. seen.quiets tap.link;
   gots = λ tap. seen.gots tap.link;
   held = λ tap. seen.held tap.link;
+  receives = λ tap. seen.receives tap.link;
 }

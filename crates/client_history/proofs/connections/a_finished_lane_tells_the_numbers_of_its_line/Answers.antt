@@ -2,6 +2,7 @@ use Rattle.std.proofs.Common.{◌≡◌, ℕ, List, length, map, sym, ap, ◌∙
 use Rattle.std.specs.List.{count_by}
 use Rattle.std.proofs.lemmas.List.{length-map}
 use Rattle.world_model.specs.declared.offered.Offered.{Offered}
+use Rattle.world_model.specs.Facts.{bodies_of as bodies_sent_of}
 use Rattle.lane_record.specs.declared.outcome.Outcome.{Outcome}
 use Rattle.lane_record.specs.FirstSends.{bodies_sent, first_sends}
 use Rattle.lane_record.specs.Outcomes.{is_replied, is_timed_out}
@@ -28,8 +29,8 @@ returns c =
     let dispatches = map dispatches_of connections in
     let shown = record_shown connections items of in
     let finished = c.a_clients_record_is_finished.ensures bodies dispatches items outcomes of legal in
-    let whole = c.a_finished_lane_is_whole.ensures settings status hub items outcomes lates give_ups down spent telling
-    faults quiets finished is in
+    let sent_bodies : bodies_sent_of hub.sent ≡ bodies_sent (first_sends items) =
+    c.a_hub_has_sent_what_a_finished_record_tells.ensures.sent items outcomes hub.sent _ _ legal finished is.agrees in
     let flat = flat_again connections in
     let replied = ap (count_by is_replied) (sym flat)
     ∙ c.a_record_counts_what_became_of_bodies.ensures is_replied bodies dispatches items outcomes of legal
@@ -47,6 +48,6 @@ returns c =
     outcomes shown legal in
     let sent = c.the_first_sends_are_the_order.ensures run (same_lengths connections)
     ∙ sym (length-map in_order (λ (p : Placed). p.body))
-    ∙ ap (λ (l : List (List ℕ)). length l) (sends ∙ sym whole.bodies)
+    ∙ ap (λ (l : List (List ℕ)). length l) (sends ∙ sym sent_bodies)
     ∙ length-map hub.sent (λ (o : Offered). o.body) in
     λ i. board_lines.Live spec.name (sent i) (replied i) (timed_out i) (lost i)

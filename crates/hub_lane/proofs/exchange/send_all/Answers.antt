@@ -31,6 +31,7 @@ loop-send-init g c =
       fault = omega arith;
       quiet = refl;
       got = refl;
+      receive = refl;
       hold = omega arith;
       pays = λ limits outcomes lates mtu rounds given_up start paid. paid;
       round = none_sent c.args.hub.now (g.L.Link.held c.args.link.now) telling;
@@ -79,6 +80,7 @@ loop-send-preserved g c =
           c.send.ensures.held before.invariant.running call before.invariant.pays before.invariant.round;
       quiet = c.send.ensures.quiets ∙ before.invariant.quiet;
       got = c.send.ensures.gots ∙ before.invariant.got;
+      receive = c.send.ensures.receives ∙ before.invariant.receive;
       board = sent_board _ _ _ _ _ call ∙ before.invariant.board;
       put = put_more c.args.hub.now old next (held before.link) (held c.send.new.self) (telling c.args.link.now)
           (telling before.link) (telling c.send.new.self) is before.invariant.put call;

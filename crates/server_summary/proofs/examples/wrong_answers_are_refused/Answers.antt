@@ -55,3 +55,6 @@ returns-clause-another_word c = λ is.
     (sym is.request' ∙ asks) in
     let e = same_value 8 7 (sym told ∙ ap last_byte is.reply ∙ owed is.request is.words request words) in
     absurd (omega (arith, e))
+
+pub returns-clause-no_datagram : goal.returns-clause-no_datagram
+returns-clause-no_datagram c = λ is. let never = is.carried.status in absurd cc

@@ -23,7 +23,8 @@ steps c = record {
   one_then = c.a_receive_goes_step_by_step.ensures.then;
 }
 
-counted : (c : goal.After-receive) → AreCounts c.receive.result c.args.self.now c.receive.new.self
+counted : (c : goal.After-receive)
+    → AreCounts c.receive.result c.receive.new.into.items c.args.self.now c.receive.new.self
 counted c = counts c.receive.result c.receive.new.into.items c.args.self.now c.receive.new.self (receipt c)
 
 pub returns-clause-datagram : goal.returns-clause-datagram
@@ -51,6 +52,9 @@ returns-clause-gots c = (counted c).gots
 pub returns-clause-gots_rise : goal.returns-clause-gots_rise
 returns-clause-gots_rise c = subst (λ (n : ℕ). c.args.self.now.gots ≤ n) (sym (counted c).gots)
     (gots_rise c.receive.result c.args.self.now.gots c.counts_fit.ensures.gots)
+
+pub returns-clause-receives : goal.returns-clause-receives
+returns-clause-receives c = (counted c).receives
 
 pub returns-clause-held : goal.returns-clause-held
 returns-clause-held c = held_rises (steps c) c.receive.result c.receive.new.into.items c.args.self.now
