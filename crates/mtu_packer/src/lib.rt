@@ -11,4 +11,4 @@ mod packer;
 mod packing;
 
 pub use packed::{Packed, Piece, Places};
-pub use packing::{MAX_PAYLOAD, MIN_PAYLOAD, pack};
+pub use packing::{MAX_PAYLOAD, MIN_PAYLOAD, pack, pack_into};

@@ -6,7 +6,7 @@ use std::marker::Model;
 use transaction_codec::Words;
 
 /// Where one piece of an operation stands. Profile.
-#[derive(Clone, Copy, Debug, PartialEq, Eq)]
+#[derive(Clone, Copy, Debug, Default, PartialEq, Eq)]
 pub struct Piece {
     /// The body, from 0.
     pub body: u32,
@@ -25,8 +25,8 @@ pub(crate) struct Span {
 /// Profile.
 #[derive(Drop)]
 pub struct Places {
-    places: Vec<Piece>,
-    // few of them stand in the value itself, as those of a dispatch of few operations
+    // few of either stand in the value itself, as those of a dispatch of few operations
+    places: SmallVec<Piece, 4>,
     spans: SmallVec<Span, 4>,
 }
 
@@ -43,7 +43,7 @@ impl Model for Places {
 }
 
 impl Places {
-    pub(crate) fn new(places: Vec<Piece>, spans: SmallVec<Span, 4>) -> Places
+    pub(crate) fn new(places: SmallVec<Piece, 4>, spans: SmallVec<Span, 4>) -> Places
         requires { AreWithin (length places.items) spans.items }
         ensures { result ≡ map (span_places places.items) spans.items }
     {

@@ -30,7 +30,7 @@ pub(crate) struct Packer {
     requests: u16,
     /// The words of the longest reply to the open body.
     reply: u32,
-    places: Vec<Piece>,
+    places: SmallVec<Piece, 4>,
 }
 
 impl Model for Packer {
@@ -49,17 +49,19 @@ impl Model for Packer {
 }
 
 impl Packer {
-    pub(crate) fn new(alloc: Global, payload: u32) -> Packer
+    /// A packer that has taken no piece. Its bodies take the place of what stood in this list.
+    pub(crate) fn new(alloc: Global, payload: u32, mut bodies: Vec<Words>) -> Packer
         ensures { result ≡ progress.start payload }
     {
+        bodies.clear();
         Packer {
             alloc,
             payload,
-            bodies: Vec::new(alloc),
+            bodies,
             open_body: Vec::new(alloc),
             requests: 0,
             reply: 0,
-            places: Vec::new(alloc),
+            places: SmallVec::new(alloc),
         }
     }
 

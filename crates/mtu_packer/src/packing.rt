@@ -7,7 +7,7 @@ use crate::packed::{Packed, Span};
 use crate::packer::Packer;
 use smallvec::SmallVec;
 use std::alloc::Global;
-use transaction_codec::{NoMemory, Op};
+use transaction_codec::{NoMemory, Op, Words};
 
 /// The fewest words of a packet for which operations are packed, the packet header included. Profile.
 pub const MIN_PAYLOAD: u32 = 16;
@@ -33,7 +33,27 @@ pub fn pack(alloc: Global, ops: &[Op], payload: u32) -> Result<Packed, NoMemory>
     // Each body and the longest answer to it fit packets of that size.
     ensures room { IfOk result (λ packed. AllByRecursion (FitsPackets payload) packed.bodies) }
 {
-    let mut packer = Packer::new(alloc, payload);
+    pack_into(alloc, Vec::new(alloc), ops, payload)
+}
+
+/// Packs operations as `pack` does. The list of bodies takes the place of what stood in this list, in its memory, so
+/// that one list serves one packing after the other. Profile.
+pub fn pack_into(
+    alloc: Global,
+    bodies: Vec<Words>,
+    ops: &[Op],
+    payload: u32,
+) -> Result<Packed, NoMemory>
+    requires payload_low { MIN_PAYLOAD ≤ payload }
+    requires payload_high { payload ≤ MAX_PAYLOAD }
+    requires sound { All CanBeCut ops.now }
+    requires few { length (flat_map (cut payload) ops.now) ≤ 2 ^ 31 }
+    ensures packed { IfOk result (IsPacked ops.now payload) }
+    ensures operations { IfOk result (λ packed. length packed.pieces ≡ length ops.now) }
+    // Each body and the longest answer to it fit packets of that size.
+    ensures room { IfOk result (λ packed. AllByRecursion (FitsPackets payload) packed.bodies) }
+{
+    let mut packer = Packer::new(alloc, payload, bodies);
     let mut spans = SmallVec::new(alloc);
     spans.reserve(ops.len())?;
     let mut start = 0;

@@ -14,9 +14,10 @@ use crate::op_pieces::OpPieces;
 use crate::planned::Planned;
 use ipb_base::{NoMemory, Words};
 use mtu_packer::laws::{packed_bodies_spell_requests, packing_is_a_function};
-use mtu_packer::{Packed, pack};
+use mtu_packer::{Packed, pack_into};
 use script_steps::{RegOp, Step};
 use std::alloc::Global;
+use std::mem;
 use transaction_codec::Op;
 
 fn copied_words(alloc: Global, words: &Words) -> Result<Words, NoMemory>
@@ -87,6 +88,8 @@ struct Planning {
     pieces: OpPieces,
     counts: Vec<usize>,
     queued: Vec<Op>,
+    /// The memory of the list of the last dispatch's bodies, for the next one.
+    spare: Vec<Words>,
 }
 
 /// An operation on the board waits for the next dispatch.
@@ -118,13 +121,15 @@ fn dispatch(alloc: Global, planning: &mut Planning, payload: u32) -> Result<(), 
     }
     packing_is_a_function();
     packed_bodies_spell_requests();
-    let packed = pack(alloc, planning.queued.as_slice(), payload)?;
+    let spare = mem::replace(&mut planning.spare, Vec::new(alloc));
+    let packed = pack_into(alloc, spare, planning.queued.as_slice(), payload)?;
     let first = planning.bodies.len();
     let count = planning.queued.len();
     push_pieces(&mut planning.pieces, &packed, count, first)?;
     let (mut bodies, _) = packed.into_parts();
     planning.counts.push(bodies.len())?;
     planning.bodies.append(&mut bodies)?;
+    planning.spare = bodies;
     planning.queued.clear();
     Ok(())
 }
@@ -148,6 +153,7 @@ fn pack_dispatches(
         pieces: OpPieces::new(alloc),
         counts: Vec::new(alloc),
         queued: Vec::new(alloc),
+        spare: Vec::new(alloc),
     };
     for step in steps {
         match step {

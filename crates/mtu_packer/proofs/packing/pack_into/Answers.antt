@@ -2,7 +2,7 @@ use Rattle.std.proofs.Common.{◌+◌, ◌++◌, [], ◌∷◌, ◌∙◌, ap, s
 use Rattle.mtu_packer.specs.Cutting.{piece_count}
 use Rattle.mtu_packer.proofs.Whole.{Underway, underway_room, underway_next, underway_over, over_within}
 use Rattle.mtu_packer.proofs.Finish.{answer_packed, packed_operations, packed_room}
-use Rattle.mtu_packer.proofs.packing.pack.Goals as goal
+use Rattle.mtu_packer.proofs.packing.pack_into.Goals as goal
 
 pub push_op-requires-clause-few : goal.push_op-requires-clause-few
 push_op-requires-clause-few c =
