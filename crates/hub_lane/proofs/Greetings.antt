@@ -35,7 +35,7 @@ use Rattle.recovery_laws.proofs.Heard.{nothing_due, one_way}
 use Rattle.hub_lane.specs.declared.greeting.Answer.{Answer}
 use Rattle.hub_lane.specs.declared.greeting.Answer.TheVariants as answer
 use Rattle.hub_lane.specs.Greeting.{CanBegin, EndsAskingWith, EndsRoundWith, IsExpecting}
-use Rattle.hub_lane.specs.Greeting.{HandedOutNone, IsHeardFrom, IsTold, StaysFresh}
+use Rattle.hub_lane.specs.Greeting.{HandedOutNone, HasAskedAtMost, IsHeardFrom, IsTold, StaysFresh}
 
 -- what the laws of links say of what a board hears
 abbrev pub HeardGoesOn : Type 0
@@ -400,6 +400,7 @@ pub record IsAsking (settings : Limits) (before now : Option Telling)
     (rounds quiets gots held faults faults_now : ℕ) (receives : List (Option (List ℕ))) : Type 0 where
   pub fresh : IfTelling before now (StaysFresh settings)
   pub handed : IfTelling before now HandedOutNone
+  pub asked : IfTelling before now (HasAskedAtMost rounds)
   pub paid : IfSome now (HasPaid rounds quiets held)
   pub few_quiets : quiets ≤ rounds
   pub few_gots : gots ≤ 64 * rounds

@@ -9,6 +9,7 @@ mod LateAnswers
 mod Heard
 mod Datagrams
 mod Greetings
+mod Requests
 mod Truth
 mod EachLate
 mod Tables

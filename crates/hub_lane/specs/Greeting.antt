@@ -1,9 +1,12 @@
 -- The greeting of a board: it is asked for its status, round by round, until it tells it. IPbus 2.0, status packet; the
 -- rounds are the profile's.
-use Rattle.std.specs.Prelude.{◌≡◌, ℕ, ◌+◌, ◌*◌, ◌<◌, ◌≤◌, false, List, [], length, Option, Some, None}
+use Rattle.std.specs.Prelude.{◌≡◌, ℕ, ◌+◌, ◌*◌, ◌<◌, ◌≤◌, Bool, false, List, [], count_by, length, Option, Some, None}
 use Rattle.std.specs.List.{Contains}
 use Rattle.ipb_base.specs.Faults.{Rose, one_more}
 use Rattle.status_packet.specs.declared.status.Status.{Status}
+use Rattle.world_model.specs.declared.datagram.Datagram.{Datagram}
+use Rattle.world_model.specs.declared.datagram.Direction.TheVariants.{ToBoard}
+use Rattle.world_model.specs.Air.{goes_to}
 use Rattle.world_model.specs.Messages.{ToHub, StatusReply}
 use Rattle.world_model.specs.Facts.{IsStart}
 use Rattle.world_model.specs.Settings.{Limits}
@@ -40,6 +43,21 @@ pub record IsUnused (faults quiets gots held : ℕ) (receives : List (Option (Li
   pub no_gots : gots ≡ 0
   pub none_held : held ≡ 0
   pub none_received : receives ≡ []
+
+-- how many datagrams of the air are for the board
+abbrev pub is_for_board : Datagram → Bool
+is_for_board datagram = goes_to ToBoard datagram.direction
+
+abbrev pub requests_in : Telling → ℕ
+requests_in t = count_by is_for_board t.told.air
+
+-- as many as before
+abbrev pub HasAskedNothing : Telling → Telling → Type 0
+HasAskedNothing old new = requests_in new ≡ requests_in old
+
+-- so many more, or fewer
+abbrev pub HasAskedAtMost : ℕ → Telling → Telling → Type 0
+HasAskedAtMost most old new = requests_in new ≤ requests_in old + most
 
 -- ---- one receive
 

@@ -98,6 +98,7 @@ pub(crate) fn exchange<L: Link>(
     ensures receives_grow { IsPrefix (L.receives link.old) (L.receives link.new) }
     ensures failed_quiets { result ≡ Err LinkFault.Failed → L.quiets link.new ≡ L.quiets link.old }
     ensures failed_gots { result ≡ Err LinkFault.Failed → L.gots link.new ≡ L.gots link.old }
+    ensures failed_receives { result ≡ Err LinkFault.Failed → L.receives link.new ≡ L.receives link.old }
     ensures held { L.held link.old ≤ L.held link.new }
     ensures board { board_of (L.telling link.new) ≡ board_of (L.telling link.old) }
     ensures carries { IfOk result (λ pumped. IfTelling (L.telling link.old) (L.telling link.new)
@@ -205,6 +206,7 @@ fn receive<L: Link>(
     ensures receives_grow { IsPrefix (L.receives link.old) (L.receives link.new) }
     ensures failed_quiets { result ≡ Err LinkFault.Failed → L.quiets link.new ≡ L.quiets link.old }
     ensures failed_gots { result ≡ Err LinkFault.Failed → L.gots link.new ≡ L.gots link.old }
+    ensures failed_receives { result ≡ Err LinkFault.Failed → L.receives link.new ≡ L.receives link.old }
     ensures held { L.held link.old ≤ L.held link.new }
     ensures board { board_of (L.telling link.new) ≡ board_of (L.telling link.old) }
     ensures brings { IfOk result (λ pumped. IfTelling (L.telling link.old) (L.telling link.new)

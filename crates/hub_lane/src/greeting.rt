@@ -11,6 +11,7 @@ ghost use Rattle.status_packet.specs.StatusBytes.{IsStatusReply};
 ghost use Rattle.hub_lane.specs.Greeting.{CanBegin, EndsAskingWith, EndsGreetingWith, EndsRoundWith, IfDown, IfNotTold};
 ghost use Rattle.hub_lane.specs.Greeting.{IfReady, IfSilent, IfTold, IsCounted, IsDatagram, IsHeardFrom, IsTold};
 ghost use Rattle.hub_lane.specs.Greeting.{HandedOutNone, IfNothing, IsUnused, StaysFresh, gots_of_answer, link_of};
+ghost use Rattle.hub_lane.specs.Greeting.{HasAskedAtMost, HasAskedNothing};
 ghost use Rattle.hub_lane.specs.Greeting.{IsSaid, most_others, quiets_of_answer, status_in};
 ghost use Rattle.hub_lane.specs.Heard.{EndWith, EndsWithStatus};
 ghost use Rattle.hub_lane.specs.Lanes.{IsGreeted, opened, status_of};
@@ -54,8 +55,8 @@ pub(crate) enum Answer {
 impl<L: Link> Lane<L> {
     /// Greets the board of a link that was not used yet: asks for its status and receives until it is told, a receive
     /// is quiet or `MOST_OTHERS` other datagrams came, and so again, at most as many rounds as the settings say. After
-    /// any answer a board that the link tells has executed nothing. The lane begins right behind the first datagram that
-    /// tells a status, and no board is called silent that told one.
+    /// any answer a board that the link tells has executed nothing. The lane begins right behind the first datagram
+    /// that tells a status, and no board is called silent that told one.
     pub fn greet(alloc: Global, link: L, settings: Settings) -> Greeted<L>
         requires unused { IsUnused (L.faults link) (L.quiets link) (L.gots link) (L.held link) (L.receives link) }
         requires begins { IfSome (L.telling link) (CanBegin settings) }
@@ -71,6 +72,9 @@ impl<L: Link> Lane<L> {
         // All that a link that tells hands out in a greeting are status replies of its board.
         ensures silent_heard { IfSilent result (λ after rounds.
             IfTelling (L.telling link) (L.telling after) HandedOutNone) }
+        // The board is asked once a round: for each quiet receive, and once more.
+        ensures asked { IfTelling (L.telling link) (L.telling (link_of result))
+            (HasAskedAtMost (L.quiets (link_of result) + 1)) }
         ensures heard { IfReady result (λ lane. 1 ≤ L.gots lane.link) }
         ensures most_quiets { L.quiets (link_of result) ≤ settings.rounds }
         ensures most_gots { L.gots (link_of result) ≤ most_others * settings.rounds }
@@ -125,6 +129,8 @@ fn ask_for_status<L: Link>(
         (IfTelling (L.telling link.old) (L.telling link.new) HandedOutNone)) }
     ensures heard { IfOk result (λ found. IfSome found (λ _. 1 ≤ L.gots link.new)) }
     ensures receives { IfOk result (λ found. EndWith found (L.receives link.new)) }
+    ensures asked { IfTelling (L.telling link.old) (L.telling link.new)
+        (HasAskedAtMost (L.quiets link.new + 1)) }
     ensures most_quiets { L.quiets link.new ≤ settings.rounds }
     ensures most_gots { L.gots link.new ≤ most_others * settings.rounds }
     ensures failed { result ≡ Err LinkFault.Failed → Rose (L.faults link.old) (L.faults link.new) }
@@ -149,6 +155,7 @@ fn ask_once<L: Link>(
     requires untold { first_status (L.receives link.old) ≡ None }
     requires begins { IfSome (L.telling link.old) (CanBegin settings) }
     ensures fresh { IfTelling (L.telling link.old) (L.telling link.new) (StaysFresh settings) }
+    ensures asked { IfTelling (L.telling link.old) (L.telling link.new) (HasAskedAtMost 1) }
     ensures told { IfOk result (λ found. IfTelling (L.telling link.old) (L.telling link.new)
         (EndsAskingWith settings (L.quiets link.old) (L.quiets link.new) (L.held link.old) (L.held link.new) found)) }
     ensures counted { IfOk result (λ found. IfNotTold found
@@ -182,6 +189,7 @@ fn listen<L: Link>(
     requires untold { first_status (L.receives link.old) ≡ None }
     requires begins { IfSome (L.telling link.old) (CanBegin settings) }
     ensures fresh { IfTelling (L.telling link.old) (L.telling link.new) (StaysFresh settings) }
+    ensures asked { IfTelling (L.telling link.old) (L.telling link.new) HasAskedNothing }
     ensures told { IfOk result (λ found. IfTelling (L.telling link.old) (L.telling link.new)
         (EndsRoundWith settings (L.quiets link.old) (L.quiets link.new) (L.held link.old) (L.held link.new) found)) }
     ensures counted { IfOk result (λ found. IfNotTold found
@@ -217,6 +225,7 @@ fn hear_once<L: Link>(
     requires begins { IfSome (L.telling link.old) (CanBegin settings) }
     requires untold { first_status (L.receives link.old) ≡ None }
     ensures fresh { IfTelling (L.telling link.old) (L.telling link.new) (StaysFresh settings) }
+    ensures asked { IfTelling (L.telling link.old) (L.telling link.new) HasAskedNothing }
     ensures receives { IfOk result (λ heard. EndWith (status_in heard) (L.receives link.new)) }
     ensures told { IfOk result (λ heard. IfTelling (L.telling link.old) (L.telling link.new)
         (IsHeardFrom settings (L.held link.old) (L.held link.new) heard)) }

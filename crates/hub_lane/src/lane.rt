@@ -15,7 +15,7 @@ ghost use Rattle.hub_lane.specs.Plans.{CanPlan, IsRefused, Plans};
 ghost use Rattle.world_core.specs.Telling.{IfTelling};
 ghost use Rattle.hub_lane.specs.Carrying.{HasPut, Pumping};
 ghost use Rattle.hub_lane.specs.Heard.{EndsWithStatus, HasHeard, HasListened};
-ghost use Rattle.hub_lane.specs.Hearing.{gots_of, quiets_of};
+ghost use Rattle.hub_lane.specs.Hearing.{HasReceivedOnce, gots_of, quiets_of};
 ghost use Rattle.hub_lane.specs.Calls.{Asking, AsksAs, IsReplyAt, IsSameRecord, IsSpent, OffersAs, PumpsAs, SendsAs};
 ghost use Rattle.hub_lane.specs.Calls.{TakesAs, WasAsked, has_stopped};
 ghost use Rattle.hub_lane.specs.Calls.{is_lost_at_place, is_replied, sealed};
@@ -430,6 +430,8 @@ impl<L: Link> Lane<L> {
         ensures quiets_rise { L.quiets self.old.link ≤ L.quiets self.new.link }
         ensures gots { IfOk result (λ pumped. L.gots self.new.link ≡ gots_of pumped (L.gots self.old.link)) }
         ensures gots_rise { L.gots self.old.link ≤ L.gots self.new.link }
+        ensures receives { IfOk result (λ pumped.
+            HasReceivedOnce pumped (L.receives self.old.link) (L.receives self.new.link)) }
         ensures held { L.held self.old.link ≤ L.held self.new.link }
         ensures board { board_of (L.telling self.new.link) ≡ board_of (L.telling self.old.link) }
         ensures link { IfOk result (λ pumped. IfTelling (L.telling self.old.link) (L.telling self.new.link)
