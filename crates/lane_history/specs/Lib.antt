@@ -1,5 +1,6 @@
 pub mod Links
 pub mod Receives
+pub mod Examples
 pub mod Lates
 pub mod Runs
 pub mod Records

@@ -5,6 +5,7 @@
 #![tactic(auto)]
 
 pub mod building;
+pub mod examples;
 pub mod lanes;
 pub mod records;
 pub mod runs;
