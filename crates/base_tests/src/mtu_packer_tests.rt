@@ -1,9 +1,9 @@
 //! Operations packed into bodies.
 
 use crate::same::same_items;
-use mtu_packer::{Packed, Piece, pack};
+use mtu_packer::{Packed, Piece, pack, pack_into};
 use std::test::Fail;
-use transaction_codec::Op;
+use transaction_codec::{Op, Words};
 
 /// The piece at this body and this place in it.
 fn at(body: u32, index: u16) -> Piece {
@@ -16,6 +16,25 @@ fn second(packed: &Packed) -> &[u32] {
         [_, second] => second.as_slice(),
         _ => &[],
     }
+}
+
+/// The words of the only body.
+fn only(packed: &Packed) -> &[u32] {
+    match packed.bodies() {
+        [only] => only.as_slice(),
+        _ => &[],
+    }
+}
+
+#[test]
+fn bodies_take_the_place_of_others(rt: HostRuntime) -> Result<(), Fail> {
+    let mut others = Vec::new(rt.alloc());
+    others.push(Words::from_vec(Vec::new(rt.alloc())))?;
+    let ops = [Op::RmwSum { base: 5, addend: 7 }];
+    let packed = pack_into(rt.alloc(), others, &ops, 368)?;
+    same_items(&rt, only(&packed), &[0x2000_015f, 5, 7]);
+    same_items(&rt, packed.pieces(0), &[at(0, 0)]);
+    Ok(())
 }
 
 #[test]

@@ -1,10 +1,10 @@
 //! Replies joined to the requests of their bodies.
 
 use crate::same::same;
-use reply_join::{Answer, JoinRefusal, join_reply};
+use reply_join::{Answer, JoinRefusal, ReadWords, join_reply};
 use std::alloc::Global;
 use std::test::Fail;
-use transaction_codec::{Words, read_requests};
+use transaction_codec::read_requests;
 
 /// A read of two words, a sum, a write of two words and a read of none.
 const EACH_KIND: [u32; 11] = [
@@ -33,7 +33,7 @@ const REPLIES: [u32; 7] = [
 ];
 
 fn values(alloc: Global, words: &[u32]) -> Result<Answer, Fail> {
-    Ok(Answer::Values(Words::from_vec(words.to_vec(alloc)?)))
+    Ok(Answer::Values(ReadWords::copy_of(alloc, words)?))
 }
 
 /// What each request asked for.

@@ -9,10 +9,11 @@ ghost use Rattle.reply_join.specs.Joining.{IsJoined, answers_to};
 ghost use Rattle.reply_join.specs.Garbled.{IsGarbledAt};
 ghost use Rattle.reply_join.specs.Progress.{AreSkipped, HasNoReply, IsRefusal, IsReplyOf, fault_place};
 
-use crate::answer::{Answer, answer_of};
+use crate::answer::{Answer, Answers, answer_of};
 use crate::outcome::{outcome_of, values_after};
 use crate::refusal::JoinRefusal;
 use ipb_base::NoMemory;
+use smallvec::SmallVec;
 use std::alloc::Global;
 use transaction_codec::info_code::SUCCESS;
 use transaction_codec::{FirstReply, FirstRequest, first_request};
@@ -23,12 +24,12 @@ use transaction_codec::{FirstReply, FirstRequest, first_request};
 /// missing.
 ///
 /// The body is the words of requests alone, as `read_requests` of `transaction_codec` accepts them.
-pub fn join_reply(alloc: Global, body: &[u32], reply: &[u32]) -> Result<Vec<Answer>, JoinRefusal>
+pub fn join_reply(alloc: Global, body: &[u32], reply: &[u32]) -> Result<Answers, JoinRefusal>
     requires { SpellsRequests body.now }
-    ensures joined { IfOk result (λ answers. IsJoined body.now reply.now answers.items) }
+    ensures joined { IfOk result (IsJoined body.now reply.now) }
     // Only want of memory refuses what is a reply to the body.
     ensures only { (is : IsReplyTo body.now reply.now) → MatchResult result
-        (λ answers. answers.items ≡ answers_to is.requests is.replies)
+        (λ answers. answers ≡ answers_to is.requests is.replies)
         (λ refusal. refusal ≡ JoinRefusal.NoMemory) }
     ensures garbled { (place : ℕ) → result ≡ Err (JoinRefusal.Garbled place)
         → IsGarbledAt body.now reply.now place }
@@ -40,15 +41,15 @@ pub fn join_reply(alloc: Global, body: &[u32], reply: &[u32]) -> Result<Vec<Answ
 }
 
 /// Gives each request its answer, one after the other.
-fn join_by_requests(alloc: Global, body: &[u32], reply: &[u32]) -> Result<Vec<Answer>, JoinRefusal>
+fn join_by_requests(alloc: Global, body: &[u32], reply: &[u32]) -> Result<Answers, JoinRefusal>
     requires { SpellsRequests body.now }
-    ensures joined { IfOk result (λ answers. IsJoined body.now reply.now answers.items) }
+    ensures joined { IfOk result (IsJoined body.now reply.now) }
     ensures only { (is : IsReplyTo body.now reply.now) → MatchResult result
-        (λ answers. answers.items ≡ answers_to is.requests is.replies)
+        (λ answers. answers ≡ answers_to is.requests is.replies)
         (λ refusal. refusal ≡ JoinRefusal.NoMemory) }
     ensures refused { IfErr result (IsRefusal body.now reply.now) }
 {
-    let mut answers = Vec::new(alloc);
+    let mut answers = SmallVec::new(alloc);
     let mut asked = body;
     let mut rest = reply;
     while !asked.is_empty() {
@@ -66,7 +67,7 @@ fn join_by_requests(alloc: Global, body: &[u32], reply: &[u32]) -> Result<Vec<An
     if !rest.is_empty() {
         return Err(refusal_at(reply, rest, NoReply::Header));
     }
-    Ok(answers)
+    Ok(Answers { items: answers })
 }
 
 /// The first request of a body that has one.
@@ -124,7 +125,7 @@ fn reply_to<'a>(request: &FirstRequest<'_>, words: &'a [u32]) -> Result<FirstRep
 fn skip_behind_fault<'a>(
     reply: &FirstReply<'_>,
     requests: &'a [u32],
-    answers: &mut Vec<Answer>,
+    answers: &mut SmallVec<Answer, 1>,
 ) -> Result<&'a [u32], NoMemory>
     requires { SpellsRequests requests.now }
     ensures { IfOk result (λ left.
@@ -140,7 +141,7 @@ fn skip_behind_fault<'a>(
 }
 
 /// Answers each of the requests `Skipped`.
-fn skip(requests: &[u32], answers: &mut Vec<Answer>) -> Result<(), NoMemory>
+fn skip(requests: &[u32], answers: &mut SmallVec<Answer, 1>) -> Result<(), NoMemory>
     requires { SpellsRequests requests.now }
     ensures { IfOk result (λ _. (more : List Answer) × AreSkipped requests.now more
         × (answers.new.items ≡ answers.old.items ++ more)) }

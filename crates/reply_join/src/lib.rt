@@ -8,8 +8,10 @@ mod answer;
 mod joining;
 pub mod laws;
 mod outcome;
+mod read_words;
 mod refusal;
 
-pub use answer::Answer;
+pub use answer::{Answer, Answers};
 pub use joining::join_reply;
+pub use read_words::ReadWords;
 pub use refusal::JoinRefusal;

@@ -18,11 +18,11 @@ use ipb_base::{NoMemory, Words};
 use lane_record::Outcome;
 use masked_fields::extract;
 use reply_join::laws::joining_is_a_function;
-use reply_join::{Answer, JoinRefusal, join_reply};
+use reply_join::{Answer, Answers, JoinRefusal, join_reply};
 use script_plans::PieceAt;
 use script_steps::{RegOp, Verb};
 use std::alloc::Global;
-use transcript::{Answers, BodyEnd, LateAnswer, OpResult, Told};
+use transcript::{BodyEnd, LateAnswer, OpResult, Told};
 
 /// What a result tells of the body of its operation.
 pub(crate) fn fate_in(told: &OpResult) -> Fate
@@ -400,7 +400,7 @@ fn answers_in(alloc: Global, body: &[u32], words: &[u32]) -> Result<Option<Answe
 {
     joining_is_a_function();
     match join_reply(alloc, body, words) {
-        Ok(list) => Ok(Some(Answers::from_vec(list))),
+        Ok(list) => Ok(Some(list)),
         Err(JoinRefusal::Garbled { .. }) => Ok(None),
         Err(JoinRefusal::NoMemory) => Err(NoMemory),
     }

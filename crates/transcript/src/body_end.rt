@@ -9,40 +9,8 @@ ghost use Rattle.transcript.specs.Ends as spec;
 use ipb_base::{NoMemory, Words};
 use lane_record::Outcome;
 use reply_join::laws::joining_is_a_function;
-use reply_join::{Answer, JoinRefusal, join_reply};
+use reply_join::{Answers, JoinRefusal, join_reply};
 use std::alloc::Global;
-use std::marker::Model;
-
-/// The answers to the transactions of a body, in order. Contracts see that list.
-#[derive(Drop)]
-pub struct Answers {
-    items: Vec<Answer>,
-}
-
-impl Model for Answers {
-    ghost use Rattle.std.specs.Prelude.{List};
-    ghost use Rattle.reply_join.specs.declared.answer.Answer.{Answer};
-
-    ghost Value = { List Answer };
-
-    ghost view = { λ answers. answers.items.items };
-}
-
-impl Answers {
-    /// The answers of a vector, in its order. It takes no memory.
-    pub fn from_vec(items: Vec<Answer>) -> Answers
-        ensures { result ≡ items.items }
-    {
-        Answers { items }
-    }
-
-    /// The answers, in order.
-    pub fn as_slice(&self) -> &[Answer]
-        ensures { result.now ≡ self.now }
-    {
-        self.items.as_slice()
-    }
-}
 
 /// What is told of the transactions of a body: the answer to each, or one thing of all.
 #[derive(Drop)]
@@ -77,7 +45,7 @@ fn answers_in(alloc: Global, body: &[u32], words: &[u32]) -> Result<Option<Answe
 {
     joining_is_a_function();
     match join_reply(alloc, body, words) {
-        Ok(list) => Ok(Some(Answers::from_vec(list))),
+        Ok(list) => Ok(Some(list)),
         Err(JoinRefusal::Garbled { .. }) => Ok(None),
         Err(JoinRefusal::NoMemory) => Err(NoMemory),
     }

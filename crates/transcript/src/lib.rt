@@ -22,7 +22,7 @@ mod status;
 mod text;
 
 pub use boards::board_lines;
-pub use body_end::{Answers, BodyEnd, Told};
+pub use body_end::{BodyEnd, Told};
 pub use ipb_base::{NoMemory, Text, Words};
 pub use lane_record::{Outcome, Outcomes};
 pub use line::{BoardLine, LateAnswer, LinePlaces, OpLine, OpResult};

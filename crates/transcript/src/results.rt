@@ -8,11 +8,11 @@ ghost use Rattle.transcript.specs.Ends.{answered, late_at, late_of, piece_result
 ghost use Rattle.transcript.specs.Results as spec;
 ghost use Rattle.transcript.specs.Steps.{not_done_in, or_value};
 
-use crate::body_end::{Answers, BodyEnd, Told};
+use crate::body_end::{BodyEnd, Told};
 use crate::line::{LateAnswer, OpResult};
 use ipb_base::{NoMemory, Words};
 use masked_fields::extract;
-use reply_join::Answer;
+use reply_join::{Answer, Answers};
 use script_plans::PieceAt;
 use script_steps::{RegOp, Verb};
 use std::alloc::Global;

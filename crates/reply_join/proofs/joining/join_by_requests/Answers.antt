@@ -13,7 +13,7 @@ pub loop-asked-preserved : goal.loop-asked-preserved
 loop-asked-preserved c =
     let request = c.next_request-request in
     let first = c.in-Ok.first in
-    let pushed = answer_pushed c.loop-asked.answers.items c.push.new.self.items _ _ c.in_ok-push-in-Ok.ensures.items
+    let pushed = answer_pushed c.loop-asked.answers.items c.push.new.self.items _ _ c.in_ok-push-in-Ok.ensures.ok
     c.in_ok-answer_of-in-Ok.ensures in
     step c.args.body.now c.args.reply.now c.loop-asked.asked.now c.loop-asked.rest.now request.result.rest.now
     first.rest.now c.loop-asked.answers.items (request_of request.result) (reply_of first)

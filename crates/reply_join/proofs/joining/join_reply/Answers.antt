@@ -7,5 +7,5 @@ returns-clause-garbled c =
 
 pub returns-clause-refused : goal.returns-clause-refused
 returns-clause-refused c =
-    refused_at (λ answers. answers.items) c.args.body.now c.args.reply.now c.join_by_requests.result
+    refused_at (λ answers. answers) c.args.body.now c.args.reply.now c.join_by_requests.result
     c.join_by_requests.ensures.joined c.join_by_requests.ensures.refused

@@ -17,7 +17,7 @@ loop-rest-preserved c =
           c.loop-rest.rest.now request.result.rest.now later request.ensures.is request.ensures.parts skipped) in (
             whole.0,
             whole.1,
-            ap (λ (front : List Answer). front ++ later) c.in_ok-push.ensures.items
+            ap (λ (front : List Answer). front ++ later) c.in_ok-push.ensures.ok
                 ∙ append_assoc c.loop-rest.answers.items (Skipped ∷ []) later ∙ whole.2,
           );
     }

@@ -1,4 +1,4 @@
-use Rattle.std.proofs.Common.{arith, ap, Err, Some}
+use Rattle.std.proofs.Common.{arith, ap, sym, Err}
 use Rattle.ipb_base.proofs.WordLemmas.{AreWords-at}
 use Rattle.run_audit.proofs.agreeing.answers_in.Goals as goal
 
@@ -6,8 +6,8 @@ pub returns-in-Ok : goal.returns-in-Ok
 returns-in-Ok c =
     let body = AreWords-at c.args.body.now (λ i. omega (arith, c.type_inv.body i)) in
     let words = AreWords-at c.args.words.now (λ i. omega (arith, c.type_inv.words i)) in
-    let law = c.joining_is_a_function.ensures.joined c.args.body.now c.args.words.now c.in-Ok.list.items body words in
-    rw (law.0 c.in-Ok.ensures.joined) (ap Some c.from_vec.ensures)
+    let law = c.joining_is_a_function.ensures.joined c.args.body.now c.args.words.now c.in-Ok.list body words in
+    sym (law.0 c.in-Ok.ensures.joined)
 
 pub returns-in-Err-Garbled : goal.returns-in-Err-Garbled
 returns-in-Err-Garbled c =
