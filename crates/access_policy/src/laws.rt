@@ -2,6 +2,7 @@
 
 ghost use Rattle.std.specs.Prelude.{◌≡◌, ◌≤◌, ◌↔◌, ◌+◌, ℕ, Bool, true, false, List, [], ◌∷◌, ◌++◌, length, Some};
 ghost use Rattle.std.specs.List.{AllByRecursion, list_any};
+ghost use Rattle.ipb_base.specs.Numbers.{most_clients};
 ghost use Rattle.address_table.specs.declared.kinds.Permission.{Permission};
 ghost use Rattle.script_lang.specs.Operations.{allows};
 ghost use Rattle.script_lang.specs.declared.refusal.TheConstants.{MAX_CLIENTS};
@@ -22,7 +23,7 @@ ghost use Rattle.access_policy.specs.declared.policy.Rule.{Rule};
 pub fn limits_of_a_policy()
     ensures rules { MAX_RULES ≡ 1024 }
     ensures index { MAX_INDEX ≡ 65535 }
-    ensures client { MAX_CLIENTS ≡ 64 }
+    ensures client { MAX_CLIENTS ≡ most_clients }
 {}
 
 /// An operation needs of a policy what it needs of the permission of a register.

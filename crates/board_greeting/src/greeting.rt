@@ -3,7 +3,7 @@
 ghost use Rattle.std.specs.Prelude.{◌≡◌, ◌≤◌, ◌<◌, ◌+◌, ◌++◌, [], Err, length, map, IfOk, OnErr, OnOk, false};
 ghost use Rattle.std.specs.List.{AllByRecursion};
 ghost use Rattle.std.specs.Vec.{vec_capacity, vec_len};
-ghost use Rattle.ipb_outside.specs.Faults.{RisesOnlyIf};
+ghost use Rattle.ipb_outside.specs.Faults.{RisesExactlyIf};
 ghost use Rattle.lossy_network.specs.Racks.{made_after};
 ghost use Rattle.hub_lane.specs.Greeting.{link_of};
 ghost use Rattle.board_greeting.specs.Boards.{AreFreshLinks, AreReached, HasMemory, HasRoom, IsReached};
@@ -51,7 +51,7 @@ fn greet_board<R: Rack>(
 ) -> Result<Greeted<R::L>, RackFault>
     requires reached { CanBeReached spec.now }
     ensures reached { IfOk result (λ board. IsReached settings spec.now board (shown_by R.L.Link (link_of board))) }
-    ensures faults { RisesOnlyIf (result ≡ Err RackFault.Failed) (R.faults rack.old) (R.faults rack.new) }
+    ensures faults { RisesExactlyIf (result ≡ Err RackFault.Failed) (R.faults rack.old) (R.faults rack.new) }
     ensures kept { R.kept rack.new ≡ R.kept rack.old }
     ensures made { R.made rack.new ≡ made_after result spec.now.link (R.made rack.old) }
     ensures within { length (R.kept rack.old) ≤ length (R.made rack.old) }
@@ -84,7 +84,7 @@ fn greet_into<R: Rack>(
     ensures reached { AreReached (shown_by R.L.Link) settings specs.now boards.new.items }
     ensures all { OnOk result (length boards.new.items ≡ length specs.now) }
     ensures memory { OnOk result (AllByRecursion HasMemory boards.new.items) }
-    ensures faults { RisesOnlyIf (result ≡ Err RackFault.Failed) (R.faults rack.old) (R.faults rack.new) }
+    ensures faults { RisesExactlyIf (result ≡ Err RackFault.Failed) (R.faults rack.old) (R.faults rack.new) }
     ensures kept { R.kept rack.new ≡ R.kept rack.old }
     ensures made { AreMadeFor specs.now (length boards.new.items) (R.made rack.old) (R.made rack.new) }
     ensures room { HasRoom (length (R.kept rack.new)) (length (R.made rack.new)) (length boards.new.items) }
@@ -118,7 +118,7 @@ pub fn greet_boards<R: Rack>(
     ensures left { OnErr result (Keeps R.L.Link (R.kept rack.old) (R.kept rack.new)
         (λ links. AreFreshLinks settings specs.now links
         × AreMadeFor specs.now (length links) (R.made rack.old) (R.made rack.new))) }
-    ensures faults { RisesOnlyIf (result ≡ Err RackFault.Failed) (R.faults rack.old) (R.faults rack.new) }
+    ensures faults { RisesExactlyIf (result ≡ Err RackFault.Failed) (R.faults rack.old) (R.faults rack.new) }
 {
     let Ok(mut boards) = Vec::with_capacity(alloc, specs.len()) else {
         return Err(RackFault::NoMemory);

@@ -3,7 +3,7 @@
 ghost use Rattle.std.specs.Prelude.{◌≡◌, Err, IfOk};
 ghost use Rattle.board_greeting.specs.Links.{Keeps};
 ghost use Rattle.session_run.specs.Faults.{IsRunFailure};
-ghost use Rattle.ipb_outside.specs.Faults.{RisesOnlyIf};
+ghost use Rattle.ipb_outside.specs.Faults.{RisesExactlyIf};
 ghost use Rattle.command_terms.specs.Leaving.{Leaves};
 ghost use Rattle.command_terms.specs.Numbers.{refused_status};
 ghost use Rattle.command_terms.specs.Outside.{NoneCame, no_pairs};
@@ -42,7 +42,7 @@ pub fn save_document<R: Rack, T: Threads + Wait + Sync, G: Gate>(
         (λ links. Leaves NoneCame IsRunFailure RunFault.Rack save_terms bytes.now (R.made rack.old) (R.made rack.new)
         result (no_pairs links)) }
     ensures refused { IfOk result (λ answer. answer.status ≡ refused_status → rack.new ≡ rack.old) }
-    ensures rack_faults { RisesOnlyIf (result ≡ Err RunFault.Rack) (R.faults rack.old) (R.faults rack.new) }
+    ensures rack_faults { RisesExactlyIf (result ≡ Err RunFault.Rack) (R.faults rack.old) (R.faults rack.new) }
 {
     saved_texts_are_those_of_opening_values();
     steps_for_a_command_can_be_run();
@@ -71,7 +71,7 @@ pub fn apply_document<R: Rack, T: Threads + Wait + Sync, G: Gate>(
         (λ links. Leaves NoneCame IsRunFailure RunFault.Rack apply_terms bytes.now (R.made rack.old) (R.made rack.new)
         result (no_pairs links)) }
     ensures refused { IfOk result (λ answer. answer.status ≡ refused_status → rack.new ≡ rack.old) }
-    ensures rack_faults { RisesOnlyIf (result ≡ Err RunFault.Rack) (R.faults rack.old) (R.faults rack.new) }
+    ensures rack_faults { RisesExactlyIf (result ≡ Err RunFault.Rack) (R.faults rack.old) (R.faults rack.new) }
 {
     applied_texts_are_those_of_given_and_opening_values();
     steps_for_a_command_can_be_run();

@@ -3,7 +3,7 @@
 ghost use Rattle.std.specs.Prelude.{◌≡◌, Err, IfOk, length};
 ghost use Rattle.board_greeting.specs.Links.{Keeps};
 ghost use Rattle.transcript.specs.Lines as lines;
-ghost use Rattle.ipb_outside.specs.Faults.{RisesOnlyIf};
+ghost use Rattle.ipb_outside.specs.Faults.{RisesExactlyIf};
 ghost use Rattle.config_store.specs.Text as texts;
 ghost use Rattle.run_laws.specs.Steps.{MayRun};
 ghost use Rattle.config_commands.specs.Steps.{RunLeaves, first_of};
@@ -37,7 +37,7 @@ pub(crate) fn write_configuration<R: Rack, T: Threads + Wait + Sync, G: Gate>(
     requires alone { length steps.now ≡ 1 }
     ensures leaves { Keeps R.L.Link (R.kept rack.old) (R.kept rack.new)
         (RunLeaves session.now steps.now (R.made rack.old) (R.made rack.new) result) }
-    ensures rack_faults { RisesOnlyIf (result ≡ Err RunFault.Rack) (R.faults rack.old) (R.faults rack.new) }
+    ensures rack_faults { RisesExactlyIf (result ≡ Err RunFault.Rack) (R.faults rack.old) (R.faults rack.new) }
 {
     let boards = session.boards.as_slice();
     let runs = run_session(rt, alloc, session.settings, boards, steps, rack, gate)?;

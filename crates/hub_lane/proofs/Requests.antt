@@ -13,7 +13,8 @@ use Rattle.world_core.specs.declared.link.Received.{Received}
 use Rattle.world_core.specs.declared.link.Received.TheVariants as came
 use Rattle.world_core.specs.Telling.{IfTelling, Receives, Telling}
 use Rattle.recovery_laws.proofs.Heard.{heard_first}
-use Rattle.hub_lane.specs.Greeting.{HasAskedNothing, is_for_board, requests_in}
+use Rattle.hub_lane.specs.Greeting.{HasAskedNothing, requests_in}
+use Rattle.world_model.specs.Air.{is_for_board}
 
 -- ---- what the board hears
 

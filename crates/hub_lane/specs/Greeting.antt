@@ -2,11 +2,12 @@
 -- rounds are the profile's.
 use Rattle.std.specs.Prelude.{◌≡◌, ℕ, ◌+◌, ◌*◌, ◌<◌, ◌≤◌, Bool, false, List, [], count_by, length, Option, Some, None}
 use Rattle.std.specs.List.{Contains}
+use Rattle.ipb_base.specs.Numbers.{most_others}
 use Rattle.ipb_base.specs.Faults.{Rose, one_more}
 use Rattle.status_packet.specs.declared.status.Status.{Status}
 use Rattle.world_model.specs.declared.datagram.Datagram.{Datagram}
 use Rattle.world_model.specs.declared.datagram.Direction.TheVariants.{ToBoard}
-use Rattle.world_model.specs.Air.{goes_to}
+use Rattle.world_model.specs.Air.{is_for_board}
 use Rattle.world_model.specs.Messages.{ToHub, StatusReply}
 use Rattle.world_model.specs.Facts.{IsStart}
 use Rattle.world_model.specs.Settings.{Limits}
@@ -45,9 +46,6 @@ pub record IsUnused (faults quiets gots held : ℕ) (receives : List (Option (Li
   pub none_received : receives ≡ []
 
 -- how many datagrams of the air are for the board
-abbrev pub is_for_board : Datagram → Bool
-is_for_board datagram = goes_to ToBoard datagram.direction
-
 abbrev pub requests_in : Telling → ℕ
 requests_in t = count_by is_for_board t.told.air
 
@@ -131,10 +129,6 @@ abbrev pub EndsAskingWith : Limits → ℕ → ℕ → ℕ → ℕ → Option St
 EndsAskingWith settings quiets quiets_now held held_now (Some status) old new =
     IsGreeted settings (status_of status) new
 EndsAskingWith settings quiets quiets_now held held_now None old new = (quiets + 1 ≤ quiets_now) × Rose held held_now
-
--- how many other datagrams a round hears at most
-abbrev pub most_others : ℕ
-most_others = 64
 
 -- a round without a status reply ends at a quiet receive, or after as many other datagrams as it hears at most
 abbrev pub IsCounted : ℕ → ℕ → ℕ → ℕ → Type 0

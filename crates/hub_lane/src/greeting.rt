@@ -2,6 +2,7 @@
 
 ghost use Rattle.std.specs.Prelude.{◌≡◌, ◌≤◌, ◌+◌, ◌*◌, ℕ, None, IfSome, IfOk, OnErr, Err};
 ghost use Rattle.ipb_base.specs.Faults.{Rose};
+ghost use Rattle.ipb_base.specs.Numbers.{most_others};
 ghost use Rattle.world_model.specs.Messages.{to_hub};
 ghost use Rattle.world_core.specs.Receives.{first_status};
 ghost use Rattle.world_core.specs.Telling.{IfTelling};
@@ -12,7 +13,7 @@ ghost use Rattle.hub_lane.specs.Greeting.{CanBegin, EndsAskingWith, EndsGreeting
 ghost use Rattle.hub_lane.specs.Greeting.{IfReady, IfSilent, IfTold, IsCounted, IsDatagram, IsHeardFrom, IsTold};
 ghost use Rattle.hub_lane.specs.Greeting.{HandedOutNone, IfNothing, IsUnused, StaysFresh, gots_of_answer, link_of};
 ghost use Rattle.hub_lane.specs.Greeting.{HasAskedAtMost, HasAskedNothing};
-ghost use Rattle.hub_lane.specs.Greeting.{IsSaid, most_others, quiets_of_answer, status_in};
+ghost use Rattle.hub_lane.specs.Greeting.{IsSaid, quiets_of_answer, status_in};
 ghost use Rattle.hub_lane.specs.Heard.{EndWith, EndsWithStatus};
 ghost use Rattle.hub_lane.specs.Lanes.{IsGreeted, opened, status_of};
 

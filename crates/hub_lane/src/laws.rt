@@ -10,7 +10,7 @@ ghost use Rattle.world_core.specs.Telling.{Telling};
 ghost use Rattle.lane_record.specs.declared.outcome.Outcome.{Outcome};
 ghost use Rattle.lane_record.specs.Outcomes.{AreSettled};
 ghost use Rattle.hub_lane.specs.declared.greeting.TheConstants.{MOST_OTHERS};
-ghost use Rattle.hub_lane.specs.Greeting.{most_others};
+ghost use Rattle.ipb_base.specs.Numbers.{most_others};
 ghost use Rattle.hub_lane.specs.Heard.{HasListened};
 ghost use Rattle.hub_lane.specs.declared.answers.Pumped.TheVariants as came_to;
 ghost use Rattle.hub_lane.specs.Rounds.{AreCalls, IsCall, LaneCall, Pumps, RoundState, SettlesOne};

@@ -2,7 +2,7 @@
 
 ghost use Rattle.std.specs.Prelude.{◌≡◌, ◌<◌, ℕ, List, [], Option, Err, IfErr, OnOk, OnErr, length, take, IsErr};
 ghost use Rattle.std.specs.Io.KnownBytes.{append_known};
-ghost use Rattle.ipb_outside.specs.Faults.{RisesOnlyIf};
+ghost use Rattle.ipb_outside.specs.Faults.{RisesExactlyIf};
 ghost use Rattle.hub_lane.specs.declared.answers.BoardState.{BoardState};
 ghost use Rattle.hub_multiplexer.specs.Seats.{SeatState};
 ghost use Rattle.hub_session.specs.Inside.{AreWholeIn, ComesToEnd, GoesOn, NoneWaits, standing};
@@ -52,7 +52,7 @@ fn write_counted<O: Sink>(sink: &mut O, bytes: &[u8]) -> Result<(), usize>
     ensures whole { OnOk result (O.written sink.new ≡ append_known (O.written sink.old) bytes.now) }
     ensures part { IfErr result (λ done. (done < length bytes.now)
         × (O.written sink.new ≡ append_known (O.written sink.old) (take done bytes.now))) }
-    ensures faults { RisesOnlyIf (IsErr result) (O.faults sink.old) (O.faults sink.new) }
+    ensures faults { RisesExactlyIf (IsErr result) (O.faults sink.old) (O.faults sink.new) }
 {
     let mut done = 0;
     'writing: while done < bytes.len() {
@@ -91,7 +91,7 @@ pub(crate) fn write_replies<O: Sink>(
         (held : List ℕ) → ComesToEnd map (standing seat left (O.written sink.old) held progress.old)
         (standing seat left (O.written sink.new) held progress.new) SessionEnd.WriteFault) }
     ensures only { IfErr result (λ end. end ≡ SessionEnd.WriteFault) }
-    ensures faults { RisesOnlyIf (result ≡ Err SessionEnd.WriteFault) (O.faults sink.old) (O.faults sink.new) }
+    ensures faults { RisesExactlyIf (result ≡ Err SessionEnd.WriteFault) (O.faults sink.old) (O.faults sink.new) }
 {
     let replies = &mut progress.replies;
     match write_counted(sink, replies.bytes.as_slice()) {

@@ -3,7 +3,7 @@
 ghost use Rattle.std.specs.Prelude.{◌≡◌, ◌≢◌, ◌<◌, ◌++◌, ℕ, List, Err, Some, Option, true};
 ghost use Rattle.std.specs.Prelude.{IfErr, OnErr, OnOk, length};
 ghost use Rattle.std.specs.List.{AllByRecursion};
-ghost use Rattle.ipb_outside.specs.Faults.{RisesOnlyIf};
+ghost use Rattle.ipb_outside.specs.Faults.{RisesExactlyIf};
 ghost use Rattle.ipb_base.specs.Faults.{Rose};
 ghost use Rattle.ipb_base.specs.Numbers.{in_64_bits};
 ghost use Rattle.hub_lane.specs.declared.answers.BoardState.{BoardState as StateOfBoard};
@@ -71,7 +71,7 @@ fn write_before_waiting<L: Link + Send, O: Sink>(
         (held : List ℕ) → ComesToEnd map (standing seat left (O.written sink.old) held progress.old)
         (standing seat left (O.written sink.new) held progress.new) SessionEnd.WriteFault) }
     ensures only { IfErr result (λ end. end ≡ SessionEnd.WriteFault) }
-    ensures faults { RisesOnlyIf (result ≡ Err SessionEnd.WriteFault) (O.faults sink.old) (O.faults sink.new) }
+    ensures faults { RisesExactlyIf (result ≡ Err SessionEnd.WriteFault) (O.faults sink.old) (O.faults sink.new) }
 {
     let state = state_at(boards.map, frame.board);
     if may_wait(boards.hub, state) {
@@ -104,7 +104,7 @@ fn answer_one<R: Wait, L: Link + Send, O: Sink>(
         (standing seat.old left (O.written sink.old) (frame_bytes frame.now ++ progress.old.framer) progress.old)
         (standing seat.new left (O.written sink.new) progress.new.framer progress.new) end) }
     ensures not_read { result ≢ Err SessionEnd.ReadFault }
-    ensures faults { RisesOnlyIf (result ≡ Err SessionEnd.WriteFault) (O.faults sink.old) (O.faults sink.new) }
+    ensures faults { RisesExactlyIf (result ≡ Err SessionEnd.WriteFault) (O.faults sink.old) (O.faults sink.new) }
 {
     match push_answer(rt, boards, seat, &mut progress.replies, frame) {
         Ok(()) => {
@@ -140,7 +140,7 @@ fn answer_next<R: Wait, L: Link + Send, O: Sink>(
         (standing seat.old left (O.written sink.old) (frame_bytes frame.now ++ progress.old.framer) progress.old)
         (standing seat.new left (O.written sink.new) progress.new.framer progress.new) end) }
     ensures not_read { result ≢ Err SessionEnd.ReadFault }
-    ensures faults { RisesOnlyIf (result ≡ Err SessionEnd.WriteFault) (O.faults sink.old) (O.faults sink.new) }
+    ensures faults { RisesExactlyIf (result ≡ Err SessionEnd.WriteFault) (O.faults sink.old) (O.faults sink.new) }
 {
     if let Err(end) = write_before_waiting(boards, sink, progress, frame) {
         return Err(end);
@@ -170,7 +170,7 @@ fn answer_waiting<R: Wait, L: Link + Send, O: Sink>(
         (standing seat.old left (O.written sink.old) progress.old.framer progress.old)
         (standing seat.new left (O.written sink.new) progress.new.framer progress.new) end) }
     ensures not_read { result ≢ Err SessionEnd.ReadFault }
-    ensures faults { RisesOnlyIf (result ≡ Err SessionEnd.WriteFault) (O.faults sink.old) (O.faults sink.new) }
+    ensures faults { RisesExactlyIf (result ≡ Err SessionEnd.WriteFault) (O.faults sink.old) (O.faults sink.new) }
 {
     for _ in rt.forever() {
         match progress.framer.next() {
@@ -221,7 +221,7 @@ fn read_piece<S: Source>(
         → ComesToEnd map (standing seat (S.left src.old) written progress.old.framer progress.old)
         (standing seat (S.left src.new) written progress.new.framer progress.new) end) }
     ensures not_written { result ≢ Err SessionEnd.WriteFault }
-    ensures faults { RisesOnlyIf (result ≡ Err SessionEnd.ReadFault) (S.faults src.old) (S.faults src.new) }
+    ensures faults { RisesExactlyIf (result ≡ Err SessionEnd.ReadFault) (S.faults src.old) (S.faults src.new) }
 {
     match src.read(buf) {
         Ok(0) => Err(end_of_input(&progress.framer)),
@@ -252,8 +252,8 @@ fn serve_pieces<R: Wait, L: Link + Send, S: Source, O: Sink>(
     ensures settled { result.end ≢ SessionEnd.NoMemory → AllByRecursion IsSettled seat.new.knows }
     ensures served { IsServed boards.now.map.now seat.old seat.new (S.left src.old) (S.left src.new)
         (O.written sink.old) (O.written sink.new) result }
-    ensures read_faults { RisesOnlyIf (result.end ≡ SessionEnd.ReadFault) (S.faults src.old) (S.faults src.new) }
-    ensures write_faults { RisesOnlyIf (result.end ≡ SessionEnd.WriteFault) (O.faults sink.old) (O.faults sink.new) }
+    ensures read_faults { RisesExactlyIf (result.end ≡ SessionEnd.ReadFault) (S.faults src.old) (S.faults src.new) }
+    ensures write_faults { RisesExactlyIf (result.end ≡ SessionEnd.WriteFault) (O.faults sink.old) (O.faults sink.new) }
 {
     let mut progress = Progress::new(alloc);
     let mut buf = [0; PIECE];
@@ -304,8 +304,8 @@ pub fn serve_one<L: Link + Send, S: Source, O: Sink, R: Wait>(
     ensures asked_all { result.end ≢ SessionEnd.NoMemory → (board : ℕ) → HasAskedAll seat.new board }
 
     // The faults of reading and of writing come only from the source and from the sink.
-    ensures faults { RisesOnlyIf (result.end ≡ SessionEnd.ReadFault) (S.faults src.old) (S.faults src.new) }
-    ensures faults { RisesOnlyIf (result.end ≡ SessionEnd.WriteFault) (O.faults sink.old) (O.faults sink.new) }
+    ensures read_faults { RisesExactlyIf (result.end ≡ SessionEnd.ReadFault) (S.faults src.old) (S.faults src.new) }
+    ensures write_faults { RisesExactlyIf (result.end ≡ SessionEnd.WriteFault) (O.faults sink.old) (O.faults sink.new) }
 
     // Where no fault came and memory did not run out, the input decides how it ends: of a source that tells, by what is
     // behind the frames of all its bytes, and these frames are all answered.

@@ -46,7 +46,7 @@ most_clients = 64
 abbrev pub most_window : ℕ
 most_window = 16
 
--- the most lines of all scripts, the most operations in them, and the most words of one block (profile)
+-- the most lines of all scripts, the most operations in them and in a load, and the most words of one block (profile)
 abbrev pub most_lines : ℕ
 most_lines = 200000
 
@@ -55,6 +55,10 @@ most_operations = 100000
 
 abbrev pub most_block_words : ℕ
 most_block_words = 1048576
+
+-- after so many datagrams that tell no status a round of a greeting ends (profile)
+abbrev pub most_others : ℕ
+most_others = 64
 
 -- the most connections that a server lets in (profile)
 abbrev pub most_connections : ℕ

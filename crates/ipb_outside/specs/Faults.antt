@@ -4,5 +4,5 @@ use Rattle.ipb_base.specs.Faults.{Rose}
 
 -- The count rose in a call that failed so, stayed in any other, and never falls. So no other answer passes over a
 -- fault.
-abbrev pub RisesOnlyIf : Type 0 → ℕ → ℕ → Type 0
-RisesOnlyIf failed before now = (failed → Rose before now) × (before ≤ now) × (¬ failed → now ≡ before)
+abbrev pub RisesExactlyIf : Type 0 → ℕ → ℕ → Type 0
+RisesExactlyIf failed before now = (failed → Rose before now) × (before ≤ now) × (¬ failed → now ≡ before)

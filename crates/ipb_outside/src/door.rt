@@ -1,7 +1,7 @@
 //! What lets connections in.
 
 ghost use Rattle.std.specs.Prelude.{◌≡◌, ℕ, ◌<◌, ◌+◌, List, Option, IsErr, OnOk, OnErr};
-ghost use Rattle.ipb_outside.specs.Faults.{RisesOnlyIf};
+ghost use Rattle.ipb_outside.specs.Faults.{RisesExactlyIf};
 ghost use Rattle.ipb_outside.specs.Doors.{Accepts, Keeps, Opens};
 
 use crate::{Failed, Sink, Source};
@@ -32,7 +32,7 @@ pub trait Door {
 
     /// Begins to listen on a port. Any answer but `Failed` leaves the count of faults as it was.
     fn listen(&mut self, port: u16) -> Result<(), Failed>
-        ensures faults { RisesOnlyIf (IsErr result) (faults self.old) (faults self.new) }
+        ensures faults { RisesExactlyIf (IsErr result) (faults self.old) (faults self.new) }
         ensures opened { Opens port (ports self.old) (ports self.new) result }
         ensures coming_kept { coming self.new ≡ coming self.old }
         ensures others_kept { kept self.new ≡ kept self.old }
@@ -40,7 +40,7 @@ pub trait Door {
 
     /// Answers the next connection. `Failed` let none in. Any other answer leaves the count of faults as it was.
     fn accept(&mut self) -> Result<(Self::Incoming, Self::Outgoing), Failed>
-        ensures faults { RisesOnlyIf (IsErr result) (faults self.old) (faults self.new) }
+        ensures faults { RisesExactlyIf (IsErr result) (faults self.old) (faults self.new) }
         ensures first { Accepts (coming self.old) (coming self.new) result }
         ensures others_kept { kept self.new ≡ kept self.old }
         ensures ports_kept { ports self.new ≡ ports self.old }

@@ -3,7 +3,7 @@
 
 ghost use Rattle.std.specs.Prelude.{◌≡◌, ◌≤◌, ◌<◌, ◌+◌, ◌-◌, ◌↔◌, ◌⊎◌, ◌++◌, [], ◌∷◌, None, Some, IfOk, OnOk, OnErr, IsErr};
 ghost use Rattle.std.specs.Prelude.{MatchOption, IsSome, length, option_to_list, slice_get};
-ghost use Rattle.ipb_outside.specs.Faults.{RisesOnlyIf};
+ghost use Rattle.ipb_outside.specs.Faults.{RisesExactlyIf};
 ghost use Rattle.ipb_outside.specs.Calls.{FailsNext, after_call, after_fault};
 
 use crate::numbered_calls::NumberedCalls;
@@ -101,7 +101,7 @@ impl Door for MemDoor {
         ensures after_failure { OnErr result (self.new ≡ record self.old {
           calls = after_fault (after_call self.old.calls);
         }) }
-        ensures faults { RisesOnlyIf (IsErr result) self.old.calls.faults self.new.calls.faults }
+        ensures faults { RisesExactlyIf (IsErr result) self.old.calls.faults self.new.calls.faults }
     {
         self.calls.begin()?;
         if self.port.is_some() {
@@ -124,7 +124,7 @@ impl Door for MemDoor {
         ensures after_failure { OnErr result (self.new ≡ record self.old {
           calls = after_fault (after_call self.old.calls);
         }) }
-        ensures faults { RisesOnlyIf (IsErr result) self.old.calls.faults self.new.calls.faults }
+        ensures faults { RisesExactlyIf (IsErr result) self.old.calls.faults self.new.calls.faults }
     {
         self.calls.begin()?;
         match self.waiting.pop() {

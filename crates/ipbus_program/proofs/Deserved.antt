@@ -10,7 +10,7 @@ use Rattle.ipb_outside.specs.Told.{TakesCount}
 use Rattle.board_node.specs.declared.spec.LinkSpec.{LinkSpec}
 use Rattle.lane_history.specs.Links.{LinkReport}
 use Rattle.command_words.specs.declared.command.Command.{Command}
-use Rattle.ipb_outside.specs.Faults.{RisesOnlyIf}
+use Rattle.ipb_outside.specs.Faults.{RisesExactlyIf}
 use Rattle.command_terms.specs.Numbers.{refused_status}
 use Rattle.command_terms.specs.Outside.{GivenBack}
 use Rattle.command_terms.specs.Terms.{AreTerms, Reads, Terms, most_bytes}
@@ -177,8 +177,8 @@ pub no_failure : (asked command : Command) → asked ≡ command → AreTerms (t
     (input input_now rack rack_now door door_now : ℕ) (result : Result Answer NoAnswer)
     → IsCalm (terms_of asked) input input_now rack rack_now door door_now
     → InputLeaves (terms_of command) left left_now made makes result given
-    → RisesOnlyIf (result ≡ Err ReadFault) input input_now → RisesOnlyIf (result ≡ Err RackFault) rack rack_now
-    → RisesOnlyIf (result ≡ Err DoorFault) door door_now
+    → RisesExactlyIf (result ≡ Err ReadFault) input input_now → RisesExactlyIf (result ≡ Err RackFault) rack rack_now
+    → RisesExactlyIf (result ≡ Err DoorFault) door door_now
     → (result ≡ Err ReadFault → ⊥) × (result ≡ Err RackFault → ⊥) × (result ≡ Err DoorFault → ⊥)
 no_failure asked command same laws left left_now made makes given input input_now rack rack_now door door_now result
     quiet leaves inputs racks doors =

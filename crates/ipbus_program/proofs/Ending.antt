@@ -8,7 +8,7 @@ use Rattle.ipb_outside.specs.Told.{AppendsPart, TakesAtMost}
 use Rattle.command_words.specs.declared.command.Command.{Command}
 use Rattle.command_words.specs.Commands.{usage_text}
 use Rattle.command_terms.specs.declared.answer.Answer.{Answer}
-use Rattle.ipb_outside.specs.Faults.{RisesOnlyIf}
+use Rattle.ipb_outside.specs.Faults.{RisesExactlyIf}
 use Rattle.command_terms.specs.Numbers.{IsDoneStatus, usage_status, refused_status}
 use Rattle.command_terms.specs.Numbers.{read_fault_status, write_fault_status}
 use Rattle.command_terms.specs.Numbers.{no_memory_status, rack_fault_status, door_fault_status}
@@ -59,13 +59,13 @@ cut_text result is (inr (inr (inr fault))) = omega (arith, is, fault)
 -- ---- faults
 
 -- a count that stayed at another status
-stays_at : (at status : ℕ) (before now : ℕ) → now ≡ before → (status ≡ at → ⊥) → RisesOnlyIf (status ≡ at) before now
+stays_at : (at status : ℕ) (before now : ℕ) → now ≡ before → (status ≡ at → ⊥) → RisesExactlyIf (status ≡ at) before now
 stays_at at status before now same apart = (λ is. absurd (apart is), omega (arith, same), λ other. same)
 
 -- what was handed to the output
 module _ (status : ℕ) (small : status ≤ 3) (handed : List ℕ) (old new : Option (List ℕ)) (met meets result : ℕ) where
   pub output_rises : Delivers status handed old new met meets result → met ≤ meets
-      → (result ≢ write_fault_status → meets ≡ met) → RisesOnlyIf (result ≡ write_fault_status) met meets
+      → (result ≢ write_fault_status → meets ≡ met) → RisesExactlyIf (result ≡ write_fault_status) met meets
   output_rises (inl (is, wrote)) later stays =
       (λ told. absurd (omega (arith, is, small, told)), later, stays)
   output_rises (inr (is, (rose, part))) later stays = (λ told. rose, later, stays)
@@ -76,7 +76,7 @@ module _ (status : ℕ) (small : status ≤ 3) (handed : List ℕ) (old new : Op
 
   -- no other count rose
   pub delivered_stays : (at before now : ℕ) → 4 ≤ at → (at ≡ write_fault_status → ⊥)
-      → Delivers status handed old new met meets result → now ≡ before → RisesOnlyIf (result ≡ at) before now
+      → Delivers status handed old new met meets result → now ≡ before → RisesExactlyIf (result ≡ at) before now
   delivered_stays at before now large other (inl (is, wrote)) same =
       stays_at at result before now same (λ told. omega (arith, is, small, told, large))
   delivered_stays at before now large other (inr (is, part)) same =

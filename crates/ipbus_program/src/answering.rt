@@ -8,7 +8,7 @@ ghost use Rattle.session_serve.specs.Executed.{CameInFrames};
 ghost use Rattle.session_serve.specs.Serving.{AreBack};
 ghost use Rattle.command_words.specs.declared.command.Command.{Command as CommandValue};
 ghost use Rattle.command_words.specs.declared.command.Command.TheVariants.{Load, Serve};
-ghost use Rattle.ipb_outside.specs.Faults.{RisesOnlyIf};
+ghost use Rattle.ipb_outside.specs.Faults.{RisesExactlyIf};
 ghost use Rattle.command_terms.specs.Leaving.{Leaves};
 ghost use Rattle.command_terms.specs.Numbers.{refused_status};
 ghost use Rattle.command_terms.specs.Terms.{AreTerms, Reads};
@@ -127,8 +127,8 @@ pub(crate) fn answer_to<R: Rack, D: Door, T: Threads + Wait + Sync, G: Gate>(
         (D.ports door.new) }
     ensures serves { result ≡ Err NoAnswer.DoorFault → (terms_of command.now).lets_in ≡ true }
     ensures not_read_fault { result ≢ Err NoAnswer.ReadFault }
-    ensures rack_faults { RisesOnlyIf (result ≡ Err NoAnswer.RackFault) (R.faults rack.old) (R.faults rack.new) }
-    ensures door_faults { RisesOnlyIf (result ≡ Err NoAnswer.DoorFault) (D.faults door.old) (D.faults door.new) }
+    ensures rack_faults { RisesExactlyIf (result ≡ Err NoAnswer.RackFault) (R.faults rack.old) (R.faults rack.new) }
+    ensures door_faults { RisesExactlyIf (result ≡ Err NoAnswer.DoorFault) (D.faults door.old) (D.faults door.new) }
 {
     match command {
         Command::Run => Ok(run_document(rt, alloc, bytes, rack, gate)?),

@@ -10,7 +10,7 @@ ghost use Rattle.session_serve.specs.Executed.{CameInFrames};
 ghost use Rattle.command_words.specs.declared.command.Command.{Command as Asked};
 ghost use Rattle.command_words.specs.declared.command.Command.TheVariants.{Load, Serve};
 ghost use Rattle.ipb_base.specs.Numbers.{most_operations};
-ghost use Rattle.ipb_outside.specs.Faults.{RisesOnlyIf};
+ghost use Rattle.ipb_outside.specs.Faults.{RisesExactlyIf};
 ghost use Rattle.command_terms.specs.Numbers.{IsDoneStatus, usage_status, refused_status};
 ghost use Rattle.command_terms.specs.Numbers.{read_fault_status, write_fault_status};
 ghost use Rattle.command_terms.specs.Numbers.{no_memory_status, rack_fault_status, door_fault_status};
@@ -53,9 +53,9 @@ fn answer_input<S: Source, R: Rack, D: Door, T: Threads + Wait + Sync, G: Gate>(
         (λ links. GivesBack D.Incoming.Source D.Outgoing.Sink (D.coming door.old) (D.coming door.new) (D.kept door.old)
         (D.kept door.new) (λ came back. InputLeaves (terms_of command.now) (S.left input.old) (S.left input.new)
         (R.made rack.old) (R.made rack.new) result (record { links = links; came = came; back = back }))) }
-    ensures input_faults { RisesOnlyIf (result ≡ Err NoAnswer.ReadFault) (S.faults input.old) (S.faults input.new) }
-    ensures rack_faults { RisesOnlyIf (result ≡ Err NoAnswer.RackFault) (R.faults rack.old) (R.faults rack.new) }
-    ensures door_faults { RisesOnlyIf (result ≡ Err NoAnswer.DoorFault) (D.faults door.old) (D.faults door.new) }
+    ensures input_faults { RisesExactlyIf (result ≡ Err NoAnswer.ReadFault) (S.faults input.old) (S.faults input.new) }
+    ensures rack_faults { RisesExactlyIf (result ≡ Err NoAnswer.RackFault) (R.faults rack.old) (R.faults rack.new) }
+    ensures door_faults { RisesExactlyIf (result ≡ Err NoAnswer.DoorFault) (D.faults door.old) (D.faults door.new) }
     ensures in_frames { (port count : ℕ) → command.now ≡ Serve port count
         → Keeps R.L.Link (R.kept rack.old) (R.kept rack.new)
         (λ links. GivesBack D.Incoming.Source D.Outgoing.Sink (D.coming door.old) (D.coming door.new) (D.kept door.old)
@@ -90,9 +90,9 @@ fn answer_command<S: Source, R: Rack, D: Door, T: Threads + Wait + Sync, G: Gate
         (λ links. GivesBack D.Incoming.Source D.Outgoing.Sink (D.coming door.old) (D.coming door.new) (D.kept door.old)
         (D.kept door.new) (λ came back. InputLeaves (terms_of command.now) (S.left input.old) (S.left input.new)
         (R.made rack.old) (R.made rack.new) result (record { links = links; came = came; back = back }))) }
-    ensures input_faults { RisesOnlyIf (result ≡ Err NoAnswer.ReadFault) (S.faults input.old) (S.faults input.new) }
-    ensures rack_faults { RisesOnlyIf (result ≡ Err NoAnswer.RackFault) (R.faults rack.old) (R.faults rack.new) }
-    ensures door_faults { RisesOnlyIf (result ≡ Err NoAnswer.DoorFault) (D.faults door.old) (D.faults door.new) }
+    ensures input_faults { RisesExactlyIf (result ≡ Err NoAnswer.ReadFault) (S.faults input.old) (S.faults input.new) }
+    ensures rack_faults { RisesExactlyIf (result ≡ Err NoAnswer.RackFault) (R.faults rack.old) (R.faults rack.new) }
+    ensures door_faults { RisesExactlyIf (result ≡ Err NoAnswer.DoorFault) (D.faults door.old) (D.faults door.new) }
     ensures in_frames { (port count : ℕ) → command.now ≡ Serve port count
         → Keeps R.L.Link (R.kept rack.old) (R.kept rack.new)
         (λ links. GivesBack D.Incoming.Source D.Outgoing.Sink (D.coming door.old) (D.coming door.new) (D.kept door.old)
@@ -171,10 +171,10 @@ pub fn control<S: Source, O: Sink, R: Rack, D: Door, T: Threads + Wait + Sync, G
 
     // A fault of the input is told by status 4 alone, one of the output by 5, one of the rack by 7, one of the door by
     // 8: each comes with a fault of its own, and none is passed over.
-    ensures input_faults { RisesOnlyIf (result ≡ read_fault_status) (S.faults input.old) (S.faults input.new) }
-    ensures output_faults { RisesOnlyIf (result ≡ write_fault_status) (O.faults out.old) (O.faults out.new) }
-    ensures rack_faults { RisesOnlyIf (result ≡ rack_fault_status) (R.faults rack.old) (R.faults rack.new) }
-    ensures door_faults { RisesOnlyIf (result ≡ door_fault_status) (D.faults door.old) (D.faults door.new) }
+    ensures input_faults { RisesExactlyIf (result ≡ read_fault_status) (S.faults input.old) (S.faults input.new) }
+    ensures output_faults { RisesExactlyIf (result ≡ write_fault_status) (O.faults out.old) (O.faults out.new) }
+    ensures rack_faults { RisesExactlyIf (result ≡ rack_fault_status) (R.faults rack.old) (R.faults rack.new) }
+    ensures door_faults { RisesExactlyIf (result ≡ door_fault_status) (D.faults door.old) (D.faults door.new) }
 
     // Of any input, output, rack and door, whether they tell what they carry or not: what is left alone.
     ensures unread { AreNoReader words.now → input.new ≡ input.old }

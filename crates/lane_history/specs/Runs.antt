@@ -2,7 +2,7 @@
 use Rattle.std.specs.Prelude.{◌≡◌, ◌≢◌, ℕ, ◌+◌, ◌*◌, ◌≤◌, true, List, [], ◌∷◌, length, map, count_by, None, IfSome}
 use Rattle.std.specs.Prelude.{is_some}
 use Rattle.std.specs.List.{AllByRecursion, AllZip}
-use Rattle.ipb_base.specs.Numbers.{payload_of}
+use Rattle.ipb_base.specs.Numbers.{most_others, payload_of}
 use Rattle.mtu_packer.specs.declared.packing.TheConstants.{MIN_PAYLOAD, MAX_PAYLOAD}
 use Rattle.board_bus.specs.Cells.{CellMap}
 use Rattle.board_node.specs.declared.spec.BoardSpec.{BoardSpec}
@@ -129,7 +129,7 @@ pub record ShowsLates (run : BoardRun) (link : LinkReport) : Type 0 where
 -- board executed nothing.
 pub record IsSilentRun (settings : Limits) (link : LinkReport) : Type 0 where
   pub untold : first_status link.receives ≡ None
-  pub waited : 64 * settings.rounds ≤ 64 * link.quiets + link.gots
+  pub waited : most_others * settings.rounds ≤ most_others * link.quiets + link.gots
   pub quiet : IfSome link.telling (λ _. settings.rounds ≤ link.quiets)
   pub held : IfSome link.telling (λ _. settings.rounds ≤ link.held)
   pub untouched : IsUntouched link

@@ -7,7 +7,8 @@ use Rattle.std.proofs.lemmas.List.Elements.{filter-append}
 use Rattle.world_model.specs.declared.datagram.Datagram.{Datagram}
 use Rattle.world_model.specs.declared.datagram.Direction.TheVariants.{ToBoard}
 use Rattle.capture_reader.specs.declared.capture.Caught.{Caught}
-use Rattle.link_tap.specs.Traffic.{sent_in, received_in, for_board, is_sent, is_received, is_for_board, bytes_of, carried}
+use Rattle.link_tap.specs.Traffic.{sent_in, received_in, for_board, is_sent, is_received, bytes_of, carried}
+use Rattle.world_model.specs.Air.{is_for_board}
 use Rattle.link_tap.specs.Traffic.{sent_item, received_item, IsForHubAt, AreForHubAt}
 
 pub get_front : {A : Type 0} (xs ys : List A) (k : ℕ) (x : A) → slice_get xs k ≡ Some x

@@ -4,7 +4,7 @@ use Rattle.std.specs.Prelude.{Result, Ok, Err}
 use Rattle.std.specs.List.{filter, slice_get}
 use Rattle.world_model.specs.declared.datagram.Datagram.{Datagram}
 use Rattle.world_model.specs.declared.datagram.Direction.TheVariants.{ToBoard, ToHub}
-use Rattle.world_model.specs.Air.{goes_to, is_alive}
+use Rattle.world_model.specs.Air.{goes_to, is_alive, is_for_board}
 use Rattle.world_core.specs.declared.link.LinkFault.{LinkFault}
 use Rattle.world_core.specs.declared.link.Received.{Received}
 use Rattle.world_core.specs.declared.link.Received.TheVariants.{Got, Quiet}
@@ -42,9 +42,6 @@ abbrev pub received_in : List Caught → List (List ℕ)
 received_in items = map bytes_of (filter is_received items)
 
 -- the bytes of the datagrams of an air that are for the board, in order
-abbrev pub is_for_board : Datagram → Bool
-is_for_board datagram = goes_to ToBoard datagram.direction
-
 abbrev pub carried : Datagram → List ℕ
 carried datagram = datagram.bytes
 

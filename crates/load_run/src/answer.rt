@@ -3,7 +3,7 @@
 ghost use Rattle.std.specs.Prelude.{◌≡◌, ◌≢◌, ◌≤◌, ℕ, List, Err, IfOk};
 ghost use Rattle.board_greeting.specs.Links.{Keeps};
 ghost use Rattle.session_run.specs.Faults.{IsRunFailure};
-ghost use Rattle.ipb_outside.specs.Faults.{RisesOnlyIf};
+ghost use Rattle.ipb_outside.specs.Faults.{RisesExactlyIf};
 ghost use Rattle.command_terms.specs.Leaving.{Leaves};
 ghost use Rattle.command_terms.specs.Numbers.{refused_status};
 ghost use Rattle.command_terms.specs.Outside.{NoneCame, no_pairs};
@@ -35,7 +35,7 @@ pub fn answer_load<R: Rack, T: Threads + Wait + Sync, G: Gate>(
         (λ links. Leaves NoneCame IsRunFailure RunFault.Rack (load_terms count) bytes (R.made rack.old)
         (R.made rack.new) result (no_pairs links)) }
     ensures not_refused { IfOk result (λ answer. answer.status ≢ refused_status) }
-    ensures rack_faults { RisesOnlyIf (result ≡ Err RunFault.Rack) (R.faults rack.old) (R.faults rack.new) }
+    ensures rack_faults { RisesExactlyIf (result ≡ Err RunFault.Rack) (R.faults rack.old) (R.faults rack.new) }
 {
     let load = run_load(rt, alloc, count, rack, gate)?;
     Ok(Answer {

@@ -1,7 +1,7 @@
 //! The run of a generated session.
 
 ghost use Rattle.std.specs.Prelude.{◌≡◌, ◌≤◌, Err, IfOk};
-ghost use Rattle.ipb_outside.specs.Faults.{RisesOnlyIf};
+ghost use Rattle.ipb_outside.specs.Faults.{RisesExactlyIf};
 ghost use Rattle.board_greeting.specs.Links.{Keeps};
 ghost use Rattle.load_run.specs.Loading.{IsGenerated, IsLoadOf, LoadLeaves, PrintsLoad};
 ghost use Rattle.ipb_base.specs.Numbers.{most_operations};
@@ -61,7 +61,7 @@ fn run_generated<R: Rack, T: Threads + Wait + Sync, G: Gate>(
     requires { IsGenerated count settings boards.now steps.now }
     ensures leaves { Keeps R.L.Link (R.kept rack.old) (R.kept rack.new)
         (LoadLeaves PrintsLoad count (R.made rack.old) (R.made rack.new) result) }
-    ensures rack_faults { RisesOnlyIf (result ≡ Err RunFault.Rack) (R.faults rack.old) (R.faults rack.new) }
+    ensures rack_faults { RisesExactlyIf (result ≡ Err RunFault.Rack) (R.faults rack.old) (R.faults rack.new) }
 {
     let runs = run_session(rt, alloc, settings, boards, steps, rack, gate)?;
     Ok(printed(alloc, count, &runs, steps)?)
@@ -80,7 +80,7 @@ pub fn run_load<R: Rack, T: Threads + Wait + Sync, G: Gate>(
     // The link was given back, and what it shows, the lines of the summary and whether all was done go together.
     ensures leaves { Keeps R.L.Link (R.kept rack.old) (R.kept rack.new)
         (LoadLeaves IsLoadOf count (R.made rack.old) (R.made rack.new) result) }
-    ensures rack_faults { RisesOnlyIf (result ≡ Err RunFault.Rack) (R.faults rack.old) (R.faults rack.new) }
+    ensures rack_faults { RisesExactlyIf (result ≡ Err RunFault.Rack) (R.faults rack.old) (R.faults rack.new) }
 {
     a_generated_session_can_be_run();
     the_run_of_a_generated_session();

@@ -5,7 +5,7 @@ use Rattle.board_bus.specs.declared.range.Range.{Range}
 use Rattle.board_node.specs.declared.spec.Fates.{Fates}
 use Rattle.board_node.specs.declared.spec.LinkSpec.{LinkSpec}
 use Rattle.board_node.specs.declared.spec.LinkSpec.TheVariants.{Sim}
-use Rattle.ipb_outside.specs.Faults.{RisesOnlyIf}
+use Rattle.ipb_outside.specs.Faults.{RisesExactlyIf}
 use Rattle.lossy_network.specs.declared.rack.RackFault.{RackFault}
 use Rattle.lossy_network.specs.declared.rack.RackFault.TheVariants.{Failed, NoMemory}
 use Rattle.lossy_network.specs.Network.{Network}
@@ -22,7 +22,7 @@ no_failure fails result none other = (λ e. absurd (other e), λ t. absurd cc)
 
 -- the faults rise where it fails
 pub faults_count : (result : Result Network RackFault) (spec : LinkSpec) (rack : RackState) → rack.faults < 2 ^ 64
-    → RisesOnlyIf (result ≡ Err Failed) rack.faults (after_make result spec rack).faults
+    → RisesExactlyIf (result ≡ Err Failed) rack.faults (after_make result spec rack).faults
 faults_count (Ok link) spec rack small = (λ failed. absurd cc, omega arith, λ other. refl)
 faults_count (Err Failed) spec rack small = (λ failed. omega arith, omega arith, λ other. absurd (other refl))
 faults_count (Err NoMemory) spec rack small = (λ failed. absurd cc, omega arith, λ other. refl)

@@ -2,7 +2,7 @@
 
 ghost use Rattle.std.specs.Prelude.{◌≡◌, ◌≤◌, ◌<◌, ◌++◌, ◌∷◌, ℕ, List, [], length, Err};
 ghost use Rattle.std.specs.Prelude.{IfOk};
-ghost use Rattle.ipb_outside.specs.Faults.{RisesOnlyIf};
+ghost use Rattle.ipb_outside.specs.Faults.{RisesExactlyIf};
 ghost use Rattle.board_node.specs.declared.spec.LinkSpec.{LinkSpec};
 ghost use Rattle.lossy_network.specs.Racks.{IsMakeable, made_after, telling_for};
 
@@ -48,10 +48,10 @@ pub trait Rack {
     /// How often a link could not be made.
     ghost faults: { Self → ℕ };
 
-    /// Makes a link for a board, with counts of 0 and no receives. For a simulated one its ranges are those of a bus, its MTU is 92 to
-    /// 9000 bytes and it has 1 to 64 buffers; the link tells a fresh board and an empty air. One for a board on a
-    /// network does not tell. What it was made of stands behind the specs of the links before. It takes the room
-    /// that keeping the link needs. No more links are ever kept than were made.
+    /// Makes a link for a board, with counts of 0 and no receives. For a simulated one its ranges are those of a bus,
+    /// its MTU is 92 to 9000 bytes and it has 1 to 64 buffers; the link tells a fresh board and an empty air. One for a
+    /// board on a network does not tell. What it was made of stands behind the specs of the links before. It takes the
+    /// room that keeping the link needs. No more links are ever kept than were made.
     fn make(&mut self, spec: &BoardSpec) -> Result<Self::L, RackFault>
         requires { IsMakeable spec.now.link }
         ensures told { IfOk result (λ link. Self.L.telling link ≡ telling_for spec.now.link) }
@@ -60,7 +60,7 @@ pub trait Rack {
         ensures no_gots { IfOk result (λ link. Self.L.gots link ≡ 0) }
         ensures none_held { IfOk result (λ link. Self.L.held link ≡ 0) }
         ensures none_received { IfOk result (λ link. Self.L.receives link ≡ []) }
-        ensures faults { RisesOnlyIf (result ≡ Err RackFault.Failed) (faults self.old) (faults self.new) }
+        ensures faults { RisesExactlyIf (result ≡ Err RackFault.Failed) (faults self.old) (faults self.new) }
         ensures kept { kept self.new ≡ kept self.old }
         ensures made { made self.new ≡ made_after result spec.now.link (made self.old) }
         ensures within { length (kept self.old) ≤ length (made self.old) };

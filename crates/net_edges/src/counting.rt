@@ -2,7 +2,7 @@
 
 ghost use Rattle.std.specs.Prelude.{◌≡◌, ◌<◌, ◌≤◌, IfOk, length, IsErr};
 ghost use Rattle.std.specs.Io.KnownBytes.{ReadConsumes, WriteAppends};
-ghost use Rattle.ipb_outside.specs.Faults.{RisesOnlyIf};
+ghost use Rattle.ipb_outside.specs.Faults.{RisesExactlyIf};
 ghost use Rattle.ipb_base.specs.Faults.{one_more};
 
 use ipb_outside::Failed;
@@ -23,7 +23,7 @@ pub(crate) fn read_counted<R: Read>(
     faults: &mut u64,
 ) -> Result<usize, Failed>
     ensures within { IfOk result (λ count. count ≤ length buf.new) }
-    ensures faults { RisesOnlyIf (IsErr result) faults.old faults.new }
+    ensures faults { RisesExactlyIf (IsErr result) faults.old faults.new }
     ensures handed_on { ReadConsumes (R.remaining reader.old) (R.remaining reader.new) result buf.new }
 {
     match reader.read(buf) {
@@ -44,7 +44,7 @@ pub(crate) fn write_counted<W: Write>(
 ) -> Result<usize, Failed>
     ensures within { IfOk result (λ count. count ≤ length bytes.now) }
     ensures goes_on { IfOk result (λ count. 0 < length bytes.now → 0 < count) }
-    ensures faults { RisesOnlyIf (IsErr result) faults.old faults.new }
+    ensures faults { RisesExactlyIf (IsErr result) faults.old faults.new }
     ensures handed_on { WriteAppends (W.contents writer.old) (W.contents writer.new) result bytes.now }
 {
     match writer.write(bytes) {

@@ -3,7 +3,7 @@
 
 ghost use Rattle.std.specs.Prelude.{◌≡◌, ◌<◌, ◌≤◌, false, true, Ok, None, IfOk, length, IsErr};
 ghost use Rattle.std.specs.Io.KnownBytes.{IsAtEnd, ReadConsumes, WriteAppends};
-ghost use Rattle.ipb_outside.specs.Faults.{RisesOnlyIf};
+ghost use Rattle.ipb_outside.specs.Faults.{RisesExactlyIf};
 ghost use Rattle.ipb_outside.specs.Told.{Reads, Writes};
 
 use crate::counting::{read_counted, write_counted};
@@ -49,7 +49,7 @@ impl<R: Input> Source for StdinSource<R> {
         ensures within { IfOk result (λ count. count ≤ length buf.new) }
         ensures taken { Reads None None result buf.new }
         ensures at_end { result ≡ Ok 0 → 0 < length buf.new → IsAtEnd None }
-        ensures faults { RisesOnlyIf (IsErr result) self.old.faults self.new.faults }
+        ensures faults { RisesExactlyIf (IsErr result) self.old.faults self.new.faults }
         ensures handed_on { ReadConsumes self.old.remaining self.new.remaining result buf.new }
     {
         read_counted(&mut self.reader, buf, &mut self.faults)
@@ -125,7 +125,7 @@ impl<W: Write + Drop> Sink for StdoutSink<W> {
         ensures within { IfOk result (λ count. count ≤ length bytes.now) }
         ensures goes_on { IfOk result (λ count. 0 < length bytes.now → 0 < count) }
         ensures appended { Writes None None result bytes.now }
-        ensures faults { RisesOnlyIf (IsErr result) self.old.faults self.new.faults }
+        ensures faults { RisesExactlyIf (IsErr result) self.old.faults self.new.faults }
         ensures ended_kept { self.new.ended ≡ self.old.ended }
         ensures handed_on { WriteAppends self.old.contents self.new.contents result bytes.now }
     {

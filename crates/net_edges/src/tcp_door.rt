@@ -1,7 +1,7 @@
 //! A TCP port that lets connections in.
 
 ghost use Rattle.std.specs.Prelude.{◌≡◌, ◌≤◌, None, IfOk, OnOk, OnErr, IsSomeAnd, IsErr};
-ghost use Rattle.ipb_outside.specs.Faults.{RisesOnlyIf};
+ghost use Rattle.ipb_outside.specs.Faults.{RisesExactlyIf};
 ghost use Rattle.ipb_base.specs.Faults.{one_more};
 ghost use Rattle.ipb_outside.specs.Doors.{Opens};
 ghost use Rattle.net_edges.specs.Places.{IsAt, every_address, ports_at};
@@ -103,7 +103,7 @@ impl<R: Net<Listener = TcpListener, Stream = TcpStream> + Drop> Door for TcpDoor
     fn listen(&mut self, port: u16) -> Result<(), Failed>
         ensures listens { OnOk result (IsSomeAnd self.new.place (IsAt every_address port)) }
         ensures opened { Opens port (ports_at self.old.place) (ports_at self.new.place) result }
-        ensures faults { RisesOnlyIf (IsErr result) self.old.faults self.new.faults }
+        ensures faults { RisesExactlyIf (IsErr result) self.old.faults self.new.faults }
         ensures out_kept { self.new.out ≡ self.old.out }
         ensures not_opened { OnErr result (self.new.place ≡ self.old.place) }
     {

@@ -21,7 +21,7 @@ use Rattle.session_run.proofs.Faults.{no_memory_is_no_rack}
 use Rattle.script_plans.specs.declared.board_run.BoardRun.{BoardRun}
 use Rattle.transcript.specs.Lines.{all_good, transcript_of}
 use Rattle.command_terms.specs.declared.answer.Answer.{Answer}
-use Rattle.ipb_outside.specs.Faults.{RisesOnlyIf}
+use Rattle.ipb_outside.specs.Faults.{RisesExactlyIf}
 use Rattle.command_terms.specs.Leaving.{Leaves}
 use Rattle.command_terms.specs.Numbers.{refused_status}
 use Rattle.command_terms.specs.Outside.{NoneCame, no_pairs}
@@ -55,7 +55,7 @@ record_failed session steps made makes (Err why) fault links left links_made fai
 -- a fault of a rack is told as one of a recording
 pub rises_by : (fault : RackFault) (result : Result Answer RunFault) (before now : ℕ)
     → IsErr result → IsErrAnd result (λ why. why ≡ run_fault fault) → (fault ≡ rack.Failed → Rose before now)
-    → before ≤ now → ((fault ≡ rack.Failed → ⊥) → now ≡ before) → RisesOnlyIf (result ≡ Err Rack) before now
+    → before ≤ now → ((fault ≡ rack.Failed → ⊥) → now ≡ before) → RisesExactlyIf (result ≡ Err Rack) before now
 rises_by fault (Ok answer) before now fails is failed later calm = absurd cc
 rises_by rack.Failed (Err why) before now fails is failed later calm =
     (λ told. failed refl, later, λ other. absurd (other (ap Err is)))

@@ -13,7 +13,7 @@ ghost use Rattle.session_run.specs.Scripts.{CanBeRun};
 ghost use Rattle.session_run.specs.Links.{AreLeft};
 ghost use Rattle.session_run.specs.Faults.{IsRunFailure};
 ghost use Rattle.run_laws.specs.Steps.{MayRun};
-ghost use Rattle.ipb_outside.specs.Faults.{RisesOnlyIf};
+ghost use Rattle.ipb_outside.specs.Faults.{RisesExactlyIf};
 ghost use Rattle.command_terms.specs.Leaving.{Leaves};
 ghost use Rattle.command_terms.specs.Numbers.{refused_status};
 ghost use Rattle.command_terms.specs.Outside.{NoneCame, no_pairs};
@@ -71,7 +71,7 @@ pub fn record_document<R: Rack, T: Threads + Wait + Sync, G: Gate>(
         (λ links. Leaves NoneCame IsRunFailure RunFault.Rack record_terms bytes.now (R.made rack.old) (R.made rack.new)
         result (no_pairs links)) }
     ensures refused { IfOk result (λ answer. answer.status ≡ refused_status → rack.new ≡ rack.old) }
-    ensures rack_faults { RisesOnlyIf (result ≡ Err RunFault.Rack) (R.faults rack.old) (R.faults rack.new) }
+    ensures rack_faults { RisesExactlyIf (result ≡ Err RunFault.Rack) (R.faults rack.old) (R.faults rack.new) }
 {
     a_document_can_run_its_steps();
     a_document_has_few_clients();
@@ -97,7 +97,7 @@ fn recorded<R: Rack, T: Threads + Wait + Sync, G: Gate>(
     requires one { IsOneSimulated session.now.boards }
     ensures leaves { Keeps R.L.Link (R.kept rack.old) (R.kept rack.new)
         (RecordLeaves session.now steps.now (R.made rack.old) (R.made rack.new) result) }
-    ensures rack_faults { RisesOnlyIf (result ≡ Err RunFault.Rack) (R.faults rack.old) (R.faults rack.new) }
+    ensures rack_faults { RisesExactlyIf (result ≡ Err RunFault.Rack) (R.faults rack.old) (R.faults rack.new) }
 {
     a_capture_of_a_lane_proves_what_was_executed();
     a_lane_sends_a_merge_at_any_moment();
@@ -152,7 +152,7 @@ fn greet_tapped<R: Rack>(
     requires reached { CanBeReached spec.now }
     ensures reached { IfOk result (λ board. IsReached settings spec.now board
         (shown_by (tapped R.L.Link) (link_of board))) }
-    ensures faults { RisesOnlyIf (result ≡ Err RackFault.Failed) (R.faults rack.old) (R.faults rack.new) }
+    ensures faults { RisesExactlyIf (result ≡ Err RackFault.Failed) (R.faults rack.old) (R.faults rack.new) }
     ensures kept { R.kept rack.new ≡ R.kept rack.old }
     ensures made { R.made rack.new ≡ made_after result spec.now.link (R.made rack.old) }
     ensures within { length (R.kept rack.old) ≤ length (R.made rack.old) }

@@ -5,7 +5,7 @@ ghost use Rattle.board_greeting.specs.Links.{Keeps};
 ghost use Rattle.transcript.specs.Lines as lines;
 ghost use Rattle.transcript.specs.Text as texts;
 ghost use Rattle.session_run.specs.Faults.{IsRunFailure};
-ghost use Rattle.ipb_outside.specs.Faults.{RisesOnlyIf};
+ghost use Rattle.ipb_outside.specs.Faults.{RisesExactlyIf};
 ghost use Rattle.command_terms.specs.Leaving.{Leaves};
 ghost use Rattle.command_terms.specs.Numbers.{refused_status};
 ghost use Rattle.command_terms.specs.Outside.{NoneCame, no_pairs};
@@ -47,7 +47,7 @@ pub fn run_document<R: Rack, T: Threads + Wait + Sync, G: Gate>(
         (λ links. Leaves NoneCame IsRunFailure RunFault.Rack run_terms bytes.now (R.made rack.old) (R.made rack.new)
         result (no_pairs links)) }
     ensures refused { IfOk result (λ answer. answer.status ≡ refused_status → rack.new ≡ rack.old) }
-    ensures rack_faults { RisesOnlyIf (result ≡ Err RunFault.Rack) (R.faults rack.old) (R.faults rack.new) }
+    ensures rack_faults { RisesExactlyIf (result ≡ Err RunFault.Rack) (R.faults rack.old) (R.faults rack.new) }
 {
     a_document_can_run_its_steps();
     a_document_has_few_clients();
@@ -72,7 +72,7 @@ fn transcript<R: Rack, T: Threads + Wait + Sync, G: Gate>(
     requires { MayRun session.now steps.now }
     ensures leaves { Keeps R.L.Link (R.kept rack.old) (R.kept rack.new)
         (RunLeaves session.now steps.now (R.made rack.old) (R.made rack.new) result) }
-    ensures rack_faults { RisesOnlyIf (result ≡ Err RunFault.Rack) (R.faults rack.old) (R.faults rack.new) }
+    ensures rack_faults { RisesExactlyIf (result ≡ Err RunFault.Rack) (R.faults rack.old) (R.faults rack.new) }
 {
     let boards = session.boards.as_slice();
     let runs = run_session(rt, alloc, session.settings, boards, steps, rack, gate)?;

@@ -8,7 +8,7 @@ ghost use Rattle.session_serve.specs.Faults.{IsServeFailure};
 ghost use Rattle.session_serve.specs.Executed.{CameInFrames};
 ghost use Rattle.session_serve.specs.Serving.{AreBack};
 ghost use Rattle.server_summary.specs.Text as texts;
-ghost use Rattle.ipb_outside.specs.Faults.{RisesOnlyIf};
+ghost use Rattle.ipb_outside.specs.Faults.{RisesExactlyIf};
 ghost use Rattle.command_terms.specs.Leaving.{Leaves};
 ghost use Rattle.command_terms.specs.Numbers.{refused_status};
 ghost use Rattle.serve_command.specs.Steps.{MayServe, ServeLeaves};
@@ -57,8 +57,8 @@ pub fn serve_document<R: Rack, D: Door, T: Threads + Wait + Sync>(
     ensures none_out { D.out door.new ≡ D.out door.old }
     ensures listens { Listens port (IsOkAnd result (λ answer. answer.status ≢ refused_status)) (D.ports door.old)
         (D.ports door.new) }
-    ensures rack_faults { RisesOnlyIf (result ≡ Err ServeFault.Rack) (R.faults rack.old) (R.faults rack.new) }
-    ensures door_faults { RisesOnlyIf (result ≡ Err ServeFault.Door) (D.faults door.old) (D.faults door.new) }
+    ensures rack_faults { RisesExactlyIf (result ≡ Err ServeFault.Rack) (R.faults rack.old) (R.faults rack.new) }
+    ensures door_faults { RisesExactlyIf (result ≡ Err ServeFault.Door) (D.faults door.old) (D.faults door.new) }
 {
     serve_laws();
     the_ranges_of_a_session_name_words();
@@ -90,8 +90,8 @@ fn served<R: Rack, D: Door, T: Threads + Wait + Sync>(
     ensures not_listened { result ≡ Err ServeFault.Rack → door.new ≡ door.old }
     ensures none_out { D.out door.new ≡ D.out door.old }
     ensures listens { Listens port (IsOk result) (D.ports door.old) (D.ports door.new) }
-    ensures rack_faults { RisesOnlyIf (result ≡ Err ServeFault.Rack) (R.faults rack.old) (R.faults rack.new) }
-    ensures door_faults { RisesOnlyIf (result ≡ Err ServeFault.Door) (D.faults door.old) (D.faults door.new) }
+    ensures rack_faults { RisesExactlyIf (result ≡ Err ServeFault.Rack) (R.faults rack.old) (R.faults rack.new) }
+    ensures door_faults { RisesExactlyIf (result ≡ Err ServeFault.Door) (D.faults door.old) (D.faults door.new) }
 {
     let boards = session.boards.as_slice();
     let report = serve_session(rt, alloc, session.settings, boards, port, count, rack, door)?;

@@ -2,7 +2,7 @@
 
 ghost use Rattle.std.specs.Prelude.{◌≡◌, ◌^◌, ◌<◌, [], length, Err, IfOk, OnErr};
 ghost use Rattle.std.specs.List.{AllByRecursion};
-ghost use Rattle.ipb_outside.specs.Faults.{RisesOnlyIf};
+ghost use Rattle.ipb_outside.specs.Faults.{RisesExactlyIf};
 ghost use Rattle.lane_history.specs.Links.{IsUntouched};
 ghost use Rattle.lane_history.specs.Runs.{AreRunsOver};
 ghost use Rattle.board_greeting.specs.Boards.{AreReached, HasMemory, HasRoom};
@@ -161,7 +161,7 @@ pub fn run_session<R: Rack, T: Threads + Wait + Sync, G: Gate>(
     ensures left { Keeps R.L.Link (R.kept rack.old) (R.kept rack.new) (AreLeft 0 specs.now scripts.now) }
     ensures made { Keeps R.L.Link (R.kept rack.old) (R.kept rack.new)
         (λ links. AreMadeFor specs.now (length links) (R.made rack.old) (R.made rack.new)) }
-    ensures rack_faults { RisesOnlyIf (result ≡ Err RunFault.Rack) (R.faults rack.old) (R.faults rack.new) }
+    ensures rack_faults { RisesExactlyIf (result ≡ Err RunFault.Rack) (R.faults rack.old) (R.faults rack.new) }
     ensures untouched { result ≡ Err RunFault.Rack → Keeps R.L.Link (R.kept rack.old) (R.kept rack.new)
         (AllByRecursion IsUntouched) }
 {

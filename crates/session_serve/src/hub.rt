@@ -3,7 +3,7 @@
 ghost use Rattle.std.specs.Prelude.{◌≡◌, ◌≢◌, ◌≤◌, ◌+◌, ℕ, [], length, true, false, Err, IfOk, IsOk, OnOk};
 ghost use Rattle.std.specs.List.{AllByRecursion};
 ghost use Rattle.std.specs.Vec.{vec_capacity};
-ghost use Rattle.ipb_outside.specs.Faults.{RisesOnlyIf};
+ghost use Rattle.ipb_outside.specs.Faults.{RisesExactlyIf};
 ghost use Rattle.ipb_outside.specs.Doors.{Listens};
 ghost use Rattle.ipb_outside.specs.Pairs.{GivesBack, Went, pair_shown};
 ghost use Rattle.hub_multiplexer.specs.Ends.{HasTakenIn};
@@ -135,7 +135,7 @@ fn serve_seats<L: Link + Send, D: Door, T: Threads + Wait + Sync>(
     ensures taken_in { HasTakenIn 1 master.old → HasTakenIn (length room.seats.items + 1) master.new }
     ensures none_out { D.out door.new ≡ D.out door.old }
     ensures listens { Listens port (IsOk result) (D.ports door.old) (D.ports door.new) }
-    ensures door_faults { RisesOnlyIf (result ≡ Err ServeFault.Door) (D.faults door.old) (D.faults door.new) }
+    ensures door_faults { RisesExactlyIf (result ≡ Err ServeFault.Door) (D.faults door.old) (D.faults door.new) }
     ensures not_rack { result ≢ Err ServeFault.Rack }
 {
     let Room {
@@ -195,7 +195,7 @@ fn serve_under_seats<L: Link + Send, D: Door, T: Threads + Wait + Sync>(
     ensures taken_in { HasTakenIn 1 master.old → HasTakenIn (master.new.seats + 1) master.new }
     ensures none_out { D.out door.new ≡ D.out door.old }
     ensures listens { Listens port (IsOk result) (D.ports door.old) (D.ports door.new) }
-    ensures door_faults { RisesOnlyIf (result ≡ Err ServeFault.Door) (D.faults door.old) (D.faults door.new) }
+    ensures door_faults { RisesExactlyIf (result ≡ Err ServeFault.Door) (D.faults door.old) (D.faults door.new) }
     ensures not_rack { result ≢ Err ServeFault.Rack }
 {
     master.knows_each_turn();
@@ -233,7 +233,7 @@ pub(crate) fn serve_at_hub<L: Link + Send + Drop, D: Door, T: Threads + Wait + S
     ensures had_memory { IfOk result.1 (λ served. AllByRecursion HadMemory served.items) }
     ensures none_out { D.out door.new ≡ D.out door.old }
     ensures listens { Listens port (IsOk result.1) (D.ports door.old) (D.ports door.new) }
-    ensures door_faults { RisesOnlyIf (result.1 ≡ Err ServeFault.Door) (D.faults door.old) (D.faults door.new) }
+    ensures door_faults { RisesExactlyIf (result.1 ≡ Err ServeFault.Door) (D.faults door.old) (D.faults door.new) }
     ensures not_rack { result.1 ≢ Err ServeFault.Rack }
 {
     a_lane_comes_back_with_its_record();

@@ -4,7 +4,7 @@ ghost use Rattle.std.specs.Prelude.{◌≡◌, ◌≤◌, ◌+◌, ◌++◌, [],
 ghost use Rattle.std.specs.List.{AllByRecursion, AllZip};
 ghost use Rattle.std.specs.Vec.{vec_capacity};
 ghost use Rattle.std.specs.Vec.Iter.{into_iter_items};
-ghost use Rattle.ipb_outside.specs.Faults.{RisesOnlyIf};
+ghost use Rattle.ipb_outside.specs.Faults.{RisesExactlyIf};
 ghost use Rattle.ipb_outside.specs.Pairs.{Came, pair_shown};
 ghost use Rattle.hub_session.specs.Serving.{IsLaneBelow};
 ghost use Rattle.session_serve.specs.Seats.{HasServed, IsDoneOf, IsFresh};
@@ -52,7 +52,7 @@ where
     ensures seats { into_iter_items seats.old ≡ map (λ r. r.seat) running.new.items ++ into_iter_items seats.new }
     ensures boards { AllByRecursion (λ r. r.boards ≡ states.now) running.new.items }
     ensures all { result ≡ true → into_iter_items seats.new ≡ [] }
-    ensures door_faults { RisesOnlyIf (result ≡ false) (D.faults door.old) (D.faults door.new) }
+    ensures door_faults { RisesExactlyIf (result ≡ false) (D.faults door.old) (D.faults door.new) }
     ensures out { D.out door.new ≡ D.out door.old + length running.new.items }
     ensures kept { D.kept door.new ≡ D.kept door.old }
     ensures ports { D.ports door.new ≡ D.ports door.old }
@@ -98,7 +98,7 @@ where
     D::Outgoing: 's,
     ensures served { HasServed (pair_shown D.Incoming.Source D.Outgoing.Sink) work.entry.boards work.entry.seats
         (D.coming door.old) (D.coming door.new) result }
-    ensures door_faults { RisesOnlyIf (result.is_whole ≡ false) (D.faults door.old) (D.faults door.new) }
+    ensures door_faults { RisesExactlyIf (result.is_whole ≡ false) (D.faults door.old) (D.faults door.new) }
     ensures out { D.out door.new ≡ D.out door.old + length result.done.items }
     ensures kept { D.kept door.new ≡ D.kept door.old }
     ensures ports { D.ports door.new ≡ D.ports door.old }
@@ -155,7 +155,7 @@ pub(crate) fn serve_all<L: Link + Send, D: Door, T: Threads + Wait + Sync>(
     requires room_done { length (into_iter_items seats) ≤ vec_capacity done }
     ensures served { HasServed (pair_shown D.Incoming.Source D.Outgoing.Sink) states.now (into_iter_items seats)
         (D.coming door.old) (D.coming door.new) result }
-    ensures door_faults { RisesOnlyIf (result.is_whole ≡ false) (D.faults door.old) (D.faults door.new) }
+    ensures door_faults { RisesExactlyIf (result.is_whole ≡ false) (D.faults door.old) (D.faults door.new) }
     ensures out { D.out door.new ≡ D.out door.old + length result.done.items }
     ensures kept { D.kept door.new ≡ D.kept door.old }
     ensures ports { D.ports door.new ≡ D.ports door.old }
@@ -174,7 +174,8 @@ pub(crate) fn serve_all<L: Link + Send, D: Door, T: Threads + Wait + Sync>(
             ensures same { result.0.ghost_name ≡ door.entry.ghost_name }
             ensures served { HasServed (pair_shown D.Incoming.Source D.Outgoing.Sink) work.entry.boards work.entry.seats
                 (D.coming door.entry.now) (D.coming result.0.now) result.1 }
-            ensures door_faults { RisesOnlyIf (result.1.is_whole ≡ false) (D.faults door.entry.now) (D.faults result.0.now) }
+            ensures door_faults { RisesExactlyIf (result.1.is_whole ≡ false) (D.faults door.entry.now)
+                (D.faults result.0.now) }
             ensures out { D.out result.0.now ≡ D.out door.entry.now + length result.1.done.items }
             ensures kept { D.kept result.0.now ≡ D.kept door.entry.now }
             ensures ports { D.ports result.0.now ≡ D.ports door.entry.now }

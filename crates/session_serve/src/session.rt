@@ -2,7 +2,7 @@
 
 ghost use Rattle.std.specs.Prelude.{◌≡◌, ◌≢◌, ◌^◌, ◌<◌, length, Err, IfOk, IsOk};
 ghost use Rattle.std.specs.List.{AllByRecursion};
-ghost use Rattle.ipb_outside.specs.Faults.{RisesOnlyIf};
+ghost use Rattle.ipb_outside.specs.Faults.{RisesExactlyIf};
 ghost use Rattle.ipb_outside.specs.Doors.{Listens};
 ghost use Rattle.ipb_outside.specs.Pairs.{GivesBack};
 ghost use Rattle.lane_history.specs.Links.{IsUntouched};
@@ -66,7 +66,7 @@ fn serve_split<R: Rack, D: Door, T: Threads + Wait + Sync>(
     ensures listens { Listens port (IsOk result) (D.ports door.old) (D.ports door.new) }
     ensures made { R.made rack.new ≡ R.made rack.old }
     ensures rack_faults { R.faults rack.new ≡ R.faults rack.old }
-    ensures door_faults { RisesOnlyIf (result ≡ Err ServeFault.Door) (D.faults door.old) (D.faults door.new) }
+    ensures door_faults { RisesExactlyIf (result ≡ Err ServeFault.Door) (D.faults door.old) (D.faults door.new) }
     ensures not_rack { result ≢ Err ServeFault.Rack }
 {
     connections_of_a_hub_leave_what_they_submitted();
@@ -129,7 +129,7 @@ fn serve_greeted<R: Rack, D: Door, T: Threads + Wait + Sync>(
     ensures listens { Listens port (IsOk result) (D.ports door.old) (D.ports door.new) }
     ensures made { R.made rack.new ≡ R.made rack.old }
     ensures rack_faults { R.faults rack.new ≡ R.faults rack.old }
-    ensures door_faults { RisesOnlyIf (result ≡ Err ServeFault.Door) (D.faults door.old) (D.faults door.new) }
+    ensures door_faults { RisesExactlyIf (result ≡ Err ServeFault.Door) (D.faults door.old) (D.faults door.new) }
     ensures not_rack { result ≢ Err ServeFault.Rack }
 {
     let Ok(prepared) = prepare(alloc, specs, &boards) else {
@@ -196,11 +196,11 @@ pub fn serve_session<R: Rack, D: Door, T: Threads + Wait + Sync>(
     ensures listens { Listens port (IsOk result) (D.ports door.old) (D.ports door.new) }
 
     // The faults of the rack and of the door come only from them. Where the rack failed the door was not called.
-    ensures rack_faults { RisesOnlyIf (result ≡ Err ServeFault.Rack) (R.faults rack.old) (R.faults rack.new) }
+    ensures rack_faults { RisesExactlyIf (result ≡ Err ServeFault.Rack) (R.faults rack.old) (R.faults rack.new) }
     ensures untouched { result ≡ Err ServeFault.Rack → Keeps R.L.Link (R.kept rack.old) (R.kept rack.new)
         (AllByRecursion IsUntouched) }
     ensures not_listened { result ≡ Err ServeFault.Rack → door.new ≡ door.old }
-    ensures door_faults { RisesOnlyIf (result ≡ Err ServeFault.Door) (D.faults door.old) (D.faults door.new) }
+    ensures door_faults { RisesExactlyIf (result ≡ Err ServeFault.Door) (D.faults door.old) (D.faults door.new) }
 {
     let boards = greet_boards(alloc, settings, specs, rack)?;
     serve_greeted(rt, alloc, settings, boards, specs, port, count, rack, door)

@@ -1,5 +1,5 @@
--- What the receives of a link came to, in order: each the bytes of a datagram, or none in the time that the link waits.
--- The greeting of a board ends with the first datagram that tells a status. Profile.
+-- What the receives of a link came to, in order: each the bytes of a datagram, or none. The greeting of a board ends
+-- with the first datagram that tells a status. Profile.
 use Rattle.std.specs.Prelude.{◌≡◌, ℕ, Bool, true, false, if◌then◌else◌, List, [], ◌∷◌, ◌++◌, count_by, is_none}
 use Rattle.std.specs.Prelude.{Option, Some, None, Result, Ok, Err}
 use Rattle.std.specs.List.{Contains}
@@ -43,8 +43,8 @@ since_status [] = []
 since_status (None ∷ later) = since_status later
 since_status (Some bytes ∷ later) = if tells_status (to_hub bytes) then later else since_status later
 
--- One of these receives got the reply to the packet of this place: a control packet with its identifier, whose body is
--- these words. The first argument is the identifier of place 1.
+-- One of these receives got a control packet with the identifier of this place, whose body is these words. The first
+-- argument is the identifier of place 1.
 pub record IsReplyAmong (first place : ℕ) (words : List ℕ) (receives : List (Option (List ℕ))) : Type 0 where
   pub datagram : List ℕ
   pub among : Contains receives (Some datagram)

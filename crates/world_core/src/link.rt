@@ -65,8 +65,7 @@ pub trait Link {
     /// How many datagrams were lost, delayed or dropped for age.
     ghost held: { Self → ℕ };
 
-    /// What the receives came to that did not fail, in order: the bytes of a datagram, or none in the time that the link
-    /// waits.
+    /// What the receives came to that did not fail, in order: the bytes of a datagram, or none.
     ghost receives: { Self → List (Option (List ℕ)) };
 
     /// Sends a datagram to the board. A refused one changes nothing that the link tells.

@@ -18,3 +18,7 @@ goes_to ToBoard ToBoard = true
 goes_to ToBoard ToHub = false
 goes_to ToHub ToBoard = false
 goes_to ToHub ToHub = true
+
+-- a datagram that the hub sent
+abbrev pub is_for_board : Datagram → Bool
+is_for_board datagram = goes_to ToBoard datagram.direction

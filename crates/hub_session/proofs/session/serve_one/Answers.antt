@@ -19,6 +19,6 @@ returns-clause-told g c = told_end c.args.map.now c.args.seat.now c.serve_pieces
 
 pub returns-clause-faultless : goal.returns-clause-faultless
 returns-clause-faultless g c = λ not_read not_write memory. by_input c.serve_pieces-served.result.end
-    (λ e. not_read (c.serve_pieces-served.ensures.read_faults.fault e))
+    (λ e. not_read (c.serve_pieces-served.ensures.read_faults.0 e))
     (λ e. not_write (subst (λ (n : ℕ). Rose (g.O.Sink.faults c.args.sink.now) n) (search rules)
-    (c.serve_pieces-served.ensures.write_faults.fault e))) memory
+    (c.serve_pieces-served.ensures.write_faults.0 e))) memory
