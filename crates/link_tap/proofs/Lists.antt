@@ -1,7 +1,7 @@
 -- Lists that grow, and what was kept of an air that grows.
-use Rattle.std.proofs.Common.{◌≡◌, ◌∙◌, ℕ, zero, suc, Bool, true, false, List, [], ◌∷◌, ◌++◌, map, Option, Some}
-use Rattle.std.proofs.Common.{refl, ap, sym}
-use Rattle.std.specs.List.{AllByRecursion, filter, slice_get}
+use Rattle.std.proofs.Common.{◌≡◌, ◌∙◌, ℕ, zero, suc, List, [], ◌∷◌, ◌++◌, map, Some}
+use Rattle.std.proofs.Common.{ap}
+use Rattle.std.specs.List.{filter, slice_get}
 use Rattle.std.proofs.lemmas.List.{append-nil, map-append}
 use Rattle.std.proofs.lemmas.List.Elements.{filter-append}
 use Rattle.world_model.specs.declared.datagram.Datagram.{Datagram}

@@ -1,8 +1,8 @@
 -- What a tap has caught agrees with what its link tells, through every call.
-use Rattle.std.proofs.Common.{◌≡◌, ◌∙◌, ℕ, ◌+◌, ◌≤◌, length, Bool, true, false, List, [], ◌∷◌, ◌++◌, map, Option, Some, None}
-use Rattle.std.proofs.Common.{Result, Ok, Err, refl, ap, sym, subst, if◌then◌else◌, inl, inr}
+use Rattle.std.proofs.Common.{◌≡◌, ◌∙◌, ℕ, ◌≤◌, length, Bool, true, false, List, [], ◌∷◌, ◌++◌, map, Option, Some, None}
+use Rattle.std.proofs.Common.{Result, Ok, Err, refl, ap, sym, subst, if◌then◌else◌}
 use Rattle.std.specs.Prelude.{IfSome}
-use Rattle.std.specs.List.{AllByRecursion, slice_get}
+use Rattle.std.specs.List.{slice_get}
 use Rattle.std.proofs.lemmas.List.{append-nil, map-append}
 use Rattle.ipb_base.specs.Lists.{IsPrefix}
 use Rattle.ipb_base.proofs.AllLemmas.{AllByRecursion-append}
@@ -12,7 +12,7 @@ use Rattle.world_model.specs.declared.datagram.Direction.TheVariants.{ToBoard, T
 use Rattle.world_model.specs.Board.{Board, hear}
 use Rattle.world_model.specs.Air.{goes_to, is_alive}
 use Rattle.world_model.specs.World.{answered}
-use Rattle.world_model.specs.Links.{Told, IsHeard, IsHandedAt, first_sends, first_sends_from, is_first_send, sent_on}
+use Rattle.world_model.specs.Links.{Told, IsHeard, IsHandedAt, first_sends, first_sends_from, sent_on}
 use Rattle.world_model.specs.Links.{heard_by, heard_on, hears_all, then_told}
 use Rattle.world_core.specs.declared.link.LinkFault.{LinkFault}
 use Rattle.world_core.specs.declared.link.LinkFault.TheVariants.{Failed, NoMemory}
@@ -24,7 +24,7 @@ use Rattle.packet_codec.specs.Packet.{AreBytes}
 use Rattle.capture_reader.specs.declared.capture.Caught.{Caught}
 use Rattle.capture_reader.specs.CaptureText.{AreItems, IsItem}
 use Rattle.link_tap.specs.Traffic.{sent_in, received_in, for_board, carried, sent_item, received_item, caught_after}
-use Rattle.link_tap.specs.Traffic.{AreForHubAt, ByKind, WereAlive, IsNextAlive, behind_next, IsTrafficOf, IsUnused, HasCaught}
+use Rattle.link_tap.specs.Traffic.{ByKind, WereAlive, IsNextAlive, behind_next, IsTrafficOf, IsUnused, HasCaught}
 use Rattle.link_tap.proofs.Lists.{for_board-append, one_more_for_board, one_more_sent, none_received}
 use Rattle.link_tap.proofs.Lists.{one_more_received, none_sent, there_in_more, one_more_there}
 

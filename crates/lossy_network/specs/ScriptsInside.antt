@@ -1,6 +1,6 @@
 -- How the code keeps links with given answers and their rack. The private functions speak of it and no public clause
 -- does.
-use Rattle.std.specs.Prelude.{ℕ, ◌≤◌, List, length, take, drop, reverse}
+use Rattle.std.specs.Prelude.{◌≤◌, length, take, drop, reverse}
 use Rattle.std.specs.List.{All}
 use Rattle.std.specs.Vec.{vec_capacity}
 use Rattle.lossy_network.specs.declared.script_link.ScriptLink.TheInside.{Inside}
