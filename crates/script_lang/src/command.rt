@@ -5,10 +5,10 @@ ghost use Rattle.script_lang.specs.Lines as spec;
 ghost use Rattle.script_lang.specs.Texts.{cut_at};
 
 use crate::Verb;
-use crate::call::{Call, Command};
+use crate::call::{Call, Command, Name};
 use crate::line::next_word;
 use address_table::number_in_text;
-use ipb_base::{NoMemory, Text, Words};
+use ipb_base::{NoMemory, Words};
 use std::alloc::Global;
 
 fn is_comment(word: &[u8]) -> bool
@@ -77,7 +77,7 @@ fn names_in(place: &str) -> Option<(&str, &str)>
 }
 
 /// What a line asks for, past the word for its operation.
-fn call(alloc: Global, verb: Verb, text: &str) -> Result<Option<Command>, NoMemory>
+fn call<'a>(alloc: Global, verb: Verb, text: &'a str) -> Result<Option<Command<'a>>, NoMemory>
     ensures { IfOk result (λ command. command ≡ spec.call_of verb (spec.words text.now)) }
 {
     let Some((place, rest)) = next_word(text) else {
@@ -94,14 +94,14 @@ fn call(alloc: Global, verb: Verb, text: &str) -> Result<Option<Command>, NoMemo
     }
     Ok(Some(Command::Ask(Call {
         verb,
-        board: Text::copy_of(alloc, board)?,
-        name: Text::copy_of(alloc, name)?,
+        board: Name::of(board),
+        name: Name::of(name),
         numbers,
     })))
 }
 
 /// A line that is `dispatch` and no more.
-fn dispatch(rest: &str) -> Option<Command>
+fn dispatch(rest: &str) -> Option<Command<'_>>
     ensures { result ≡ spec.dispatch_of (spec.words rest.now) }
 {
     match next_word(rest) {
@@ -111,7 +111,7 @@ fn dispatch(rest: &str) -> Option<Command>
 }
 
 /// What a line says, or nothing where it is no line of a script.
-pub(crate) fn command(alloc: Global, line: &str) -> Result<Option<Command>, NoMemory>
+pub(crate) fn command<'a>(alloc: Global, line: &'a str) -> Result<Option<Command<'a>>, NoMemory>
     ensures { IfOk result (λ command. command ≡ spec.command_of (spec.words line.now)) }
 {
     let Some((word, rest)) = next_word(line) else {

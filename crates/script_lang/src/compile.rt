@@ -73,25 +73,26 @@ fn register_at(indexes: &[Index], board: u32, name: &str) -> Option<Register>
 
 /// What is asked of a register.
 fn asked(
+    alloc: Global,
     boards: &[BoardSpec],
     indexes: &[Index],
     line: u32,
     call: Call,
-) -> Result<Option<Step>, ScriptWhy>
+) -> Result<Result<Option<Step>, ScriptWhy>, NoMemory>
     requires few { length boards.now ≤ MAX_BOARDS }
     requires taken { takes call.verb call.numbers ≡ true }
-    ensures step { result ≡ op.asked boards.now indexes.now line call }
-    ensures packed { IfOk result (λ step. IfSome step CanBePacked) }
+    ensures step { IfOk result (λ step. step ≡ op.asked boards.now indexes.now line call.entry) }
+    ensures packed { IfOk result (λ step. IfOk step (λ step. IfSome step CanBePacked)) }
 {
-    let Some(board) = board_at(boards, call.board.as_slice()) else {
-        return Err(ScriptWhy::UnknownBoard);
+    let Some(board) = board_at(boards, call.board.as_str().as_bytes()) else {
+        return Ok(Err(ScriptWhy::UnknownBoard));
     };
     let Some(register) = register_at(indexes, board, call.name.as_str()) else {
-        return Err(ScriptWhy::UnknownName);
+        return Ok(Err(ScriptWhy::UnknownName));
     };
-    match use_of(line, board, call, &register) {
-        Ok(op) => Ok(Some(Step::Do(op))),
-        Err(why) => Err(why),
+    match use_of(alloc, line, board, call, &register)? {
+        Ok(op) => Ok(Ok(Some(Step::Do(op)))),
+        Err(why) => Ok(Err(why)),
     }
 }
 
@@ -107,12 +108,13 @@ fn meaning(
     ensures meaning { IfOk result (λ meaning. meaning ≡ op.meaning boards.now indexes.now line text.now) }
     ensures packed { IfOk result (λ meaning. IfOk meaning (λ step. IfSome step CanBePacked)) }
 {
-    Ok(match command(alloc, text)? {
-        None => Err(ScriptWhy::BadLine),
-        Some(Command::Nothing) => Ok(None),
-        Some(Command::Dispatch) => Ok(Some(Step::Dispatch)),
-        Some(Command::Ask(call)) => asked(boards, indexes, line, call),
-    })
+    match command(alloc, text) {
+        Ok(None) => Ok(Err(ScriptWhy::BadLine)),
+        Ok(Some(Command::Nothing)) => Ok(Ok(None)),
+        Ok(Some(Command::Dispatch)) => Ok(Ok(Some(Step::Dispatch))),
+        Ok(Some(Command::Ask(call))) => asked(alloc, boards, indexes, line, call),
+        Err(NoMemory) => Err(NoMemory),
+    }
 }
 
 /// The step of a line, and the tally with it.
@@ -166,7 +168,7 @@ fn script_steps(
     ensures packed { IfOk result (λ done. AllByRecursion CanBePacked done.0) }
     ensures stopped { IfErr result (StopsAs (run_from boards.now indexes.now client tally 1 lines.now)) }
 {
-    let mut steps = Vec::new(alloc);
+    let mut steps = Vec::with_capacity(alloc, lines.len())?;
     let mut so_far = tally;
     for (i, line) in lines.iter().enumerate() {
         let number = i as u32 + 1;

@@ -10,10 +10,11 @@ ghost use Rattle.script_lang.specs.Operations as spec;
 use crate::call::Call;
 use crate::{ScriptWhy, Verb};
 use address_table::{Mode, Permission};
-use ipb_base::Words;
+use ipb_base::{NoMemory, Text, Words};
 use masked_fields::terms;
 use node_tree::Register;
 use script_steps::RegOp;
+use std::alloc::Global;
 use transaction_codec::Op;
 
 fn may_read(permission: Permission) -> bool
@@ -212,18 +213,19 @@ fn op_on(register: &Register, verb: Verb, numbers: Words) -> Op
 /// What is asked of a register, by the line of this number.
 #[tactic(auto, using(crate::proofs::MaskedValues::kept_field, crate::proofs::Packable::cut_kept))]
 pub(crate) fn use_of(
+    alloc: Global,
     line: u32,
     board: u32,
     call: Call,
     register: &Register,
-) -> Result<RegOp, ScriptWhy>
+) -> Result<Result<RegOp, ScriptWhy>, NoMemory>
     requires register { IsRegister register.now }
     requires taken { takes call.verb call.numbers ≡ true }
-    ensures used { result ≡ spec.use_of line board call register.now }
-    ensures packed { IfOk result (λ op. CanBeCut op.op) }
+    ensures used { IfOk result (λ used. used ≡ spec.use_of line board call.entry register.now) }
+    ensures packed { IfOk result (λ used. IfOk used (λ op. CanBeCut op.op)) }
 {
     if let Some(why) = broken_rule(register, &call) {
-        return Err(why);
+        return Ok(Err(why));
     }
     let Call {
         verb,
@@ -231,12 +233,12 @@ pub(crate) fn use_of(
         name,
         numbers,
     } = call;
-    Ok(RegOp {
+    Ok(Ok(RegOp {
         line,
         verb,
         board,
-        name,
+        name: Text::copy_of(alloc, name.as_str())?,
         mask: register.mask,
         op: op_on(register, verb, numbers),
-    })
+    }))
 }

@@ -6,6 +6,7 @@ use Rattle.script_lang.proofs.compile.meaning.Goals as goal
 
 pub asked-requires-clause-taken : goal.asked-requires-clause-taken
 asked-requires-clause-taken c =
-    let said : Some (Ask c.in-Some-Ask.call) ≡ command_of (words c.args.text.now) =
-    sym (ap Some c.in-Some-Ask.field-0-is) ∙ (sym c.in-Some-Ask.is ∙ c.in_ok-command.ensures) in
-    takes_asked (words c.args.text.now) c.in-Some-Ask.call said
+    let at = c.in-Ok-Some-Ask in
+    let said : Some (Ask at.call) ≡ command_of (words c.args.text.now) =
+    sym (ap Some at.field-0-0-is) ∙ (sym at.field-0-is ∙ at.ensures) in
+    takes_asked (words c.args.text.now) at.call said
