@@ -1,7 +1,7 @@
 //! `audit` on a document and transcripts of it, what is said of those that do not fit, and inputs that it refuses.
 
-use crate::fixtures::{FIRST, FIRST_TRANSCRIPT, calm, over_links, wide_sink};
-use crate::same::{same, same_items};
+use crate::fixtures::{FIRST, FIRST_TRANSCRIPT, answer, answers};
+use crate::same::same;
 use audit_command::read_for_audit;
 use ipb_base::NoMemory;
 use ipbus_program::{DONE, NO_MEMORY, NOT_ALL_DONE, REFUSED};
@@ -62,18 +62,6 @@ const CASES: [Case; 5] = [
     },
 ];
 
-/// The status and the text of `audit` on an input.
-fn audit<T: Threads + Wait + Sync>(
-    rt: &T,
-    alloc: Global,
-    input: &str,
-) -> Result<(u8, Vec<u8>), NoMemory> {
-    let mut input = calm(alloc, input)?;
-    let mut out = wide_sink(alloc)?;
-    let status = over_links(rt, alloc, "audit", &mut input, &mut out);
-    Ok((status, out.bytes().to_vec(alloc)?))
-}
-
 /// A document behind the line that tells its length, and a transcript.
 fn input_of(alloc: Global, document: &str, transcript: &str) -> Result<String, NoMemory> {
     let length = document.len();
@@ -84,9 +72,14 @@ fn input_of(alloc: Global, document: &str, transcript: &str) -> Result<String, N
 fn a_transcript_is_audited(rt: HostRuntime) -> Result<(), Fail> {
     for case in CASES {
         let input = input_of(rt.alloc(), FIRST, case.transcript)?;
-        let (status, text) = audit(&rt, rt.alloc(), input.as_str())?;
-        same(&rt, &status, &case.status);
-        same_items(&rt, text.as_slice(), case.line.as_bytes());
+        answers(
+            &rt,
+            rt.alloc(),
+            "audit",
+            input.as_str(),
+            case.status,
+            case.line,
+        )?;
     }
     Ok(())
 }
@@ -149,7 +142,7 @@ fn audit_case<T: Threads + Wait + Sync>(
     case: &Case,
 ) -> Result<(u8, bool), NoMemory> {
     let input = input_of(alloc, FIRST, case.transcript)?;
-    let (status, text) = audit(rt, alloc, input.as_str())?;
+    let (status, text) = answer(rt, alloc, "audit", input.as_bytes())?;
     let wanted = if status == case.status { case.line } else { "" };
     Ok((status, text.as_slice() == wanted.as_bytes()))
 }
@@ -181,11 +174,15 @@ fn inputs_without_a_document_are_refused(rt: HostRuntime) -> Result<(), Fail> {
         ("0\n", "refused: document - NoBoards\n"),
         ("1\n=", "refused: document - NotToml\n"),
     ] {
-        let (status, text) = audit(&rt, rt.alloc(), input)?;
-        same(&rt, &status, &REFUSED);
-        same_items(&rt, text.as_slice(), line.as_bytes());
+        answers(&rt, rt.alloc(), "audit", input, REFUSED, line)?;
     }
     Ok(())
+}
+
+/// A document of these two boards behind the line that tells its length.
+fn input_of_two(alloc: Global, first: &str, second: &str) -> Result<String, NoMemory> {
+    let document = format!(in alloc; "board = [{first}, {second}]\ntables.t = []\n")?;
+    input_of(alloc, document.as_str(), "")
 }
 
 /// Of each board its ranges are judged before its kind, and a board before those behind it.
@@ -200,11 +197,8 @@ fn boards_on_a_network_are_refused(rt: HostRuntime) -> Result<(), Fail> {
         (away, twice, "refused: board away NotSim\n"),
         (twice, away, "refused: board twice Overlap\n"),
     ] {
-        let document = format!(in rt.alloc(); "board = [{first}, {second}]\ntables.t = []\n")?;
-        let input = input_of(rt.alloc(), document.as_str(), "")?;
-        let (status, text) = audit(&rt, rt.alloc(), input.as_str())?;
-        same(&rt, &status, &REFUSED);
-        same_items(&rt, text.as_slice(), line.as_bytes());
+        let input = input_of_two(rt.alloc(), first, second)?;
+        answers(&rt, rt.alloc(), "audit", input.as_str(), REFUSED, line)?;
     }
     Ok(())
 }

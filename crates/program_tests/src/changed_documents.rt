@@ -1,9 +1,8 @@
 //! `run` on a document with something changed: the line of the first rule that it breaks.
 
-use crate::fixtures::{DOCUMENT, over_links, wide_sink};
+use crate::fixtures::{DOCUMENT, answer};
 use crate::same::same;
 use ipb_base::NoMemory;
-use ipb_outside::CalmSource;
 use ipbus_program::REFUSED;
 use std::alloc::Global;
 use std::marker::Sync;
@@ -94,18 +93,6 @@ pub(crate) fn changed(
     Ok(document)
 }
 
-/// The status of `run` on these bytes, and its text.
-fn run<T: Threads + Wait + Sync>(
-    rt: &T,
-    alloc: Global,
-    document: Vec<u8>,
-) -> Result<(u8, Vec<u8>), NoMemory> {
-    let mut input = CalmSource::new(document);
-    let mut out = wide_sink(alloc)?;
-    let status = over_links(rt, alloc, "run", &mut input, &mut out);
-    Ok((status, out.bytes().to_vec(alloc)?))
-}
-
 /// The line of a refusal.
 fn line_of(alloc: Global, told: &str) -> Result<String, NoMemory> {
     Ok(format!(in alloc; "refused: {told}\n")?)
@@ -118,7 +105,7 @@ fn first_not_refused<'a, T: Threads + Wait + Sync>(
     changes: &[(&[u8], &str, &str, &'a str)],
 ) -> Result<Option<&'a str>, NoMemory> {
     for (front, old, new, told) in changes {
-        let (status, text) = run(rt, alloc, changed(alloc, front, old, new)?)?;
+        let (status, text) = answer(rt, alloc, "run", &changed(alloc, front, old, new)?)?;
         if status != REFUSED || text.as_slice() != line_of(alloc, told)?.as_bytes() {
             return Ok(Some(told));
         }

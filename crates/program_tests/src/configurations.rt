@@ -1,8 +1,8 @@
 //! `save` and `apply` on a document, with a link that works, one that fails, and where memory runs out.
 
-use crate::fixtures::{DOCUMENT, calm, over, over_links, shut_door, wide_sink};
-use crate::same::{same, same_items};
-use config_input::{ConfigRefusal, ConfigUnread, read_for_apply, read_for_save};
+use crate::fixtures::{DOCUMENT, answers, calm, over, shut_door, wide_sink};
+use crate::same::same;
+use config_input::{ConfigRefusal, ConfigUnread, read_for_apply};
 use config_store::StoreWhy;
 use ipb_base::NoMemory;
 use ipbus_program::{DONE, NO_MEMORY, NOT_ALL_DONE, REFUSED};
@@ -34,65 +34,49 @@ fn with(alloc: Global, policy: &str, state: &str) -> Result<String, NoMemory> {
     Ok(format!(in alloc; "{policy}{DOCUMENT}{state}")?)
 }
 
-/// The status of a command on a document, and its text.
-fn answer<T: Threads + Wait + Sync>(
-    rt: &T,
-    alloc: Global,
-    words: &str,
-    document: &str,
-) -> Result<(u8, Vec<u8>), NoMemory> {
-    let mut input = calm(alloc, document)?;
-    let mut out = wide_sink(alloc)?;
-    let status = over_links(rt, alloc, words, &mut input, &mut out);
-    Ok((status, out.bytes().to_vec(alloc)?))
-}
-
+/// A session that is saved, and one with a state, which is none to save; a value that is applied, one that a policy
+/// denies, and one for a register that is not kept.
 #[test]
-fn a_configuration_is_saved(rt: HostRuntime) -> Result<(), Fail> {
-    let (status, text) = answer(&rt, rt.alloc(), "save", DOCUMENT)?;
-    same(&rt, &status, &DONE);
-    same_items(&rt, text.as_slice(), SAVED.as_bytes());
+fn configurations_are_saved_and_applied(rt: HostRuntime) -> Result<(), Fail> {
+    let with_a_state = "refused: document state Shape\n";
+    let not_kept = "refused: state b0 a NotKept\n";
+    for (line, policy, state, status, text) in [
+        ("save", "", "", DONE, SAVED),
+        ("save", "", VALUE, REFUSED, with_a_state),
+        ("apply", "", VALUE, DONE, APPLIED),
+        ("apply", POLICY, VALUE, NOT_ALL_DONE, SAVED),
+        ("apply", "", NOT_KEPT, REFUSED, not_kept),
+    ] {
+        let document = with(rt.alloc(), policy, state)?;
+        answers(&rt, rt.alloc(), line, document.as_str(), status, text)?;
+    }
     Ok(())
 }
 
-#[test]
-fn values_are_applied(rt: HostRuntime) -> Result<(), Fail> {
-    let document = with(rt.alloc(), "", VALUE)?;
-    let (status, text) = answer(&rt, rt.alloc(), "apply", document.as_str())?;
-    same(&rt, &status, &DONE);
-    same_items(&rt, text.as_slice(), APPLIED.as_bytes());
-    Ok(())
+/// The one line of these.
+fn only(notes: &[String]) -> Result<String, Fail> {
+    match notes {
+        [note] => Ok(note.clone()?),
+        _ => Err(Fail::from("not one note")),
+    }
 }
 
 #[test]
-fn a_denied_write_is_not_done(rt: HostRuntime) -> Result<(), Fail> {
+fn a_denied_write_is_told(rt: HostRuntime) -> Result<(), Fail> {
     let document = with(rt.alloc(), POLICY, VALUE)?;
-    let (status, text) = answer(&rt, rt.alloc(), "apply", document.as_str())?;
-    same(&rt, &status, &NOT_ALL_DONE);
-    same_items(&rt, text.as_slice(), SAVED.as_bytes());
     let notes = denial_notes(rt.alloc(), &Command::Apply, document.as_bytes())?;
-    let [note] = notes.as_slice() else {
-        return Err("not one note")?;
-    };
     let wanted = "policy rule 1 denied 1 operation: deny w b0:a.top";
-    same(&rt, &note.as_str(), &wanted);
+    same(&rt, &only(&notes)?.as_str(), &wanted);
     Ok(())
 }
 
 #[test]
-fn a_value_is_refused(rt: HostRuntime) -> Result<(), Fail> {
+fn a_refused_value_is_told(rt: HostRuntime) -> Result<(), Fail> {
     let document = with(rt.alloc(), "", NOT_KEPT)?;
-    let (status, text) = answer(&rt, rt.alloc(), "apply", document.as_str())?;
-    same(&rt, &status, &REFUSED);
-    let line = b"refused: state b0 a NotKept\n".as_slice();
-    same_items(&rt, text.as_slice(), line);
     let notes = refusal_notes(rt.alloc(), &Command::Apply, document.as_bytes())?;
-    let [note] = notes.as_slice() else {
-        return Err("not one note")?;
-    };
     let wanted =
         "board b0, register a: the register is not one word that is read and written, or others stand below its name";
-    same(&rt, &note.as_str(), &wanted);
+    same(&rt, &only(&notes)?.as_str(), &wanted);
     Ok(())
 }
 
@@ -122,17 +106,6 @@ fn states_are_refused_again(rt: HostRuntime) -> Result<(), Fail> {
             );
         }
     }
-    Ok(())
-}
-
-#[test]
-fn a_configuration_is_read(rt: HostRuntime) -> Result<(), Fail> {
-    let read = read_for_save(rt.alloc(), DOCUMENT.as_bytes());
-    assert!(rt; read.is_ok_and(|read| read.steps.len() == 1));
-    let document = with(rt.alloc(), "", VALUE)?;
-    let read = read_for_apply(rt.alloc(), document.as_bytes());
-    assert!(rt; read.is_ok_and(|read| read.steps.len() == 1));
-    assert!(rt; read_for_save(rt.alloc(), document.as_bytes()).is_err());
     Ok(())
 }
 

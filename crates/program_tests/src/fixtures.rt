@@ -3,5 +3,7 @@
 mod calls;
 mod documents;
 
-pub(crate) use calls::{calm, over, over_links, run_over, shut_door, wide_sink, words_of};
+pub(crate) use calls::{
+    answer, answers, calm, over, over_links, run_over, shut_door, wide_sink, words_of,
+};
 pub(crate) use documents::{DOCUMENT, DOCUMENT_TRANSCRIPT, FIRST, FIRST_TRANSCRIPT};

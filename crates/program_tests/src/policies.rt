@@ -1,16 +1,12 @@
-//! `run`, `check` and `serve` on a document with an access policy.
+//! `run` and `serve` on a document with an access policy.
 
-use crate::fixtures::{DOCUMENT, calm, over_links, wide_sink};
-use crate::same::{same, same_items};
+use crate::fixtures::{DOCUMENT, answers};
+use crate::same::same;
 use ipb_base::NoMemory;
 use ipbus_program::{NOT_ALL_DONE, REFUSED};
 use operator_notes::{Command, denial_notes};
-use session_input::{Refusal, Unread, read_for_run, read_for_serve};
 use std::alloc::Global;
-use std::marker::Sync;
-use std::sync::Wait;
 use std::test::Fail;
-use std::thread::Threads;
 
 /// The register may be read and not written; all else may be done.
 const POLICY: &str = "policy = [\n\
@@ -34,46 +30,16 @@ fn guarded(alloc: Global) -> Result<String, NoMemory> {
     Ok(document)
 }
 
-/// The status of a command on that document, and its text.
-fn answer<T: Threads + Wait + Sync>(
-    rt: &T,
-    alloc: Global,
-    words: &str,
-) -> Result<(u8, Vec<u8>), NoMemory> {
-    let mut input = calm(alloc, guarded(alloc)?.as_str())?;
-    let mut out = wide_sink(alloc)?;
-    let status = over_links(rt, alloc, words, &mut input, &mut out);
-    Ok((status, out.bytes().to_vec(alloc)?))
-}
-
+/// An operation that is denied is sent nowhere, and such a document is not served.
 #[test]
-fn a_denied_operation_is_sent_nowhere(rt: HostRuntime) -> Result<(), Fail> {
-    let (status, text) = answer(&rt, rt.alloc(), "run")?;
-    same(&rt, &status, &NOT_ALL_DONE);
-    same_items(&rt, text.as_slice(), TRANSCRIPT.as_bytes());
-    Ok(())
-}
-
-#[test]
-fn a_document_with_a_policy_is_not_served(rt: HostRuntime) -> Result<(), Fail> {
-    let (status, text) = answer(&rt, rt.alloc(), "serve 5000 1")?;
-    same(&rt, &status, &REFUSED);
-    same_items(
-        &rt,
-        text.as_slice(),
-        b"refused: policy - NoServe\n".as_slice(),
-    );
-    Ok(())
-}
-
-#[test]
-fn a_document_with_a_policy_is_read(rt: HostRuntime) -> Result<(), Fail> {
+fn a_policy_binds_scripts_and_is_not_served(rt: HostRuntime) -> Result<(), Fail> {
     let document = guarded(rt.alloc())?;
-    let read = read_for_run(rt.alloc(), document.as_bytes());
-    assert!(rt; read.is_ok_and(|read| read.steps.len() == 1));
-    let unread = read_for_serve(rt.alloc(), document.as_bytes());
-    assert!(rt; matches!(unread, Err(Unread::Refused(Refusal::NoServe))));
-    assert!(rt; read_for_serve(rt.alloc(), DOCUMENT.as_bytes()).is_ok());
+    for (line, status, text) in [
+        ("run", NOT_ALL_DONE, TRANSCRIPT),
+        ("serve 5000 1", REFUSED, "refused: policy - NoServe\n"),
+    ] {
+        answers(&rt, rt.alloc(), line, document.as_str(), status, text)?;
+    }
     Ok(())
 }
 

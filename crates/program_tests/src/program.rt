@@ -2,7 +2,9 @@
 
 ghost use Rattle.std.specs.Prelude.{◌≤◌};
 
-use crate::fixtures::{FIRST, FIRST_TRANSCRIPT, calm, over, over_links, shut_door, wide_sink};
+use crate::fixtures::{
+    FIRST, FIRST_TRANSCRIPT, answer, answers, calm, over, over_links, shut_door, wide_sink,
+};
 use crate::same::{same, same_items};
 use command_words::USAGE_LINE;
 use ipb_base::NoMemory;
@@ -32,19 +34,6 @@ fn first_in_bytes(alloc: Global, fail: u64) -> Result<MemSource, AllocError> {
     Ok(MemSource::new(bytes, 1, [fail].to_vec(alloc)?))
 }
 
-/// The status and the text that the words of a line get for a document, or want of memory where they are set up.
-fn answer<T: Threads + Wait + Sync>(
-    rt: &T,
-    alloc: Global,
-    line: &str,
-    document: &str,
-) -> Result<(u8, Vec<u8>), NoMemory> {
-    let mut input = calm(alloc, document)?;
-    let mut out = wide_sink(alloc)?;
-    let status = over_links(rt, alloc, line, &mut input, &mut out);
-    Ok((status, Vec::from_slice(alloc, out.bytes())?))
-}
-
 /// Of a load each operation is answered the number of those before it.
 #[test]
 fn each_command_is_done(rt: HostRuntime) -> Result<(), Fail> {
@@ -57,9 +46,7 @@ fn each_command_is_done(rt: HostRuntime) -> Result<(), Fail> {
             "load 5\ndone 5\nwas total 10\nplaces 5\n",
         ),
     ] {
-        let (status, text) = answer(&rt, rt.alloc(), line, FIRST)?;
-        same(&rt, &status, &DONE);
-        same_items(&rt, &text, wanted.as_bytes());
+        answers(&rt, rt.alloc(), line, FIRST, DONE, wanted)?;
     }
     Ok(())
 }
@@ -67,9 +54,7 @@ fn each_command_is_done(rt: HostRuntime) -> Result<(), Fail> {
 #[test]
 fn words_that_are_no_command(rt: HostRuntime) -> Result<(), Fail> {
     for line in ["", "run x", "--help", "check -main", "load 0", "serve 0 1"] {
-        let (status, text) = answer(&rt, rt.alloc(), line, FIRST)?;
-        same(&rt, &status, &USAGE);
-        same_items(&rt, &text, USAGE_LINE.as_bytes());
+        answers(&rt, rt.alloc(), line, FIRST, USAGE, USAGE_LINE)?;
     }
     Ok(())
 }
@@ -92,9 +77,7 @@ fn documents_that_cannot_be_run(rt: HostRuntime) -> Result<(), Fail> {
         ),
         ("run", OVER_UDP, RACK_FAULT, ""),
     ] {
-        let (status, given) = answer(&rt, rt.alloc(), line, document)?;
-        same(&rt, &status, &wanted);
-        same_items(&rt, &given, text.as_bytes());
+        answers(&rt, rt.alloc(), line, document, wanted, text)?;
     }
     Ok(())
 }
@@ -103,7 +86,7 @@ fn documents_that_cannot_be_run(rt: HostRuntime) -> Result<(), Fail> {
 /// makes the Nth one fail.
 #[test]
 fn first_session_with_any_memory(rt: HostRuntime) -> Result<(), Fail> {
-    if let Ok((status, text)) = answer(&rt, rt.alloc(), "run", FIRST) {
+    if let Ok((status, text)) = answer(&rt, rt.alloc(), "run", FIRST.as_bytes()) {
         let wanted = if status == NO_MEMORY {
             ""
         } else {

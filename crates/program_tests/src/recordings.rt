@@ -8,6 +8,7 @@ use ipbus_program::{DONE, NO_MEMORY, NOT_ALL_DONE, RACK_FAULT, REFUSED};
 use lossy_network::SimRack;
 use std::alloc::Global;
 use std::marker::Sync;
+use std::process::Abort;
 use std::sync::Wait;
 use std::test::Fail;
 use std::thread::Threads;
@@ -34,24 +35,33 @@ fn record<T: Threads + Wait + Sync>(
     Ok((status, out.bytes().to_vec(alloc)?, is_back))
 }
 
-#[test]
-fn one_read_is_recorded(rt: HostRuntime) -> Result<(), Fail> {
-    let (status, text, is_back) = record(&rt, rt.alloc(), DOCUMENT, &[], &[])?;
-    same(&rt, &status, &DONE);
-    assert!(rt; is_back);
-    same_items(&rt, text.as_slice(), ONE_READ.as_bytes());
+/// Stops where `record` on a document over such a rack gets another status or another text, or not each link came back.
+fn records<T: Threads + Wait + Sync + Abort>(
+    rt: &T,
+    alloc: Global,
+    document: &str,
+    fail_makes: &[u64],
+    fail_calls: &[u64],
+    status: u8,
+    text: &str,
+) -> Result<(), NoMemory> {
+    let (given, written, is_back) = record(rt, alloc, document, fail_makes, fail_calls)?;
+    same(rt, &(given, is_back), &(status, true));
+    same_items(rt, &written, text.as_bytes());
     Ok(())
 }
 
+/// One read, over a link that works, one whose first call fails, and one that cannot be made.
 #[test]
-fn a_link_that_fails_is_recorded(rt: HostRuntime) -> Result<(), Fail> {
-    let (status, text, is_back) = record(&rt, rt.alloc(), DOCUMENT, &[], &[1])?;
-    same(&rt, &status, &NOT_ALL_DONE);
-    assert!(rt; is_back);
-    same_items(&rt, text.as_slice(), b"first 1\n".as_slice());
-    let (status, text, is_back) = record(&rt, rt.alloc(), DOCUMENT, &[1], &[])?;
-    same(&rt, &status, &RACK_FAULT);
-    assert!(rt; is_back && text.is_empty());
+fn what_comes_of_a_read_is_recorded(rt: HostRuntime) -> Result<(), Fail> {
+    let rows: [(&[u64], &[u64], u8, &str); 3] = [
+        (&[], &[], DONE, ONE_READ),
+        (&[], &[1], NOT_ALL_DONE, "first 1\n"),
+        (&[1], &[], RACK_FAULT, ""),
+    ];
+    for (makes, calls, status, text) in rows {
+        records(&rt, rt.alloc(), DOCUMENT, makes, calls, status, text)?;
+    }
     Ok(())
 }
 
@@ -59,11 +69,8 @@ fn a_link_that_fails_is_recorded(rt: HostRuntime) -> Result<(), Fail> {
 fn two_boards_are_not_recorded(rt: HostRuntime) -> Result<(), Fail> {
     let other = "[[board]]\nname = 'b1'\ntable = 'main'\nranges = [{ base = 0, size = 1 }]\n";
     let document = format!(in rt.alloc(); "{DOCUMENT}{other}")?;
-    let (status, text, is_back) = record(&rt, rt.alloc(), document.as_str(), &[], &[])?;
-    same(&rt, &status, &REFUSED);
-    assert!(rt; is_back);
-    let line = b"refused: document - OneBoard\n".as_slice();
-    same_items(&rt, text.as_slice(), line);
+    let line = "refused: document - OneBoard\n";
+    records(&rt, rt.alloc(), document.as_str(), &[], &[], REFUSED, line)?;
     Ok(())
 }
 
