@@ -1,8 +1,9 @@
 -- Connections at three boards, worked by hand: one that is live, one that was silent, one whose link was down. Profile.
-use Rattle.std.specs.Prelude.{ℕ, List, [], ◌∷◌, None, replicate}
+use Rattle.std.specs.Prelude.{ℕ, List, [], ◌∷◌, Some, None, replicate}
 use Rattle.world_model.specs.Settings.{Limits}
 use Rattle.lane_record.specs.declared.outcome.Outcome.TheVariants.{TimedOut}
 use Rattle.board_history.specs.Examples.{read_body, reads_at}
+use Rattle.lane_history.specs.Examples.{status_datagram}
 use Rattle.lane_history.specs.Links.{LinkReport}
 use Rattle.hub_lane.specs.declared.answers.PlanRefusal.TheVariants.{TooLong}
 use Rattle.hub_session.specs.declared.got.Got.{Got}
@@ -67,5 +68,16 @@ quiet_link quiets = record {
   gots = 0;
   held = 0;
   receives = replicate quiets None;
+  telling = None;
+}
+
+-- one whose board told its status at once, and that had so many quiet receives behind it
+abbrev pub greeted_link : ℕ → LinkReport
+greeted_link quiets = record {
+  faults = 0;
+  quiets = quiets;
+  gots = 1;
+  held = 0;
+  receives = Some status_datagram ∷ replicate quiets None;
   telling = None;
 }

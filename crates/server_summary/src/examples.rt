@@ -12,9 +12,9 @@ ghost use Rattle.hub_session.specs.declared.got.Got.TheVariants.{NotAsked};
 ghost use Rattle.hub_session.specs.Codes.{replied_code, unsent_code, link_lost_code};
 ghost use Rattle.hub_session.specs.Examples.{three_boards};
 ghost use Rattle.server_summary.specs.Answers.{answers_by};
-ghost use Rattle.server_summary.specs.Examples.{first_connection, given_up, only, quiet_link, read_at, read_of};
-ghost use Rattle.server_summary.specs.Examples.{refused, second_connection, turned_round, two_connections, two_rounds};
-ghost use Rattle.server_summary.specs.Examples.{write_body};
+ghost use Rattle.server_summary.specs.Examples.{first_connection, given_up, greeted_link, only, quiet_link, read_at};
+ghost use Rattle.server_summary.specs.Examples.{read_of, refused, second_connection, turned_round, two_connections};
+ghost use Rattle.server_summary.specs.Examples.{two_rounds, write_body};
 ghost use Rattle.server_summary.specs.Frames.{FramesGivenUpOnlyAfterRounds, HasUnaskedCodes, IsAnsweredAsCarried};
 ghost use Rattle.server_summary.specs.Frames.{IsAnsweredRightly};
 ghost use Rattle.server_summary.specs.Frames.{IsLostOnlyWithLink, NoneWithCode, PlacesOfFramesDiffer};
@@ -52,6 +52,12 @@ pub fn two_connections_at_three_boards()
     ensures down { answers_by link_lost_code 2 three_boards two_connections ≡ 1 }
 {}
 
+/// A frame was given up after the two rounds of the settings and one more, each with a quiet receive behind the greeting.
+#[tactic(auto, unfolding(packet_codec::specs::Reading::packet_of, packet_codec::specs::Reading::start_of, world_model::specs::Messages::to_hub))]
+pub fn a_frame_is_given_up_after_three_quiet_receives()
+    ensures { FramesGivenUpOnlyAfterRounds two_rounds (greeted_link 3) 0 three_boards (only given_up) }
+{}
+
 /// The board executed the read of a register that opens with 7, and the frame was answered by this word.
 pub fn a_read_is_answered_rightly()
     ensures { IsAnsweredRightly seven (read_body ∷ []) three_boards 0 (read_at 1 7) }
@@ -69,7 +75,7 @@ pub fn wrong_answers_are_refused()
     ensures another_word { IsAnsweredRightly seven (read_body ∷ []) three_boards 0 (read_at 1 8) → ⊥ }
     ensures another_place { IsAnsweredRightly seven (write_body ∷ read_body ∷ []) three_boards 0 (read_at 1 7) → ⊥ }
     ensures never_executed { IsAnsweredRightly seven [] three_boards 0 (read_at 1 7) → ⊥ }
-    ensures too_soon { FramesGivenUpOnlyAfterRounds two_rounds (quiet_link 2) 0 three_boards (only given_up) → ⊥ }
+    ensures too_soon { FramesGivenUpOnlyAfterRounds two_rounds (greeted_link 2) 0 three_boards (only given_up) → ⊥ }
     ensures in_the_greeting { FramesGivenUpOnlyAfterRounds two_rounds (quiet_link 3) 0 three_boards (only given_up) → ⊥ }
     ensures no_datagram { IsAnsweredAsCarried (quiet_link 3) three_boards 0 (read_at 1 7) → ⊥ }
     ensures no_fault { IsLostOnlyWithLink (quiet_link 2) 2 three_boards (only (read_of 2 NotAsked)) → ⊥ }
