@@ -71,8 +71,8 @@ pub record IsTrueRun (settings : Limits) (opening : CellMap) (run : BoardRun) (h
   -- the hub gave up only where datagrams were held in each round
   pub held' : GaveUpOnlyAfter settings.window settings.rounds held (dispatches_by_client run)
 
--- Each give-up cost so much of what was paid, and ended at most `window` bodies that were sent. The outcomes stand client
--- by client and dispatch by dispatch. `GaveUpOnlyAfter` is the same of a count that stands still at its end.
+-- Each give-up cost so much of what was paid, and ended at most `window` bodies that were sent. The outcomes stand
+-- client by client and dispatch by dispatch. `GaveUpOnlyAfter` is the same of a count that stands still at its end.
 pub record PaidForGiveUps (window cost paid : ℕ) (outcomes : List (List (List Outcome))) : Type 0 where
   -- bodies are timed out only at that cost
   pub bodies : cost * time_outs outcomes ≤ window * paid
@@ -91,7 +91,7 @@ pub record HoldsOverAnyLink (settings : Limits) (spec : BoardSpec) (payload : �
   pub script_order : KeepsScripts (bodies_by_client run) (outcomes_by_client run)
   -- the hub gave up only after the rounds of the settings, each of which ended with a quiet receive
   pub rounds : GaveUpOnlyAfter settings.window (settings.rounds + 1) link.quiets (dispatches_by_client run)
-  -- and with one behind the greeting
+  -- each of them behind the greeting
   pub rounds_since : PaidForGiveUps settings.window (settings.rounds + 1) (quiets_since_status link)
       (dispatches_by_client run)
   -- each reply came in a datagram of its own, behind the one that answered the greeting
@@ -124,9 +124,9 @@ pub record ShowsLates (run : BoardRun) (link : LinkReport) : Type 0 where
 
 -- ---- the others
 
--- A board is silent only where no datagram told its status, and each round of its greeting ended with a quiet receive or
--- 64 datagrams of no use. Over a link that tells each ended with a quiet receive, datagrams were held in each, and the
--- board executed nothing.
+-- A board is silent only where no datagram told its status, and each round of its greeting ended with a quiet receive
+-- or 64 datagrams of no use. Over a link that tells each ended with a quiet receive, datagrams were held in each, and
+-- the board executed nothing.
 pub record IsSilentRun (settings : Limits) (link : LinkReport) : Type 0 where
   pub untold : first_status link.receives ≡ None
   pub waited : most_others * settings.rounds ≤ most_others * link.quiets + link.gots

@@ -135,8 +135,8 @@ pub record AreAnsweredRightly (settings : Limits) (boards : List BoardState) (co
   -- reply frame has the words of a bus with a single thread there
   pub replied : IfSome (board_there link.telling) (λ board. OfEachWithCode replied_code position boards
       (IsAnsweredRightly (opening_of spec.link) (executed board) boards position) conversations)
-  -- whether the link tells or not, each frame that is answered by code 0 has the words of a control packet that the link
-  -- brought behind the greeting, with the identifier of its place
+  -- whether the link tells or not, each frame that is answered by code 0 has the words of a control packet that the
+  -- link brought behind the greeting, with the identifier of its place
   pub carried : OfEachWithCode replied_code position boards (IsAnsweredAsCarried link boards position) conversations
   -- where the board is live and so many frames of a connection are answered by code 1 or 2, the link had a quiet
   -- receive behind the greeting in each of the rounds of each and one more, and where it tells it held a datagram in

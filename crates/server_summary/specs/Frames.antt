@@ -101,9 +101,9 @@ pub record IsAnsweredRightly (opening : CellMap) (done : List (List ℕ)) (board
     packet = packet_bytes (reply_packet request.order request.id words);
   }
 
--- Whether the link tells or not, the frame was answered with what the link brought. It has a place, and the link brought
--- the reply to the packet of this place behind the greeting: a control packet with its identifier. The packet of the
--- reply frame has the words of that one, and the byte order and the identifier of the request.
+-- Whether the link tells or not, the frame was answered with what the link brought. It has a place, and the link
+-- brought the reply to the packet of this place behind the greeting: a control packet with its identifier. The packet
+-- of the reply frame has the words of that one, and the byte order and the identifier of the request.
 pub record IsAnsweredAsCarried (link : LinkReport) (boards : List BoardState) (position : ℕ) (e : Exchange) : Type 0
   where
     pub place : ℕ

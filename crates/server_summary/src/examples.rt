@@ -65,9 +65,9 @@ pub fn a_read_is_answered_rightly()
 
 /// No two frames for a board are shown one place, and none an earlier place than the frame before it. No frame is
 /// answered by a reply that the board did not give, or that no datagram brought, or to a body that it did not execute,
-/// or executed elsewhere. None is given up before its rounds, or for quiet receives of the greeting, lost where the link
-/// did not fail, answered as if the document had no such board, or refused as too long where it fits. And a silent board
-/// is found to answer by code 2.
+/// or executed elsewhere. None is given up before its rounds, or for quiet receives of the greeting, lost where the
+/// link did not fail, answered as if the document had no such board, or refused as too long where it fits. And a silent
+/// board is found to answer by code 2.
 #[tactic(auto, unfolding(packet_codec::specs::Reading::packet_of, packet_codec::specs::Reading::start_of))]
 pub fn wrong_answers_are_refused()
     ensures two_at_one_place { PlacesOfFramesDiffer 0 (only (read_at 2 7) ++ two_connections) → ⊥ }
@@ -76,7 +76,7 @@ pub fn wrong_answers_are_refused()
     ensures another_place { IsAnsweredRightly seven (write_body ∷ read_body ∷ []) three_boards 0 (read_at 1 7) → ⊥ }
     ensures never_executed { IsAnsweredRightly seven [] three_boards 0 (read_at 1 7) → ⊥ }
     ensures too_soon { FramesGivenUpOnlyAfterRounds two_rounds (greeted_link 2) 0 three_boards (only given_up) → ⊥ }
-    ensures in_the_greeting { FramesGivenUpOnlyAfterRounds two_rounds (quiet_link 3) 0 three_boards (only given_up) → ⊥ }
+    ensures in_greeting { FramesGivenUpOnlyAfterRounds two_rounds (quiet_link 3) 0 three_boards (only given_up) → ⊥ }
     ensures no_datagram { IsAnsweredAsCarried (quiet_link 3) three_boards 0 (read_at 1 7) → ⊥ }
     ensures no_fault { IsLostOnlyWithLink (quiet_link 2) 2 three_boards (only (read_of 2 NotAsked)) → ⊥ }
     ensures there_is_a_board { (spec : BoardSpec) → HasUnaskedCodes (spec ∷ []) [] (read_of 0 NotAsked) → ⊥ }
