@@ -1,6 +1,6 @@
 -- A hub over a link, call by call.
 use Rattle.std.proofs.Common.{◌≡◌, ℕ, ◌+◌, ◌≤◌, true, List, [], ◌∷◌, length}
-use Rattle.std.proofs.Common.{Option, Some, None, refl, sym, ap, subst, arith}
+use Rattle.std.proofs.Common.{Option, Some, None, refl, sym, ap, subst, arith, ◌∙◌}
 use Rattle.std.specs.Prelude.{IfSome}
 use Rattle.std.specs.Prelude.{Result, Ok, Err}
 use Rattle.world_model.specs.Messages.{to_hub}
@@ -42,6 +42,7 @@ pub record IsSending (before : Option Telling) (old : Hub) (telling : Option Tel
   pub running : GoesOn before old telling now
   pub unanswered : StaysUnanswered before old telling now
   pub fault : faults ≤ faults_now
+  pub unfaulted : IfSome before (λ _. faults_now ≡ faults)
   pub quiet : quiets_now ≡ quiets
   pub got : gots_now ≡ gots
   pub receive : receives_now ≡ receives
@@ -267,3 +268,22 @@ pub received_board : SameBoard → (result : Result Received LinkFault) (bytes :
     (old new : Option Telling) → IfTelling old new (Receives result bytes held now) → board_of new ≡ board_of old
 received_board law result bytes held now old new call =
     same_board (Receives result bytes held now) old new call (receives_board law result bytes held now)
+
+-- ---- faults of a link that tells
+
+pub none_counted : (a : Option Telling) (n : ℕ) → IfSome a (λ _. n ≡ n)
+none_counted None n = tt
+none_counted (Some t) n = refl
+
+-- no fault is counted in a call that does not fail
+pub uncounted : (P : Type 0) (a b : Option Telling) (first before now : ℕ) → board_of b ≡ board_of a
+    → IfSome a (λ _. before ≡ first) → IfSome b (λ _. P → now ≡ before) → IfSome a (λ _. P → now ≡ first)
+uncounted P None b first before now board is more = tt
+uncounted P (Some t) None first before now board is more = absurd cc
+uncounted P (Some t) (Some u) first before now board is more = λ p. more p ∙ is
+
+pub still_uncounted : (P : Type 0) (a b : Option Telling) (first before now : ℕ) → board_of b ≡ board_of a
+    → IfSome a (λ _. before ≡ first) → IfSome b (λ _. P → now ≡ before) → P → IfSome a (λ _. now ≡ first)
+still_uncounted P None b first before now board is more p = tt
+still_uncounted P (Some t) None first before now board is more p = absurd cc
+still_uncounted P (Some t) (Some u) first before now board is more p = more p ∙ is

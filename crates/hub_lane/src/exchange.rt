@@ -1,7 +1,7 @@
 //! A hub over any link: what it sends, what it hears, and what that settles.
 
 ghost use Rattle.std.specs.Prelude.{◌≡◌, ◌≤◌, ◌<◌, ◌+◌, ◌^◌, ℕ, [], true, None, Some, length, OnOk, OnErr, IfOk};
-ghost use Rattle.std.specs.Prelude.{IfSome, Err};
+ghost use Rattle.std.specs.Prelude.{IfSome, Err, ◌≢◌};
 ghost use Rattle.ipb_base.specs.Faults.{Rose};
 ghost use Rattle.ipb_base.specs.Lists.{IsPrefix};
 ghost use Rattle.packet_ids.specs.Identifier.{identifier_at};
@@ -86,6 +86,8 @@ pub(crate) fn exchange<L: Link>(
     ensures same_give_ups { OnErr result (give_ups.new ≡ give_ups.old) }
     ensures stopped { OnErr result (Stops (L.telling link.old) hub.old (L.telling link.new) hub.new) }
     ensures failed { result ≡ Err LinkFault.Failed → Rose (L.faults link.old) (L.faults link.new) }
+    ensures unfaulted { IfSome (L.telling link.old) (λ _.
+        result ≢ Err LinkFault.Failed → L.faults link.new ≡ L.faults link.old) }
     ensures failed_unanswered { result ≡ Err LinkFault.Failed
         → StaysUnanswered (L.telling link.old) hub.old (L.telling link.new) hub.new }
     ensures faults { L.faults link.old ≤ L.faults link.new }
@@ -133,6 +135,8 @@ pub(crate) fn send_all<L: Link>(
         (RoundFor Sends (L.telling link.old) hub.old (L.held link.old) (L.telling link.new) hub.new (L.held link.new)) }
     ensures stopped { OnErr result (Stops (L.telling link.old) hub.old (L.telling link.new) hub.new) }
     ensures failed { result ≡ Err LinkFault.Failed → Rose (L.faults link.old) (L.faults link.new) }
+    ensures unfaulted { IfSome (L.telling link.old) (λ _.
+        result ≢ Err LinkFault.Failed → L.faults link.new ≡ L.faults link.old) }
     ensures faults { L.faults link.old ≤ L.faults link.new }
     ensures quiets { L.quiets link.new ≡ L.quiets link.old }
     ensures gots { L.gots link.new ≡ L.gots link.old }
@@ -194,6 +198,8 @@ fn receive<L: Link>(
     ensures round { IfOk result (λ pumped. RoundFor (Pumps pumped) (L.telling link.old) hub.old (L.held link.old)
         (L.telling link.new) hub.new (L.held link.new)) }
     ensures failed { result ≡ Err LinkFault.Failed → Rose (L.faults link.old) (L.faults link.new) }
+    ensures unfaulted { IfSome (L.telling link.old) (λ _.
+        result ≢ Err LinkFault.Failed → L.faults link.new ≡ L.faults link.old) }
     ensures failed_unanswered { result ≡ Err LinkFault.Failed
         → StaysUnanswered (L.telling link.old) hub.old (L.telling link.new) hub.new }
     ensures faults { L.faults link.old ≤ L.faults link.new }

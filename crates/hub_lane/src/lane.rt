@@ -294,6 +294,8 @@ impl<L: Link> Lane<L> {
         ensures not_spent { OnOk result (self.old.spent ≡ false) }
         ensures down { self.new.down ≡ true → (self.old.down ≡ true)
             ⊎ Rose (L.faults self.old.link) (L.faults self.new.link) }
+        ensures up { IfSome (L.telling self.old.link) (λ _.
+            self.new.down ≡ false → L.faults self.new.link ≡ L.faults self.old.link) }
         ensures faults { L.faults self.old.link ≤ L.faults self.new.link }
         ensures quiets { L.quiets self.new.link ≡ L.quiets self.old.link }
         ensures gots { L.gots self.new.link ≡ L.gots self.old.link }
@@ -355,6 +357,8 @@ impl<L: Link> Lane<L> {
         ensures same { IsSameRecord self.old self.new }
         ensures down { self.new.down ≡ true → (self.old.down ≡ true)
             ⊎ Rose (L.faults self.old.link) (L.faults self.new.link) }
+        ensures up { IfSome (L.telling self.old.link) (λ _.
+            self.new.down ≡ false → L.faults self.new.link ≡ L.faults self.old.link) }
         ensures faults { L.faults self.old.link ≤ L.faults self.new.link }
         ensures quiets { L.quiets self.new.link ≡ L.quiets self.old.link }
         ensures gots { L.gots self.new.link ≡ L.gots self.old.link }
@@ -424,6 +428,8 @@ impl<L: Link> Lane<L> {
         ensures not_down { OnErr result ((self.old.spent ≡ true) ⊎ (self.old.down ≡ false)) }
         ensures down { IfOk result (λ _. self.new.down ≡ true → (self.old.down ≡ true)
             ⊎ Rose (L.faults self.old.link) (L.faults self.new.link)) }
+        ensures up { IfSome (L.telling self.old.link) (λ _.
+            self.new.down ≡ false → L.faults self.new.link ≡ L.faults self.old.link) }
         ensures faults { L.faults self.old.link ≤ L.faults self.new.link }
         ensures quiets { IfOk result (λ pumped.
             L.quiets self.new.link ≡ quiets_of pumped (L.quiets self.old.link)) }
