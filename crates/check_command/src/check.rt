@@ -11,7 +11,7 @@ use ipb_base::NoMemory;
 use node_tree::Index;
 use session_input::{Unread, read_for_check};
 use std::alloc::Global;
-use transcript::listing_text;
+use transcript::Listing;
 
 /// Lists the registers of a table of a session document (profile), with 0 where none of them overlap, and else with 1. A
 /// document that breaks a rule is answered by the line of the first, with 3. No range and no script is looked at.
@@ -31,10 +31,9 @@ fn listing(alloc: Global, index: &Index) -> Result<Answer, NoMemory>
     ensures text { IfOk result (λ answer. answer.text.items ≡ listed index.now) }
     ensures status { IfOk result (λ answer. answer.status ≡ spec.listing_status index.now) }
 {
-    let text = listing_text(alloc, index)?;
-    let pairs = index.overlaps(alloc)?;
+    let Listing { text, overlaps } = Listing::of(alloc, index)?;
     Ok(Answer {
-        status: done_status(pairs.is_empty()),
+        status: done_status(overlaps == 0),
         text,
     })
 }

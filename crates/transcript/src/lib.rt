@@ -27,7 +27,7 @@ pub use ipb_base::{NoMemory, Text, Words};
 pub use lane_record::{Outcome, Outcomes};
 pub use line::{BoardLine, LateAnswer, LinePlaces, OpLine, OpResult};
 pub use lines::{client_lines, lines_of_clients};
-pub use listing::listing_text;
+pub use listing::Listing;
 pub use printing::{PrintedRuns, print_runs};
 pub use status::all_good;
 pub use text::{line_text, push_boards, push_result, push_word, transcript_text};

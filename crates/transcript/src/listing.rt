@@ -1,8 +1,9 @@
 //! The listing of a register table.
 
-ghost use Rattle.std.specs.Prelude.{◌≡◌, ◌++◌, ◌<◌, IfOk, OnOk, All, string_bytes};
+ghost use Rattle.std.specs.Prelude.{◌≡◌, ◌++◌, ◌<◌, [], IfOk, OnOk, All, length, string_bytes};
 ghost use Rattle.std.specs.List.{flat_map};
 ghost use Rattle.std.specs.FinMap as map;
+ghost use Rattle.node_tree.specs.Overlaps.{overlapping};
 ghost use Rattle.transcript.specs.Listing as spec;
 
 use crate::text::push_word;
@@ -89,14 +90,29 @@ fn push_overlaps(text: &mut String, index: &Index, pairs: &[(u32, u32)]) -> Resu
     Ok(())
 }
 
-/// The listing of a register table: a line for each register, in byte order of the names, and then a line for each
-/// register that overlaps one before it, with the first such one (profile).
-pub fn listing_text(alloc: Global, index: &Index) -> Result<Vec<u8>, NoMemory>
-    ensures { IfOk result (λ text. text.items ≡ spec.listing_text index.now) }
-{
-    let mut text = String::new(alloc);
-    push_registers(&mut text, index)?;
-    let pairs = index.overlaps(alloc)?;
-    push_overlaps(&mut text, index, pairs.as_slice())?;
-    Ok(text.into_bytes())
+/// The listing of a register table.
+#[derive(Drop)]
+pub struct Listing {
+    pub text: Vec<u8>,
+    /// How many registers overlap one before them.
+    pub overlaps: usize,
+}
+
+impl Listing {
+    /// The listing of an index: a line for each register, in byte order of the names, and then a line for each register
+    /// that overlaps one before it, with the first such one (profile).
+    pub fn of(alloc: Global, index: &Index) -> Result<Listing, NoMemory>
+        ensures text { IfOk result (λ listing. listing.text.items ≡ spec.listing_text index.now) }
+        ensures overlaps { IfOk result
+            (λ listing. listing.overlaps ≡ length (overlapping [] (map.entries index.now))) }
+    {
+        let mut text = String::new(alloc);
+        push_registers(&mut text, index)?;
+        let pairs = index.overlaps(alloc)?;
+        push_overlaps(&mut text, index, pairs.as_slice())?;
+        Ok(Listing {
+            text: text.into_bytes(),
+            overlaps: pairs.len(),
+        })
+    }
 }
