@@ -95,7 +95,7 @@ first_there client planned k n have x plans is number none = record {
     number = number;
     plans = record {
       bodies = plans.bodies;
-      all = plans.all;
+      enough = plans.enough;
       entries = ap (λ (z : Knowledge). made_by client z.opening.entries) (sym is) ∙ plans.entries;
     };
     items = [];

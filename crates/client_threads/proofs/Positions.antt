@@ -1,5 +1,5 @@
 -- What one call of a client on a lane does to how far the client came there.
-use Rattle.std.proofs.Common.{◌≡◌, ℕ, ◌+◌, ◌<◌, true, List, [], ◌∷◌, ◌++◌, map, length, None, is_some, inl, inr, refl}
+use Rattle.std.proofs.Common.{◌≡◌, ℕ, ◌+◌, ◌≤◌, ◌<◌, true, List, [], ◌∷◌, ◌++◌, map, length, None, is_some, inl, inr, refl}
 use Rattle.std.proofs.Common.{sym, ap, ◌∙◌, subst, arith, append-nil, append_assoc}
 use Rattle.std.proofs.lemmas.Bool.{cases_lt}
 use Rattle.std.proofs.lemmas.List.{map-append}
@@ -66,8 +66,8 @@ asked_is p k i =
     let some = asked_so_far p.done p.asks p.taken in
     omega arith
 
-pub planned_is : (p : Position) (k : Knowledge) → IsAt p k → planned_by k ≡ p.planned
-planned_is p k i =
+pub enough_planned : (p : Position) (k : Knowledge) → IsAt p k → p.planned ≤ planned_by k
+enough_planned p k i =
     let plans = plans_from p.client 0 i.plans.bodies in
     let own : planned_by k ≡ length (numbers plan_in p.client (all_items p k i)) =
     (λ j. length (numbers plan_in (i.number j) (own_are p k i j))) in
@@ -77,7 +77,7 @@ planned_is p k i =
     (actions_are p k i) ∙ count_append one_if_planned (map numbered_action plans) (actions_at p) in
     let all = plans_counted p.client 0 i.plans.bodies in
     let none = planned_so_far p.done p.asks p.taken in
-    let many = i.plans.all in
+    let enough = i.plans.enough in
     omega arith
 
 -- which of the client's bodies were taken
@@ -123,7 +123,7 @@ added_at p q k after lane added i a same_client same_planned makers more =
       number = ap (λ (z : Knowledge). z.number) rest ∙ (i.number ∙ sym same_client);
       plans = record {
         bodies = i.plans.bodies;
-        all = i.plans.all ∙ sym same_planned;
+        enough = subst (λ (n : ℕ). n ≤ length i.plans.bodies) (sym same_planned) i.plans.enough;
         entries = (λ j. made_by (same_client j) (rest j).opening.entries)
             ∙ (i.plans.entries ∙ ap (λ (c : ℕ). map recorded (plans_from c 0 i.plans.bodies)) (sym same_client));
       };
@@ -164,7 +164,7 @@ pub not_all_asked : (p : Position) (k after : Knowledge) → IsAt p k → behind
     → MadeInTime k (AskMeans k asks.Nothing) after → ⊥
 not_all_asked p k after i less m =
     let a = asked_is p k i in
-    let b = planned_is p k i in
+    let b = enough_planned p k i in
     let e = m.meaning.0 in
     omega arith
 

@@ -43,10 +43,10 @@ abbrev pub AreOfClientsFrom : ℕ → List ClientPlan → Type 0
 AreOfClientsFrom client [] = ⊤
 AreOfClientsFrom client (plan ∷ plans) = (plan.client ≡ client) × AreOfClientsFrom (client + 1) plans
 
--- In the record with which a lane came to the hub, the client has Plans of so many bodies, and no other entry.
+-- In the record with which a lane came to the hub, the client has Plans of at least so many bodies, and no other entry.
 pub record HoldsPlans (client many : ℕ) (k : Knowledge) : Type 0 where
   pub bodies : List (List ℕ)
-  pub all : length bodies ≡ many
+  pub enough : many ≤ length bodies
   pub entries : made_by client k.opening.entries ≡ map recorded (plans_from client 0 bodies)
 
 -- ---- lane by lane
@@ -56,7 +56,7 @@ abbrev pub OnLanesFrom : {T : Type 0} → ℕ → (ℕ → T → Type 0) → Lis
 OnLanesFrom lane holds [] = ⊤
 OnLanesFrom lane holds (x ∷ xs) = holds lane x × OnLanesFrom (lane + 1) holds xs
 
--- each lane holds the bodies of each plan, and none of them was asked
+-- each lane holds at least the bodies of each plan, and none of them was asked
 abbrev pub AwaitClients : List ClientPlan → List Knowledge → Type 0
 AwaitClients plans knows = AllByRecursion
     (λ plan. OnLanesFrom 0 (λ lane. HoldsPlans plan.client (sum (counts_on lane plan))) knows) plans
