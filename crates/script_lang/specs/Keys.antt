@@ -5,6 +5,9 @@ use Rattle.std.specs.Str.{bytes_eq}
 use Rattle.std.specs.Option.{option_and_then}
 use Rattle.toml.specs.Data.{Members, get_member, as_str}
 use Rattle.address_table.specs.Rules.{has_key, holds_of}
+use Rattle.ipb_base.specs.Numbers.{least_mtu, greatest_mtu}
+use Rattle.packet_ids.specs.declared.places.TheConstants.{IDENTIFIERS}
+use Rattle.status_packet.specs.Range.{most_buffers}
 use Rattle.world_model.specs.declared.settings.TheConstants.{MAX_WINDOW}
 use Rattle.script_lang.specs.declared.keys.TextRule.TheVariants.{Any, Id, Link, RangeWord, Fates, Endpoint}
 use Rattle.script_lang.specs.declared.keys.TableKind.{TableKind}
@@ -29,13 +32,17 @@ optional name kind = record { name = name; kind = kind; is_needed = false }
 abbrev pub word : Kind
 word = Number 0 0xffffffff 0
 
+-- the most rounds in which a hub waits for a board
+abbrev pub most_rounds : ℕ
+most_rounds = 255
+
 -- the document itself
 abbrev pub document_keys : List KeyRule
 document_keys =
     optional (codes "board") (Array (items.Table Board))
     ∷ optional (codes "client") (Array (items.Table Client))
     ∷ optional (codes "format") (Number 1 2 1)
-    ∷ optional (codes "rounds") (Number 1 255 8)
+    ∷ optional (codes "rounds") (Number 1 most_rounds 8)
     ∷ optional (codes "tables") Names
     ∷ optional (codes "window") (Number 1 MAX_WINDOW 16)
     ∷ []
@@ -43,11 +50,11 @@ document_keys =
 -- a simulated board: `fates` is empty where it is left out
 abbrev pub sim_keys : List KeyRule
 sim_keys =
-    optional (codes "buffers") (Number 1 64 16)
+    optional (codes "buffers") (Number 1 most_buffers 16)
     ∷ optional (codes "fates") (Text Fates)
-    ∷ optional (codes "first") (Number 1 65535 1)
+    ∷ optional (codes "first") (Number 1 IDENTIFIERS 1)
     ∷ optional (codes "link") (Text Link)
-    ∷ optional (codes "mtu") (Number 92 9000 1500)
+    ∷ optional (codes "mtu") (Number least_mtu greatest_mtu 1500)
     ∷ needed (codes "name") (Text Id)
     ∷ optional (codes "ranges") (Array (items.Table Range))
     ∷ needed (codes "table") (Text Any)

@@ -44,6 +44,10 @@ abbrev pub ◌>>=◌ : {A B : Type 0} → Option A → (A → Option B) → Opti
 None >>= f = None
 (Some x) >>= f = f x
 
+-- the greatest port of UDP
+abbrev pub greatest_port : ℕ
+greatest_port = 65535
+
 -- `A.B.C.D:PORT`: the four bytes of an IPv4 address and a port, all decimal.
 unfoldable pub endpoint : List ℕ → Option (List ℕ × ℕ)
 endpoint text = do
@@ -55,7 +59,7 @@ endpoint text = do
   b ← decimal_between 0 255 second.0
   c ← decimal_between 0 255 third.0
   d ← decimal_between 0 255 third.1
-  port ← decimal_between 1 65535 parts.1
+  port ← decimal_between 1 greatest_port parts.1
   Some (a ∷ b ∷ c ∷ d ∷ [], port)
 
 -- the kinds of ranges

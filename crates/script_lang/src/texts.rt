@@ -114,7 +114,7 @@ fn byte_in(text: &[u8]) -> Option<u8>
 
 /// A port, from 1.
 fn port_in(text: &[u8]) -> Option<u16>
-    ensures { result ≡ spec.decimal_between 1 65535 text.now }
+    ensures { result ≡ spec.decimal_between 1 spec.greatest_port text.now }
 {
     let number = decimal_between(1, 65535, text)?;
     u16::try_from(number).ok()
