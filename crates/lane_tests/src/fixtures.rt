@@ -108,6 +108,15 @@ pub(crate) fn planned_lane(alloc: Global, fates: &str, end: u32) -> Result<Lane<
     Ok(lane)
 }
 
+/// Such a lane with two reads planned for client 1, and with planning closed.
+pub(crate) fn lane_of_two_reads(alloc: Global, fates: &str) -> Result<Lane<SimLink>, Fail> {
+    let mut lane = lane(alloc, fates)?;
+    plan(alloc, &mut lane, 1)?;
+    plan(alloc, &mut lane, 1)?;
+    lane.seal();
+    Ok(lane)
+}
+
 /// The place at which the read's reply came. `None` where another outcome came, or none.
 pub(crate) fn place_of(outcome: Option<Outcome>) -> Option<u64> {
     match outcome {

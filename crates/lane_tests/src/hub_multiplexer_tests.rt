@@ -5,11 +5,13 @@ ghost use Rattle.std.specs.Thread.{IsSync};
 ghost use Rattle.hub_multiplexer.specs.Ends.{HasTakenIn};
 ghost use Rattle.hub_multiplexer.specs.Seats.{IsMasterOf, IsSeatOf};
 
-use crate::fixtures::{digit, kinds, lane, place_of, planned_lane, read_four};
+use crate::fixtures::{digit, kinds, lane, lane_of_two_reads, place_of, planned_lane, read_four};
 use crate::same::same;
 use hub_lane::Entry;
 use hub_multiplexer::laws::a_seat_that_asked_all_may_submit;
-use hub_multiplexer::{AskTry, Hub, Lane, Master, NoMemory, Outcome, Performed, Seat, StepTry};
+use hub_multiplexer::{
+    AskTry, Asked, Hub, Lane, Master, NoMemory, Outcome, Performed, Seat, StepTry,
+};
 use lossy_network::SimLink;
 use std::alloc::Global;
 use std::sync::Wait;
@@ -88,6 +90,81 @@ fn one_client_goes_step_by_step(rt: HostRuntime) -> Result<(), Fail> {
     let lanes = finish(&rt, hub, master, seat);
     same(&rt, &asked, &Ok(true));
     same(&rt, &first_kinds(rt.alloc(), &lanes)?.as_str(), &"1234");
+    Ok(())
+}
+
+/// Asks both reads of the client. Whether they were asked.
+fn asks_both<R: Wait>(rt: &R, hub: &Hub<SimLink>, seat: &mut Seat) -> Result<bool, NoMemory>
+    requires board { 0 < length hub.now.turns }
+    requires seat { IsSeatOf hub.now seat.old }
+    ensures { IsSeatOf hub.now seat.new × (seat.new.client ≡ seat.old.client) }
+{
+    let first = hub.ask(rt, seat, 0)?;
+    let second = hub.ask(rt, seat, 0)?;
+    Ok(first == Asked::Asked(0) && second == Asked::Asked(1))
+}
+
+/// The same by calls that never wait.
+fn tries_to_ask_both(hub: &Hub<SimLink>, seat: &mut Seat) -> Result<bool, NoMemory>
+    requires board { 0 < length hub.now.turns }
+    requires seat { IsSeatOf hub.now seat.old }
+    ensures { IsSeatOf hub.now seat.new × (seat.new.client ≡ seat.old.client) }
+{
+    let first = hub.try_ask(seat, 0)?;
+    let second = hub.try_ask(seat, 0)?;
+    Ok(first == AskTry::Asked(0) && second == AskTry::Asked(1))
+}
+
+/// What the first lane did since its greeting: how many bodies it sent, how many replies it received, and how many of
+/// its receives were quiet.
+fn first_traffic(mut lanes: Vec<Lane<SimLink>>) -> Option<(u64, u64, u64)> {
+    let lane = lanes.pop()?;
+    let sent = lane.sent();
+    let (replied, _timed_out, _lost) = lane.counts();
+    Some((sent, replied, lane.close().quiets()))
+}
+
+/// A second ask finds a lane that waits for a reply. It sends and receives nothing all the same.
+#[test]
+fn an_ask_at_a_hub_receives_nothing(rt: HostRuntime) -> Result<(), Fail> {
+    let (hub, master, mut seat) = hub_of(rt.alloc(), lane_of_two_reads(rt.alloc(), "")?)?;
+    let asked = asks_both(&rt, &hub, &mut seat);
+    let lanes = finish(&rt, hub, master, seat);
+    same(&rt, &asked, &Ok(true));
+    same(&rt, &first_traffic(lanes), &Some((2, 0, 0)));
+    Ok(())
+}
+
+#[test]
+fn a_try_to_ask_receives_nothing(rt: HostRuntime) -> Result<(), Fail> {
+    let (hub, master, mut seat) = hub_of(rt.alloc(), lane_of_two_reads(rt.alloc(), "")?)?;
+    let asked = tries_to_ask_both(&hub, &mut seat);
+    let lanes = finish(&rt, hub, master, seat);
+    same(&rt, &asked, &Ok(true));
+    same(&rt, &first_traffic(lanes), &Some((2, 0, 0)));
+    Ok(())
+}
+
+/// Steps once behind two asks. Whether an outcome was taken.
+fn steps_once(hub: &Hub<SimLink>, seat: &mut Seat) -> Result<bool, NoMemory>
+    requires board { 0 < length hub.now.turns }
+    requires seat { IsSeatOf hub.now seat.old }
+    ensures { IsSeatOf hub.now seat.new × (seat.new.client ≡ seat.old.client) }
+{
+    tries_to_ask_both(hub, seat)?;
+    Ok(matches!(hub.try_step(seat, 0)?, StepTry::Ready(_)))
+}
+
+/// One reply of two is received where both come, and one receive is quiet where both requests are lost.
+#[test]
+fn a_try_to_step_receives_once(rt: HostRuntime) -> Result<(), Fail> {
+    for (fates, is_ready, traffic) in [("", true, (2, 1, 0)), ("ddll", false, (2, 0, 1))] {
+        let (hub, master, mut seat) = hub_of(rt.alloc(), lane_of_two_reads(rt.alloc(), fates)?)?;
+        let stepped = steps_once(&hub, &mut seat);
+        let lanes = finish(&rt, hub, master, seat);
+        same(&rt, &stepped, &Ok(is_ready));
+        same(&rt, &first_traffic(lanes), &Some(traffic));
+    }
     Ok(())
 }
 
