@@ -1,11 +1,9 @@
 -- A lane over a link that tells keeps each late answer that the link hands out.
-use Rattle.std.proofs.Common.{◌≡◌, ◌⊎◌, ⊎_elim, ℕ, zero, suc, ◌+◌, ◌≤◌, ◌==◌, ◌||◌, ◌&&◌, Bool, true, false, cond}
+use Rattle.std.proofs.Common.{◌≡◌, ◌⊎◌, ⊎_elim, ℕ, zero, suc, ◌+◌, ◌≤◌, ◌||◌, Bool, true, false, cond}
 use Rattle.std.proofs.Common.{List, [], ◌∷◌, ◌++◌, length, length-append, Option, Some, None, refl, sym}
 use Rattle.std.proofs.Common.{ap, ◌∙◌, subst, arith, inl, inr}
-use Rattle.std.specs.Prelude.{if◌then◌else◌, nat_le}
-use Rattle.std.specs.List.{AllByRecursion, Contains, slice_get}
-use Rattle.std.proofs.lemmas.Bool.{le-leb}
-use Rattle.std.proofs.lemmas.Bool.Decides.{eqb_tells}
+use Rattle.std.specs.Prelude.{if◌then◌else◌}
+use Rattle.std.specs.List.{Contains, slice_get}
 use Rattle.std.proofs.lemmas.List.{append-nil, length-map}
 use Rattle.board_bus.proofs.Bodies.{replay-length}
 use Rattle.world_model.specs.declared.offered.Fate.{Fate}
@@ -14,14 +12,13 @@ use Rattle.world_model.specs.declared.offered.Offered.{Offered}
 use Rattle.world_model.specs.declared.offered.OpenPlace.{OpenPlace}
 use Rattle.world_model.specs.Places.{at_place}
 use Rattle.world_model.specs.Board.{executed, replies}
-use Rattle.world_model.specs.Hub.{HandedOut, Hub, IsDrained, is_waiting, places, some_queued, some_waited}
+use Rattle.world_model.specs.Hub.{HandedOut, Hub, IsDrained, is_waiting, some_queued, some_waited}
 use Rattle.world_model.specs.Sends.{next_send}
-use Rattle.world_model.specs.Facts.{bodies_of, has, offered_body}
+use Rattle.world_model.specs.Facts.{bodies_of, offered_body}
 use Rattle.world_model.specs.Answered.{AreAllAnswered, HasLateAnswer, HasReply}
 use Rattle.world_model.specs.LateAnswers.{AreOfTimedOut}
 use Rattle.world_model.specs.Settings.{Limits}
 use Rattle.world_model.proofs.Lists.{all_get, at_within, front_length}
-use Rattle.reliable_engine.specs.Answers.{hub_next}
 use Rattle.world_core.specs.Telling.{Telling}
 use Rattle.lane_record.specs.declared.outcome.Outcome.{Outcome}
 use Rattle.lane_record.specs.declared.outcome.Outcome.TheVariants as became
@@ -32,7 +29,7 @@ use Rattle.lane_record.specs.Offers.{Agrees, awaited, outcome_of, tag_at, tags, 
 use Rattle.lane_record.specs.Outcomes.{AreSettled}
 use Rattle.hub_lane.specs.LateAnswers.{AreLateAnswers}
 use Rattle.hub_lane.specs.Lanes.{BoardStatus, IsLane}
-use Rattle.hub_lane.specs.Standing.{IsRunning, IsStanding, IsUnanswered, NoneOpenHanded, WaitsInVain, WasHanded}
+use Rattle.hub_lane.specs.Standing.{IsRunning, IsStanding, NoneOpenHanded, WaitsInVain}
 use Rattle.hub_lane.specs.Truth.{HasEachLate}
 use Rattle.hub_lane.proofs.Handed.{handed_words}
 use Rattle.hub_lane.proofs.Truth.{TruthLaws, next_more, one_fate, running_true, sends_more, timed_from_one}

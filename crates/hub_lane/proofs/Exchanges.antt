@@ -9,7 +9,7 @@ use Rattle.world_model.specs.declared.offered.OpenPlace.{OpenPlace}
 use Rattle.packet_codec.specs.declared.packet.TheConstants.{MAX_BODY_WORDS}
 use Rattle.world_model.specs.LateAnswers.{AreOfTimedOut}
 use Rattle.world_model.specs.Messages.{ToHub, Reply as ReplyTo, to_hub}
-use Rattle.world_model.specs.Hub.{HandedOut, Hub, IsDrained, drained, give_up, hear_quiet, is_waiting, places, recover}
+use Rattle.world_model.specs.Hub.{HandedOut, Hub, drained, give_up, hear_quiet, is_waiting, places, recover}
 use Rattle.world_model.specs.Hub.{some_queued, some_waited, take_message, want_status, without}
 use Rattle.world_model.specs.Sends.{Next, next_send}
 use Rattle.world_model.specs.Facts.{HasBodies, IsWindow}

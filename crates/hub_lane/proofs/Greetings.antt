@@ -26,6 +26,7 @@ use Rattle.world_core.specs.declared.link.LinkFault.{LinkFault}
 use Rattle.world_core.specs.declared.link.LinkFault.TheVariants as fault
 use Rattle.world_core.specs.declared.link.Received.{Received}
 use Rattle.world_core.specs.declared.link.Received.TheVariants as came
+use Rattle.world_core.specs.Receives.{first_status}
 use Rattle.world_core.specs.Telling.{IfTelling, IsGot, IsQuiet, IsReceived, IsSent, Receives, Telling}
 use Rattle.hub_lane.specs.Standing.{AreInAir}
 use Rattle.hub_lane.proofs.Closed.{got_in_air, sent_in_air, unheard_in_air}
@@ -34,7 +35,7 @@ use Rattle.recovery_laws.proofs.Heard.{nothing_due, one_way}
 use Rattle.hub_lane.specs.declared.greeting.Answer.{Answer}
 use Rattle.hub_lane.specs.declared.greeting.Answer.TheVariants as answer
 use Rattle.hub_lane.specs.Greeting.{CanBegin, EndsAskingWith, EndsRoundWith, IsExpecting}
-use Rattle.hub_lane.specs.Greeting.{HandedOutNone, IsHeardFrom, IsTold, StaysFresh}
+use Rattle.hub_lane.specs.Greeting.{HandedOutNone, HasAskedAtMost, IsHeardFrom, IsTold, StaysFresh}
 
 -- what the laws of links say of what a board hears
 abbrev pub HeardGoesOn : Type 0
@@ -254,11 +255,12 @@ IsSameTelling old new = new ≡ old
 
 -- other datagrams came so far: over a link that tells there was none
 pub record IsListening (before now : Option Telling) (other quiets quiets_now gots gots_now faults faults_now held
-    held_now : ℕ) : Type 0 where
+    held_now : ℕ) (receives : List (Option (List ℕ))) : Type 0 where
   pub same : IfTelling before now IsSameTelling
   pub first : IfSome before (λ _. (other ≡ 0) × (held_now ≡ held))
   pub quiet : quiets_now ≡ quiets
   pub got : gots_now ≡ gots + other
+  pub untold : first_status receives ≡ None
   pub fault : faults ≤ faults_now
   pub hold : held ≤ held_now
 
@@ -395,11 +397,13 @@ abbrev pub HasPaid : ℕ → ℕ → ℕ → Telling → Type 0
 HasPaid rounds quiets held t = (rounds ≤ quiets) × (rounds ≤ held)
 
 pub record IsAsking (settings : Limits) (before now : Option Telling)
-    (rounds quiets gots held faults faults_now : ℕ) : Type 0 where
+    (rounds quiets gots held faults faults_now : ℕ) (receives : List (Option (List ℕ))) : Type 0 where
   pub fresh : IfTelling before now (StaysFresh settings)
   pub handed : IfTelling before now HandedOutNone
+  pub asked : IfTelling before now (HasAskedAtMost rounds)
   pub paid : IfSome now (HasPaid rounds quiets held)
   pub few_quiets : quiets ≤ rounds
   pub few_gots : gots ≤ 64 * rounds
   pub counted : 64 * rounds ≤ 64 * quiets + gots
+  pub untold : first_status receives ≡ None
   pub fault : faults ≤ faults_now

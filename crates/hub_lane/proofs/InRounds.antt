@@ -1,18 +1,15 @@
 -- What each call makes of the round that is under way, over a link that tells.
-use Rattle.std.proofs.Common.{◌≡◌, ◌⊎◌, ℕ, zero, suc, ◌≤◌, ◌==◌, ◌||◌, Bool, true, false, cond, List, [], ◌∷◌, length}
+use Rattle.std.proofs.Common.{◌≡◌, ◌⊎◌, ℕ, zero, suc, ◌≤◌, ◌||◌, Bool, true, false, cond, List, [], ◌∷◌, length}
 use Rattle.std.proofs.Common.{◌++◌, map, Option, Some, None, refl, sym, ap, ◌∙◌, subst, arith, inl, inr}
 use Rattle.std.specs.Prelude.{IfSome}
-use Rattle.std.proofs.lemmas.Bool.Decides.{eqb_tells}
-use Rattle.std.proofs.lemmas.Bool.{eqb-true}
 use Rattle.ipb_base.specs.Faults.{Rose}
 use Rattle.packet_ids.specs.Identifier.{identifier_at}
 use Rattle.world_model.specs.declared.offered.Offered.{Offered}
 use Rattle.world_model.specs.declared.offered.OpenPlace.{OpenPlace}
 use Rattle.world_model.specs.Messages.{ToHub, StatusReply, Reply as ReplyTo, to_hub}
-use Rattle.world_model.specs.Hub.{Hub, drained, hear_quiet, offer, open_with, places, settle, take_message}
+use Rattle.world_model.specs.Hub.{Hub, drained, hear_quiet, offer, open_with, settle, take_message}
 use Rattle.world_model.specs.Hub.{want_control}
 use Rattle.world_model.specs.Sends.{Next, bytes_to_send, next_send}
-use Rattle.world_model.specs.Facts.{has}
 use Rattle.world_model.proofs.Flushing.{quiet_cases, status_cases}
 use Rattle.world_model.proofs.OpenPlaces.{named, none_named}
 use Rattle.reliable_engine.specs.Answers.{IsOpen}

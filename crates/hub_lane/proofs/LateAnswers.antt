@@ -1,22 +1,19 @@
 -- What a lane keeps of late answers, call by call, over any link.
-use Rattle.std.proofs.Common.{◌≡◌, ◌⊎◌, ℕ, zero, suc, ◌+◌, ◌≤◌, List, [], ◌∷◌, ◌++◌, length, length-append}
+use Rattle.std.proofs.Common.{◌≡◌, ℕ, zero, suc, ◌≤◌, List, [], ◌∷◌, ◌++◌, length, length-append}
 use Rattle.std.proofs.Common.{Bool, Option, Some, None, refl, sym, ap, ◌∙◌, subst, arith, inl, inr, ⊎_elim}
-use Rattle.std.specs.List.{AllByRecursion, Contains, slice_get}
+use Rattle.std.specs.List.{AllByRecursion, Contains}
 use Rattle.std.proofs.lemmas.List.{append-nil}
 use Rattle.std.proofs.lemmas.List.Elements.{Contains-append_left, Contains-append_right}
 use Rattle.ipb_base.proofs.AllLemmas.{AllByRecursion-append}
 use Rattle.packet_codec.specs.declared.packet.TheConstants.{MAX_BODY_WORDS}
 use Rattle.world_model.specs.declared.offered.Fate.{Fate}
-use Rattle.world_model.specs.declared.offered.Fate.TheVariants as fate
-use Rattle.world_model.specs.declared.offered.Offered.{Offered}
 use Rattle.world_model.specs.Messages.{ToHub, Reply}
 use Rattle.world_model.specs.Hub.{HandedOut, Hub, IsDrained, drained, hands_out, hear_quiet, new_hub, none_handed_out}
-use Rattle.world_model.specs.Hub.{offer, places, take_message}
-use Rattle.world_model.specs.Sends.{Next, next_send}
+use Rattle.world_model.specs.Hub.{places, take_message}
 use Rattle.world_model.specs.LateAnswers.{AreOfTimedOut, HasTimedOut, IsClosedPlace, late_places}
 use Rattle.lane_record.specs.declared.outcome.Outcome.{Outcome}
 use Rattle.lane_record.specs.Claims.{Claim}
-use Rattle.lane_record.specs.Lates.{AreLatesBy, KeepsLates, late_in, put_lates}
+use Rattle.lane_record.specs.Lates.{KeepsLates, late_in, put_lates}
 use Rattle.lane_record.specs.Offers.{AreOutcomes, KeepsOutcomes, Settles, outcome_of, put_all}
 use Rattle.lane_record.proofs.Hearing.{still_told}
 use Rattle.lane_record.proofs.Lates.{AreWithinPlaces, came, lates_added, lates_handed_out, lates_stay, length-put_lates}
@@ -41,7 +38,7 @@ timed_out_among rounds place (f ∷ fates) outcomes (inr later) are =
     timed_out_among rounds place fates outcomes later are.1
 
 -- what holds of all holds of each
-each : {A : Type 0} (P : A → Type 0) (xs : List A) (x : A) → AllByRecursion P xs → Contains xs x → P x
+pub each : {A : Type 0} (P : A → Type 0) (xs : List A) (x : A) → AllByRecursion P xs → Contains xs x → P x
 each P [] x all (k, few, is) = absurd (omega (arith, few))
 each P (y ∷ ys) x all (zero, few, is) = subst P is all.0
 each P (y ∷ ys) x all (suc k, few, is) = each P ys x all.1 (k, omega (arith, few), is)

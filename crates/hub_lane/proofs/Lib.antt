@@ -9,6 +9,7 @@ mod LateAnswers
 mod Heard
 mod Datagrams
 mod Greetings
+mod Requests
 mod Truth
 mod EachLate
 mod Tables
@@ -19,6 +20,7 @@ mod Asking
 mod Ready
 mod Lanes
 mod Exchanges
+mod Listened
 mod Pumps
 mod Steps
 mod Records

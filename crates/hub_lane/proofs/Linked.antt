@@ -1,6 +1,6 @@
 -- A hub over a link, call by call.
 use Rattle.std.proofs.Common.{◌≡◌, ℕ, ◌+◌, ◌≤◌, true, List, [], ◌∷◌, length}
-use Rattle.std.proofs.Common.{Option, Some, None, refl, sym, ap, subst, arith}
+use Rattle.std.proofs.Common.{Option, Some, None, refl, sym, ap, subst, arith, ◌∙◌}
 use Rattle.std.specs.Prelude.{IfSome}
 use Rattle.std.specs.Prelude.{Result, Ok, Err}
 use Rattle.world_model.specs.Messages.{to_hub}
@@ -26,14 +26,15 @@ use Rattle.hub_lane.specs.Hearing.{IsHeardAs, WasReceived}
 use Rattle.hub_lane.specs.Rounds.{PaysOn, RoundFor, Sends}
 use Rattle.hub_lane.specs.Sends.{HasSent, all_sent}
 use Rattle.hub_lane.specs.Standing.{GoesOn, IsRunning, IsStopped, NoneOpenHanded, StaysUnanswered, Stops}
-use Rattle.hub_lane.proofs.Closed.{got_closed, quiet_closed, refused_closed, sent_closed, unheard_closed}
+use Rattle.hub_lane.proofs.Closed.{got_closed, quiet_closed, refused_closed, sent_closed}
 use Rattle.hub_lane.proofs.Standing.{HandedLaw, HeardLaw, QuietLaw, SameBoard, SendLeaves, SendLaw}
 use Rattle.hub_lane.proofs.Standing.{after_call, got_running, if_told, other_running, quiet_running, refused_stopped}
 use Rattle.hub_lane.proofs.Standing.{sent_running}
 
 -- so far sends went out
 pub record IsSending (before : Option Telling) (old : Hub) (telling : Option Telling) (now : Hub)
-    (faults faults_now quiets quiets_now gots gots_now held held_now : ℕ) : Type 0 where
+    (faults faults_now quiets quiets_now gots gots_now held held_now : ℕ)
+    (receives receives_now : List (Option (List ℕ))) : Type 0 where
   pub sent : AreSendable now.sent
   pub queue : AreSendable now.queue
   pub all : all_sent now ≡ all_sent old
@@ -41,8 +42,10 @@ pub record IsSending (before : Option Telling) (old : Hub) (telling : Option Tel
   pub running : GoesOn before old telling now
   pub unanswered : StaysUnanswered before old telling now
   pub fault : faults ≤ faults_now
+  pub unfaulted : IfSome before (λ _. faults_now ≡ faults)
   pub quiet : quiets_now ≡ quiets
   pub got : gots_now ≡ gots
+  pub receive : receives_now ≡ receives
   pub hold : held ≤ held_now
   pub pays : PaysOn before old held telling now held_now
   pub round : RoundFor Sends before old held telling now held_now
@@ -265,3 +268,22 @@ pub received_board : SameBoard → (result : Result Received LinkFault) (bytes :
     (old new : Option Telling) → IfTelling old new (Receives result bytes held now) → board_of new ≡ board_of old
 received_board law result bytes held now old new call =
     same_board (Receives result bytes held now) old new call (receives_board law result bytes held now)
+
+-- ---- faults of a link that tells
+
+pub none_counted : (a : Option Telling) (n : ℕ) → IfSome a (λ _. n ≡ n)
+none_counted None n = tt
+none_counted (Some t) n = refl
+
+-- no fault is counted in a call that does not fail
+pub uncounted : (P : Type 0) (a b : Option Telling) (first before now : ℕ) → board_of b ≡ board_of a
+    → IfSome a (λ _. before ≡ first) → IfSome b (λ _. P → now ≡ before) → IfSome a (λ _. P → now ≡ first)
+uncounted P None b first before now board is more = tt
+uncounted P (Some t) None first before now board is more = absurd cc
+uncounted P (Some t) (Some u) first before now board is more = λ p. more p ∙ is
+
+pub still_uncounted : (P : Type 0) (a b : Option Telling) (first before now : ℕ) → board_of b ≡ board_of a
+    → IfSome a (λ _. before ≡ first) → IfSome b (λ _. P → now ≡ before) → P → IfSome a (λ _. now ≡ first)
+still_uncounted P None b first before now board is more p = tt
+still_uncounted P (Some t) None first before now board is more p = absurd cc
+still_uncounted P (Some t) (Some u) first before now board is more p = more p ∙ is

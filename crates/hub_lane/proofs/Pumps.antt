@@ -24,8 +24,8 @@ use Rattle.lane_record.proofs.Lengths.{all_lost_short}
 use Rattle.lane_record.proofs.Rounds.{all_lost_tell}
 use Rattle.hub_lane.specs.Below.{LateLaws}
 use Rattle.hub_lane.specs.declared.answers.Pumped.{Pumped}
-use Rattle.hub_lane.specs.Heard.{HasHeard}
-use Rattle.hub_lane.specs.Hearing.{IsEventAs, give_ups_of, gots_of, hub_after, quiets_of}
+use Rattle.hub_lane.specs.Heard.{HasHeard, HasListened}
+use Rattle.hub_lane.specs.Hearing.{IsEventAs, give_ups_of, gots_of, hub_after, quiets_of, receives_of}
 use Rattle.hub_lane.specs.Lanes.{BoardStatus, IsLane, board_of}
 use Rattle.hub_lane.specs.Sends.{HasSent, all_sent}
 use Rattle.hub_lane.specs.Standing.{GoesOn, IsRunning, IsStopped, IsUnanswered, NoneOpenHanded, StaysUnanswered, Stops}
@@ -35,6 +35,7 @@ use Rattle.hub_lane.proofs.Exchanges.{event_after, event_late, mid_after, mid_se
 use Rattle.hub_lane.proofs.Lanes.{told_still, up_unanswered}
 use Rattle.hub_lane.proofs.LateAnswers.{HandsOver, late_still, lost_late}
 use Rattle.hub_lane.proofs.Linked.{SendKeepsBodies}
+use Rattle.hub_lane.proofs.Listened.{event_listened, listened_sent, same_answers, same_prefix}
 use Rattle.hub_lane.proofs.Standing.{SendLeaves, if_told, lost_stopped}
 
 -- ---- an exchange
@@ -411,3 +412,23 @@ module _ (laws : PumpLaws) (settings : Limits) (status : BoardStatus) (hub : Hub
       (heard_after mid bytes pumped outcomes gots gots_now at.ready.drained.fates
       (same_length (claims items) outcomes (put_all (hear_quiet mid).fates outcomes) at.agrees.counts.each
       settled.agrees.counts.each) settled.adds event rose heard)
+
+  pub pump_listened : (bytes : List ℕ) (pumped : Pumped) (hub_now : Hub) (outcomes_now : List (Option Outcome))
+      (lates_now : List (Option (List ℕ))) (give_ups_now : ℕ) (receives receives_now : List (Option (List ℕ)))
+      → is_waiting hub ≡ true → IsEventAs (all_sent hub) bytes pumped
+      → hub_now ≡ drained (hub_after pumped bytes (all_sent hub))
+      → outcomes_now ≡ put_all (hub_after pumped bytes (all_sent hub)).fates outcomes
+      → lates_now ≡ put_lates (hub_after pumped bytes (all_sent hub)).lates lates
+      → give_ups_now ≡ give_ups_of pumped (hub_after pumped bytes (all_sent hub)) give_ups
+      → receives_now ≡ receives_of pumped bytes receives → HasListened status hub outcomes lates give_ups receives
+      → HasListened status hub_now outcomes_now lates_now give_ups_now receives_now
+  pump_listened bytes pumped hub_now outcomes_now lates_now give_ups_now receives receives_now waiting event hub_is
+      outcomes_are lates_are give_ups_are receives_are listened =
+      let mid = all_sent hub in
+      let sent : HasSent hub mid = record { count = pending hub; sends = refl } in
+      let at = at_mid mid sent in
+      let before = listened_sent status hub mid outcomes outcomes lates lates give_ups give_ups receives receives sent
+      refl (same_answers outcomes outcomes lates lates refl refl) (same_prefix receives receives refl) listened in
+      rw (hub_is, outcomes_are, lates_are, give_ups_are, receives_are)
+      (event_listened status mid bytes pumped outcomes lates give_ups receives (at.same.first ∙ is_up.knows.first)
+      at.ready.drained (at.same.waits ∙ waiting) event before)

@@ -1,11 +1,10 @@
 -- How a hub stands to a link that tells: what each call keeps of it.
 use Rattle.std.proofs.Common.{◌≡◌, ℕ, zero, suc, ◌+◌, true, false, cond, List, [], ◌∷◌, ◌++◌, length, map}
-use Rattle.std.proofs.Common.{Option, Some, None, refl, sym, ap, ◌∙◌, subst, arith, ◌==◌, inl, inr, ◌⊎◌, append_assoc}
+use Rattle.std.proofs.Common.{Option, Some, None, refl, sym, ap, ◌∙◌, subst, inl, inr, ◌⊎◌, append_assoc}
 use Rattle.std.specs.Prelude.{IfSome, min, nat_lt}
 use Rattle.std.specs.List.{AllByRecursion, Contains, slice_get}
 use Rattle.std.proofs.lemmas.List.{append-nil}
-use Rattle.std.proofs.lemmas.Bool.{eqb-true}
-use Rattle.std.proofs.lemmas.List.Elements.{Contains-append_left, Contains-append_right}
+use Rattle.std.proofs.lemmas.List.Elements.{Contains-append_left}
 use Rattle.ipb_base.proofs.AllLemmas.{AllByRecursion-append}
 use Rattle.packet_ids.specs.Identifier.{identifier_at}
 use Rattle.world_model.specs.declared.datagram.Datagram.{Datagram}
@@ -230,13 +229,17 @@ time_outs_are P late rounds sent (o ∷ os) fates all =
     (either (AllByRecursion P) o.waited (insert_fate o.place new fates) fates
     (λ _. all_inserted P o.place new fates (late _ _ _) all) (λ _. all))
 
-quiet_fates : (t : Telling) (hub : Hub) → hub.fates ≡ [] → AllByRecursion (IsHandedFate t) (hear_quiet hub).fates
-quiet_fates t hub none = quiet_cases (λ (h : Hub). AllByRecursion (IsHandedFate t) h.fates) hub
+-- a quiet receive brings no reply
+pub quiet_are : (P : ℕ × Fate → Type 0) → ((tag place rounds : ℕ) → P (tag, fate.TimedOut place rounds))
+    → ((tag : ℕ) → P (tag, fate.Unsent)) → (hub : Hub) → hub.fates ≡ [] → AllByRecursion P (hear_quiet hub).fates
+quiet_are P timed_out unsent hub none = quiet_cases (λ (h : Hub). AllByRecursion P h.fates) hub
     (λ _. none_of _ hub.fates none)
-    (λ _. AllByRecursion-append (IsHandedFate t) _ _
-    (time_outs_are (IsHandedFate t) (λ tag place rounds. tt) hub.rounds hub.sent hub.open_places hub.fates
-    (none_of _ hub.fates none))
-    (all_unsent (IsHandedFate t) hub.queue (λ tag. tt)))
+    (λ _. AllByRecursion-append P _ _
+    (time_outs_are P timed_out hub.rounds hub.sent hub.open_places hub.fates (none_of _ hub.fates none))
+    (all_unsent P hub.queue unsent))
+
+quiet_fates : (t : Telling) (hub : Hub) → hub.fates ≡ [] → AllByRecursion (IsHandedFate t) (hear_quiet hub).fates
+quiet_fates t hub none = quiet_are (IsHandedFate t) (λ tag place rounds. tt) (λ tag. tt) hub none
 
 -- no late answer comes of it
 pub quiet_lates : (hub : Hub) → (hear_quiet hub).lates ≡ hub.lates

@@ -7,7 +7,7 @@ use Rattle.ipb_base.specs.Faults.{Rose}
 use Rattle.world_model.specs.declared.offered.Offered.{Offered}
 use Rattle.world_model.specs.declared.offered.OpenPlace.{OpenPlace}
 use Rattle.world_model.specs.Hub.{Hub, is_waiting, some_queued, some_waited}
-use Rattle.world_core.specs.Telling.{Telling}
+use Rattle.world_core.specs.Telling.{IfTelling, Telling}
 use Rattle.lane_record.specs.declared.outcome.Outcome.{Outcome}
 use Rattle.lane_record.specs.declared.item.Item.{Item}
 use Rattle.lane_record.specs.Claims.{Claim, claim_in, claims, claims_behind}
@@ -19,9 +19,11 @@ use Rattle.lane_record.proofs.Asks.{apart}
 use Rattle.lane_record.proofs.Lookups.{and_true, first_or, found_below, if_some}
 use Rattle.hub_lane.specs.declared.answers.Pumped.{Pumped}
 use Rattle.hub_lane.specs.declared.answers.Pumped.TheVariants.{Reply, Status, Stray, Quiet, Idle, LinkDown}
-use Rattle.hub_lane.specs.Calls.{GoesDown, IsSameRecord, PumpsAs, WasAsked}
-use Rattle.hub_lane.specs.Hearing.{gots_of, quiets_of}
+use Rattle.hub_lane.specs.Calls.{GoesDown, IsSameRecord, PumpsAs, TakesNothing, WasAsked}
+use Rattle.hub_lane.specs.Carrying.{Pumping}
+use Rattle.hub_lane.specs.Hearing.{HasReceivedOnce, gots_of, quiets_of}
 use Rattle.hub_lane.specs.Lanes.{LaneState}
+use Rattle.hub_lane.specs.Step.{IsPump, PumpsOnce}
 use Rattle.lane_tables.specs.Taken.{IsOldest}
 
 -- ---- an asked body has its Ask
@@ -150,3 +152,33 @@ same_record {L} old new e = record {
   lates = λ place words there. ap (λ (l : LaneState L). late_in l.lates place) e ∙ there;
   give_ups = let same = ap (λ (l : LaneState L). l.give_ups) e in omega (arith, same);
 }
+
+-- ---- one pump
+
+pub one_pump : {L : Type 0} (telling : L → Option Telling) (receives : L → List (Option (List ℕ)))
+    (old before new : LaneState L) (came_to : Pumped) (client seq : ℕ) → IsOldest old.items client seq → TakesNothing old client seq before
+    → PumpsAs before (telling new.link) new came_to
+    → IfTelling (telling before.link) (telling new.link) (Pumping came_to before.hub new.hub)
+    → HasReceivedOnce came_to (receives before.link) (receives new.link) → PumpsOnce telling receives old client new
+one_pump {L} telling receives old before new came_to client seq oldest nothing became carried received = record {
+  first = record {
+    seq = seq;
+    oldest = oldest;
+    none_yet = record {
+      number = nothing.number;
+      untaken = nothing.untaken;
+      none_yet = nothing.none_yet;
+      same = refl;
+    };
+  };
+  came_to = came_to;
+  pump = subst (λ (lane : LaneState L). IsPump telling receives lane came_to new) nothing.same
+      (record { became = became; carried = carried; received = received });
+}
+
+-- a pump adds no entry
+pub oldest_still : {L : Type 0} (old before new : LaneState L) (client seq : ℕ) → IsOldest old.items client seq
+    → TakesNothing old client seq before → IsSameRecord before new → IsOldest new.items client seq
+oldest_still {L} old before new client seq oldest nothing same =
+    subst (λ (items : List Item). IsOldest items client seq)
+    (sym (same.items ∙ ap (λ (lane : LaneState L). lane.items) nothing.same)) oldest

@@ -24,6 +24,7 @@ use Rattle.world_model.proofs.Flushing.{send_cases}
 use Rattle.reliable_engine.specs.Answers.{hub_next}
 use Rattle.world_model.specs.Settings.{Limits}
 use Rattle.world_core.specs.States.{IsReached, world_of_both}
+use Rattle.world_core.specs.Receives.{since_status}
 use Rattle.world_core.specs.Telling.{Telling}
 use Rattle.lane_record.specs.declared.outcome.Outcome.{Outcome}
 use Rattle.lane_record.specs.declared.outcome.Outcome.TheVariants as became
@@ -35,6 +36,7 @@ use Rattle.lane_record.specs.FirstSends.{bodies_sent, first_sends, places_of}
 use Rattle.lane_record.specs.Offers.{Agrees, WasHandedOut}
 use Rattle.lane_record.specs.Outcomes.{AreSettled}
 use Rattle.lane_record.specs.Bounds.{AreLostOnlyIf, HasReached, TellRounds}
+use Rattle.hub_lane.specs.Heard.{AreHeard, HasListened}
 use Rattle.hub_lane.specs.Lanes.{BoardStatus, IsLane}
 use Rattle.hub_lane.specs.Standing.{IsHandedFate, IsHandedLate, IsRunning, IsStanding}
 use Rattle.hub_lane.specs.Truth.{AreRightLates, HasEachLate, IsTrueTo, IsWhole}
@@ -236,7 +238,7 @@ told_each (Some t) P leads = leads t refl
 
 pub whole : (settings : Limits) (status : BoardStatus) (hub : Hub) (items : List Item)
     (outcomes : List (Option Outcome)) (lates : List (Option (List ℕ))) (give_ups : ℕ) (down spent : Bool)
-    (telling : Option Telling) (faults quiets : ℕ)
+    (telling : Option Telling) (faults quiets : ℕ) (receives : List (Option (List ℕ)))
     → ((xs : List Item) (os : List (Option Outcome)) → IsLegal xs os → IsFinished xs → os ≡ taken xs)
     → ((xs : List Item) (os : List (Option Outcome)) → IsLegal xs os → IsFinished xs
     → CountsFrom 1 (places_of (first_sends xs)))
@@ -248,9 +250,10 @@ pub whole : (settings : Limits) (status : BoardStatus) (hub : Hub) (items : List
     → ((t : Telling) → telling ≡ Some t → (spent ≡ false) ⊎ AreSettled outcomes → HasEachLate t outcomes lates)
     → IsFinished items
     → IsLane settings status hub items outcomes lates give_ups down spent telling faults quiets
-    → IsWhole items lates hub.sent hub.window hub.rounds give_ups faults quiets telling
-whole settings status hub items outcomes lates give_ups down spent telling faults quiets all_taken places sent true_to
-    each_late finished is =
+    → HasListened status hub outcomes lates give_ups receives
+    → IsWhole items lates hub.sent hub.window hub.rounds give_ups faults quiets status receives telling
+whole settings status hub items outcomes lates give_ups down spent telling faults quiets receives all_taken places sent
+    true_to each_late finished is listened =
     let same = all_taken items outcomes is.kept.legal finished in
     let bodies = sent items outcomes hub.sent _ _ is.kept.legal finished is.agrees in
     record {
@@ -260,6 +263,10 @@ whole settings status hub items outcomes lates give_ups down spent telling fault
       within = is.kept.within;
       few = (let h = is.kept.few in rw (← same) h);
       waited = less_waited ((hub.rounds + 1) * give_ups) hub.status_requests quiets is.waited;
+      greeting = listened.greeting;
+      heard = subst (λ (os : List (Option Outcome)). AreHeard status.next os lates (since_status receives)) same
+          listened.heard;
+      waited_since = (let w = listened.waited in omega (arith, w));
       lost = subst (AreLostOnlyIf (1 ≤ faults)) same (still_lost (down ≡ true) (1 ≤ faults) outcomes is.fault is.lost);
       tells = subst (λ (r : ℕ). TellRounds r (taken items)) (sym is.knows.rounds)
           (subst (TellRounds settings.rounds) same is.tells);

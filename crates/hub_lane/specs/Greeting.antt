@@ -1,11 +1,16 @@
 -- The greeting of a board: it is asked for its status, round by round, until it tells it. IPbus 2.0, status packet; the
 -- rounds are the profile's.
-use Rattle.std.specs.Prelude.{◌≡◌, ℕ, ◌+◌, ◌*◌, ◌<◌, ◌≤◌, length, Option, Some, None}
+use Rattle.std.specs.Prelude.{◌≡◌, ℕ, ◌+◌, ◌*◌, ◌<◌, ◌≤◌, Bool, false, List, [], count_by, length, Option, Some, None}
 use Rattle.std.specs.List.{Contains}
 use Rattle.ipb_base.specs.Faults.{Rose, one_more}
 use Rattle.status_packet.specs.declared.status.Status.{Status}
+use Rattle.world_model.specs.declared.datagram.Datagram.{Datagram}
+use Rattle.world_model.specs.declared.datagram.Direction.TheVariants.{ToBoard}
+use Rattle.world_model.specs.Air.{goes_to}
+use Rattle.world_model.specs.Messages.{ToHub, StatusReply}
 use Rattle.world_model.specs.Facts.{IsStart}
 use Rattle.world_model.specs.Settings.{Limits}
+use Rattle.world_core.specs.Receives.{tells_status}
 use Rattle.world_core.specs.Telling.{Telling}
 use Rattle.hub_lane.specs.declared.greeting.Answer.{Answer}
 use Rattle.hub_lane.specs.declared.greeting.Answer.TheVariants as answer
@@ -31,12 +36,28 @@ pub record IsExpecting (t : Telling) : Type 0 where
   pub due : Contains t.due place
   pub there : place < length t.told.air
 
--- no call of the link was counted yet
-pub record IsUnused (faults quiets gots held : ℕ) : Type 0 where
+-- no call of the link was counted yet, and nothing was received
+pub record IsUnused (faults quiets gots held : ℕ) (receives : List (Option (List ℕ))) : Type 0 where
   pub no_faults : faults ≡ 0
   pub no_quiets : quiets ≡ 0
   pub no_gots : gots ≡ 0
   pub none_held : held ≡ 0
+  pub none_received : receives ≡ []
+
+-- how many datagrams of the air are for the board
+abbrev pub is_for_board : Datagram → Bool
+is_for_board datagram = goes_to ToBoard datagram.direction
+
+abbrev pub requests_in : Telling → ℕ
+requests_in t = count_by is_for_board t.told.air
+
+-- as many as before
+abbrev pub HasAskedNothing : Telling → Telling → Type 0
+HasAskedNothing old new = requests_in new ≡ requests_in old
+
+-- so many more, or fewer
+abbrev pub HasAskedAtMost : ℕ → Telling → Telling → Type 0
+HasAskedAtMost most old new = requests_in new ≤ requests_in old + most
 
 -- ---- one receive
 
@@ -51,6 +72,18 @@ abbrev pub IfTold : Answer → (Status → Type 0) → Type 0
 IfTold (answer.Told status) holds = holds status
 IfTold answer.Nothing holds = Unit {0}
 IfTold answer.Other holds = Unit {0}
+
+-- what a datagram says to a hub, where a receive of a greeting came to this
+abbrev pub IsSaid : Option ToHub → Answer → Type 0
+IsSaid said (answer.Told status) = said ≡ Some (StatusReply status.mtu status.buffers status.next)
+IsSaid said answer.Nothing = ⊥
+IsSaid said answer.Other = tells_status said ≡ false
+
+-- the status that was told
+abbrev pub status_in : Answer → Option Status
+status_in (answer.Told status) = Some status
+status_in answer.Nothing = None
+status_in answer.Other = None
 
 abbrev pub IsDatagram : Answer → Type 0
 IsDatagram (answer.Told status) = Unit {0}

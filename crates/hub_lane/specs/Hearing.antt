@@ -1,5 +1,5 @@
 -- What a hub makes of a receive. IPbus 2.0, reliability mechanism.
-use Rattle.std.specs.Prelude.{◌≡◌, ℕ, ◌+◌, if◌then◌else◌, List, [], Option, Some}
+use Rattle.std.specs.Prelude.{◌≡◌, ℕ, ◌+◌, if◌then◌else◌, List, [], ◌∷◌, ◌++◌, Option, Some, None}
 use Rattle.world_model.specs.Messages.{ToHub, StatusReply, Reply as ReplyTo, to_hub}
 use Rattle.world_model.specs.Hub.{Hub, hear_quiet, is_waiting, take_message}
 use Rattle.packet_ids.specs.Identifier.{identifier_at}
@@ -84,6 +84,20 @@ gots_of Stray count = one_more count
 gots_of Quiet count = count
 gots_of Idle count = count
 gots_of LinkDown count = count
+
+-- what the receives came to, after a pump that came to this and left these bytes in its buffer
+abbrev pub receives_of : Pumped → List ℕ → List (Option (List ℕ)) → List (Option (List ℕ))
+receives_of (Reply place) bytes before = before ++ Some bytes ∷ []
+receives_of Status bytes before = before ++ Some bytes ∷ []
+receives_of Stray bytes before = before ++ Some bytes ∷ []
+receives_of Quiet bytes before = before ++ None ∷ []
+receives_of Idle bytes before = before
+receives_of LinkDown bytes before = before
+
+-- so one datagram was received, or a receive was quiet, or nothing was received
+pub record HasReceivedOnce (came_to : Pumped) (before now : List (Option (List ℕ))) : Type 0 where
+  pub bytes : List ℕ
+  pub receives : now ≡ receives_of came_to bytes before
 
 -- how often the hub gave up, after a quiet receive that left it so
 abbrev pub give_ups_after : Hub → ℕ → ℕ

@@ -6,6 +6,7 @@ use Rattle.world_model.specs.declared.offered.Offered.{Offered}
 use Rattle.world_model.specs.Places.{at_place}
 use Rattle.world_model.specs.Board.{executed, replies}
 use Rattle.world_model.specs.Facts.{bodies_of}
+use Rattle.world_core.specs.Receives.{first_status, quiets_in, since_status}
 use Rattle.world_core.specs.Telling.{Telling}
 use Rattle.lane_record.specs.declared.outcome.Outcome.{Outcome}
 use Rattle.lane_record.specs.declared.outcome.Outcome.TheVariants.{Replied, TimedOut}
@@ -16,6 +17,8 @@ use Rattle.lane_record.specs.Claims.{taken}
 use Rattle.lane_record.specs.Legal.{IsLegal}
 use Rattle.lane_record.specs.FirstSends.{bodies_sent, first_sends, places_of}
 use Rattle.lane_record.specs.Bounds.{AreLostOnlyIf, AreWithin, HasReached, TellRounds, timeouts}
+use Rattle.hub_lane.specs.Heard.{AreHeard, told_by}
+use Rattle.hub_lane.specs.Lanes.{BoardStatus}
 use Rattle.hub_lane.specs.Standing.{WasHanded}
 
 -- These outcomes have, for each body that was replied, the words that the board gives at its place: those of a bus with
@@ -52,15 +55,21 @@ HasEachLate t outcomes lates = (k place rounds : ℕ) (words : List ℕ)
 -- What a lane's record says where each Ask has its Took: it is legal; its first sends have the places 1, 2, 3, .. and
 -- are the bodies that the hub sent; what was timed out, and the quiet receives that each give-up took, are within the
 -- bounds; a body is lost only where the link failed, and one that was timed out tells the rounds of the hub; and over a
--- link that tells the record is true, and so is what came late, which is all that was handed out so.
+-- link that tells the record is true, and so is what came late, which is all that was handed out so. Over any link the
+-- greeting ended with the first datagram that told a status, which is this one, and behind it stand the replies with
+-- the words that were taken or came late, and the quiet receives that the give-ups took.
 pub record IsWhole (items : List Item) (lates : List (Option (List ℕ))) (sent : List Offered)
-    (window rounds give_ups faults quiets : ℕ) (telling : Option Telling) : Type 0 where
+    (window rounds give_ups faults quiets : ℕ) (status : BoardStatus) (receives : List (Option (List ℕ)))
+    (telling : Option Telling) : Type 0 where
   pub legal : IsLegal items (taken items)
   pub places : CountsFrom 1 (places_of (first_sends items))
   pub bodies : bodies_of sent ≡ bodies_sent (first_sends items)
   pub within : AreWithin give_ups items
   pub few : timeouts (taken items) ≤ window * give_ups
   pub waited : HasReached ((rounds + 1) * give_ups) quiets
+  pub greeting : first_status receives ≡ Some (told_by status)
+  pub heard : AreHeard status.next (taken items) lates (since_status receives)
+  pub waited_since : (rounds + 1) * give_ups ≤ quiets_in (since_status receives)
   pub lost : AreLostOnlyIf (1 ≤ faults) (taken items)
   pub tells : TellRounds rounds (taken items)
   pub truth : IfSome telling (λ t. IsTrueTo t (bodies_sent (first_sends items)) (taken items) lates)

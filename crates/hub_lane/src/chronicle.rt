@@ -48,9 +48,11 @@ impl<L: Link> Lane<L> {
     pub fn is_whole(&self)
         requires { IsFinished self.now.items }
         ensures { IsWhole self.now.items self.now.lates self.now.hub.sent self.now.hub.window self.now.hub.rounds
-            self.now.give_ups (L.faults self.now.link) (L.quiets self.now.link) (L.telling self.now.link) }
+            self.now.give_ups (L.faults self.now.link) (L.quiets self.now.link) self.now.status
+            (L.receives self.now.link) (L.telling self.now.link) }
     {
         a_finished_lane_is_whole();
         self.is_sound();
+        self.has_listened();
     }
 }

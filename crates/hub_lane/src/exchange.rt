@@ -1,8 +1,9 @@
 //! A hub over any link: what it sends, what it hears, and what that settles.
 
 ghost use Rattle.std.specs.Prelude.{◌≡◌, ◌≤◌, ◌<◌, ◌+◌, ◌^◌, ℕ, [], true, None, Some, length, OnOk, OnErr, IfOk};
-ghost use Rattle.std.specs.Prelude.{IfSome, Err};
+ghost use Rattle.std.specs.Prelude.{IfSome, Err, ◌≢◌};
 ghost use Rattle.ipb_base.specs.Faults.{Rose};
+ghost use Rattle.ipb_base.specs.Lists.{IsPrefix};
 ghost use Rattle.packet_ids.specs.Identifier.{identifier_at};
 ghost use Rattle.reliable_engine.specs.Answers.{body_count};
 ghost use Rattle.world_model.specs.Messages.{Reply as ReplyTo, StatusReply, to_hub};
@@ -18,6 +19,7 @@ ghost use Rattle.world_core.specs.Messages.{IsWritable};
 ghost use Rattle.world_core.specs.Telling.{IfTelling};
 ghost use Rattle.hub_lane.specs.Carrying.{Brings, Carries, HasPut};
 ghost use Rattle.hub_lane.specs.Hearing.{IsEventAs, IsHeardAs, WasReceived, give_ups_of, gots_of, hub_after, quiets_of};
+ghost use Rattle.hub_lane.specs.Hearing.{receives_of};
 ghost use Rattle.hub_lane.specs.Sends.{HasSent, all_sent};
 ghost use Rattle.hub_lane.specs.Rounds.{PaysFor, PaysOn, PaysRounds, Pumps, RoundFor, Sends};
 ghost use Rattle.hub_lane.specs.Standing.{GoesOn, IsRunning, StaysUnanswered, Stops};
@@ -84,6 +86,8 @@ pub(crate) fn exchange<L: Link>(
     ensures same_give_ups { OnErr result (give_ups.new ≡ give_ups.old) }
     ensures stopped { OnErr result (Stops (L.telling link.old) hub.old (L.telling link.new) hub.new) }
     ensures failed { result ≡ Err LinkFault.Failed → Rose (L.faults link.old) (L.faults link.new) }
+    ensures unfaulted { IfSome (L.telling link.old) (λ _.
+        result ≢ Err LinkFault.Failed → L.faults link.new ≡ L.faults link.old) }
     ensures failed_unanswered { result ≡ Err LinkFault.Failed
         → StaysUnanswered (L.telling link.old) hub.old (L.telling link.new) hub.new }
     ensures faults { L.faults link.old ≤ L.faults link.new }
@@ -91,8 +95,12 @@ pub(crate) fn exchange<L: Link>(
     ensures quiets_rise { L.quiets link.old ≤ L.quiets link.new }
     ensures gots { IfOk result (λ pumped. L.gots link.new ≡ gots_of pumped (L.gots link.old)) }
     ensures gots_rise { L.gots link.old ≤ L.gots link.new }
+    ensures receives { IfOk result (λ pumped.
+        L.receives link.new ≡ receives_of pumped buffer.new.items (L.receives link.old)) }
+    ensures receives_grow { IsPrefix (L.receives link.old) (L.receives link.new) }
     ensures failed_quiets { result ≡ Err LinkFault.Failed → L.quiets link.new ≡ L.quiets link.old }
     ensures failed_gots { result ≡ Err LinkFault.Failed → L.gots link.new ≡ L.gots link.old }
+    ensures failed_receives { result ≡ Err LinkFault.Failed → L.receives link.new ≡ L.receives link.old }
     ensures held { L.held link.old ≤ L.held link.new }
     ensures board { board_of (L.telling link.new) ≡ board_of (L.telling link.old) }
     ensures carries { IfOk result (λ pumped. IfTelling (L.telling link.old) (L.telling link.new)
@@ -127,9 +135,12 @@ pub(crate) fn send_all<L: Link>(
         (RoundFor Sends (L.telling link.old) hub.old (L.held link.old) (L.telling link.new) hub.new (L.held link.new)) }
     ensures stopped { OnErr result (Stops (L.telling link.old) hub.old (L.telling link.new) hub.new) }
     ensures failed { result ≡ Err LinkFault.Failed → Rose (L.faults link.old) (L.faults link.new) }
+    ensures unfaulted { IfSome (L.telling link.old) (λ _.
+        result ≢ Err LinkFault.Failed → L.faults link.new ≡ L.faults link.old) }
     ensures faults { L.faults link.old ≤ L.faults link.new }
     ensures quiets { L.quiets link.new ≡ L.quiets link.old }
     ensures gots { L.gots link.new ≡ L.gots link.old }
+    ensures receives { L.receives link.new ≡ L.receives link.old }
     ensures held { L.held link.old ≤ L.held link.new }
     ensures board { board_of (L.telling link.new) ≡ board_of (L.telling link.old) }
     ensures put { OnOk result (IfTelling (L.telling link.old) (L.telling link.new) (HasPut hub.old hub.new)) }
@@ -187,6 +198,8 @@ fn receive<L: Link>(
     ensures round { IfOk result (λ pumped. RoundFor (Pumps pumped) (L.telling link.old) hub.old (L.held link.old)
         (L.telling link.new) hub.new (L.held link.new)) }
     ensures failed { result ≡ Err LinkFault.Failed → Rose (L.faults link.old) (L.faults link.new) }
+    ensures unfaulted { IfSome (L.telling link.old) (λ _.
+        result ≢ Err LinkFault.Failed → L.faults link.new ≡ L.faults link.old) }
     ensures failed_unanswered { result ≡ Err LinkFault.Failed
         → StaysUnanswered (L.telling link.old) hub.old (L.telling link.new) hub.new }
     ensures faults { L.faults link.old ≤ L.faults link.new }
@@ -194,8 +207,12 @@ fn receive<L: Link>(
     ensures quiets_rise { L.quiets link.old ≤ L.quiets link.new }
     ensures gots { IfOk result (λ pumped. L.gots link.new ≡ gots_of pumped (L.gots link.old)) }
     ensures gots_rise { L.gots link.old ≤ L.gots link.new }
+    ensures receives { IfOk result (λ pumped.
+        L.receives link.new ≡ receives_of pumped buffer.new.items (L.receives link.old)) }
+    ensures receives_grow { IsPrefix (L.receives link.old) (L.receives link.new) }
     ensures failed_quiets { result ≡ Err LinkFault.Failed → L.quiets link.new ≡ L.quiets link.old }
     ensures failed_gots { result ≡ Err LinkFault.Failed → L.gots link.new ≡ L.gots link.old }
+    ensures failed_receives { result ≡ Err LinkFault.Failed → L.receives link.new ≡ L.receives link.old }
     ensures held { L.held link.old ≤ L.held link.new }
     ensures board { board_of (L.telling link.new) ≡ board_of (L.telling link.old) }
     ensures brings { IfOk result (λ pumped. IfTelling (L.telling link.old) (L.telling link.new)

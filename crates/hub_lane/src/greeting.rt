@@ -1,7 +1,9 @@
 //! The greeting of a board: its link is asked for its status, round by round, until the board tells it.
 
-ghost use Rattle.std.specs.Prelude.{◌≡◌, ◌≤◌, ◌+◌, ◌*◌, ℕ, IfSome, IfOk, OnErr, Err};
+ghost use Rattle.std.specs.Prelude.{◌≡◌, ◌≤◌, ◌+◌, ◌*◌, ℕ, None, IfSome, IfOk, OnErr, Err};
 ghost use Rattle.ipb_base.specs.Faults.{Rose};
+ghost use Rattle.world_model.specs.Messages.{to_hub};
+ghost use Rattle.world_core.specs.Receives.{first_status};
 ghost use Rattle.world_core.specs.Telling.{IfTelling};
 ghost use Rattle.packet_ids.specs.Identifier.{IsIdentifier};
 ghost use Rattle.status_packet.specs.Range.{IsBufferCount, IsMtu};
@@ -9,7 +11,9 @@ ghost use Rattle.status_packet.specs.StatusBytes.{IsStatusReply};
 ghost use Rattle.hub_lane.specs.Greeting.{CanBegin, EndsAskingWith, EndsGreetingWith, EndsRoundWith, IfDown, IfNotTold};
 ghost use Rattle.hub_lane.specs.Greeting.{IfReady, IfSilent, IfTold, IsCounted, IsDatagram, IsHeardFrom, IsTold};
 ghost use Rattle.hub_lane.specs.Greeting.{HandedOutNone, IfNothing, IsUnused, StaysFresh, gots_of_answer, link_of};
-ghost use Rattle.hub_lane.specs.Greeting.{most_others, quiets_of_answer};
+ghost use Rattle.hub_lane.specs.Greeting.{HasAskedAtMost, HasAskedNothing};
+ghost use Rattle.hub_lane.specs.Greeting.{IsSaid, most_others, quiets_of_answer, status_in};
+ghost use Rattle.hub_lane.specs.Heard.{EndWith, EndsWithStatus};
 ghost use Rattle.hub_lane.specs.Lanes.{IsGreeted, opened, status_of};
 
 use crate::lane::Lane;
@@ -19,6 +23,7 @@ use status_packet::{Status, read_status_reply, write_status_request};
 use std::alloc::Global;
 use world_core::{Link, LinkFault, Received};
 use world_model::laws::links::{a_greeting_goes_on, a_link_forgets_nothing};
+use world_model::laws::reading::what_a_hub_reads;
 
 /// After so many datagrams that tell no status a round of a greeting ends (profile).
 pub const MOST_OTHERS: usize = 64;
@@ -50,13 +55,16 @@ pub(crate) enum Answer {
 impl<L: Link> Lane<L> {
     /// Greets the board of a link that was not used yet: asks for its status and receives until it is told, a receive
     /// is quiet or `MOST_OTHERS` other datagrams came, and so again, at most as many rounds as the settings say. After
-    /// any answer a board that the link tells has executed nothing.
+    /// any answer a board that the link tells has executed nothing. The lane begins right behind the first datagram
+    /// that tells a status, and no board is called silent that told one.
     pub fn greet(alloc: Global, link: L, settings: Settings) -> Greeted<L>
-        requires unused { IsUnused (L.faults link) (L.quiets link) (L.gots link) (L.held link) }
+        requires unused { IsUnused (L.faults link) (L.quiets link) (L.gots link) (L.held link) (L.receives link) }
         requires begins { IfSome (L.telling link) (CanBegin settings) }
         ensures fresh { IfTelling (L.telling link) (L.telling (link_of result)) (StaysFresh settings) }
         ensures ready { IfReady result (λ lane. lane ≡ opened lane.link settings lane.status) }
         ensures told { IfReady result (λ lane. IfSome (L.telling lane.link) (IsGreeted settings lane.status)) }
+        ensures first { IfReady result (λ lane. EndsWithStatus lane.status (L.receives lane.link)) }
+        ensures none_told { IfSilent result (λ link rounds. first_status (L.receives link) ≡ None) }
         ensures silent { IfSilent result (λ link rounds. (rounds ≡ settings.rounds)
             × (most_others * settings.rounds ≤ most_others * L.quiets link + L.gots link)) }
         ensures silent_told { IfSilent result (λ link rounds. IfSome (L.telling link)
@@ -64,6 +72,9 @@ impl<L: Link> Lane<L> {
         // All that a link that tells hands out in a greeting are status replies of its board.
         ensures silent_heard { IfSilent result (λ after rounds.
             IfTelling (L.telling link) (L.telling after) HandedOutNone) }
+        // The board is asked once a round: for each quiet receive, and once more.
+        ensures asked { IfTelling (L.telling link) (L.telling (link_of result))
+            (HasAskedAtMost (L.quiets (link_of result) + 1)) }
         ensures heard { IfReady result (λ lane. 1 ≤ L.gots lane.link) }
         ensures most_quiets { L.quiets (link_of result) ≤ settings.rounds }
         ensures most_gots { L.gots (link_of result) ≤ most_others * settings.rounds }
@@ -88,6 +99,7 @@ impl<L: Link> Lane<L> {
 fn begin<L: Link>(alloc: Global, link: L, settings: Settings, status: Status) -> Greeted<L>
     requires greeted { IfSome (L.telling link) (IsGreeted settings (status_of status)) }
     requires heard { 1 ≤ L.gots link }
+    requires first { EndsWithStatus (status_of status) (L.receives link) }
     ensures same { link_of result ≡ link }
     ensures ready { IfReady result (λ lane. lane ≡ opened link settings (status_of status)) }
     ensures silent { IfSilent result (λ link rounds. ⊥) }
@@ -105,7 +117,8 @@ fn ask_for_status<L: Link>(
     buffer: &mut Vec<u8>,
     settings: Settings,
 ) -> Result<Option<Status>, LinkFault>
-    requires unused { IsUnused (L.faults link.old) (L.quiets link.old) (L.gots link.old) (L.held link.old) }
+    requires unused { IsUnused (L.faults link.old) (L.quiets link.old) (L.gots link.old) (L.held link.old)
+        (L.receives link.old) }
     requires begins { IfSome (L.telling link.old) (CanBegin settings) }
     ensures fresh { IfTelling (L.telling link.old) (L.telling link.new) (StaysFresh settings) }
     ensures told { IfOk result (λ found. IfSome (L.telling link.new)
@@ -115,6 +128,9 @@ fn ask_for_status<L: Link>(
     ensures handed { IfOk result (λ found. IfNotTold found
         (IfTelling (L.telling link.old) (L.telling link.new) HandedOutNone)) }
     ensures heard { IfOk result (λ found. IfSome found (λ _. 1 ≤ L.gots link.new)) }
+    ensures receives { IfOk result (λ found. EndWith found (L.receives link.new)) }
+    ensures asked { IfTelling (L.telling link.old) (L.telling link.new)
+        (HasAskedAtMost (L.quiets link.new + 1)) }
     ensures most_quiets { L.quiets link.new ≤ settings.rounds }
     ensures most_gots { L.gots link.new ≤ most_others * settings.rounds }
     ensures failed { result ≡ Err LinkFault.Failed → Rose (L.faults link.old) (L.faults link.new) }
@@ -136,8 +152,10 @@ fn ask_once<L: Link>(
 ) -> Result<Option<Status>, LinkFault>
     requires few_quiets { L.quiets link.old ≤ 255 }
     requires few_gots { L.gots link.old ≤ most_others * 255 }
+    requires untold { first_status (L.receives link.old) ≡ None }
     requires begins { IfSome (L.telling link.old) (CanBegin settings) }
     ensures fresh { IfTelling (L.telling link.old) (L.telling link.new) (StaysFresh settings) }
+    ensures asked { IfTelling (L.telling link.old) (L.telling link.new) (HasAskedAtMost 1) }
     ensures told { IfOk result (λ found. IfTelling (L.telling link.old) (L.telling link.new)
         (EndsAskingWith settings (L.quiets link.old) (L.quiets link.new) (L.held link.old) (L.held link.new) found)) }
     ensures counted { IfOk result (λ found. IfNotTold found
@@ -145,6 +163,7 @@ fn ask_once<L: Link>(
     ensures handed { IfOk result (λ found. IfNotTold found
         (IfTelling (L.telling link.old) (L.telling link.new) HandedOutNone)) }
     ensures heard { IfOk result (λ found. IfSome found (λ _. L.gots link.old + 1 ≤ L.gots link.new)) }
+    ensures receives { IfOk result (λ found. EndWith found (L.receives link.new)) }
     ensures quiets { L.quiets link.new ≤ L.quiets link.old + 1 }
     ensures quiets_rise { L.quiets link.old ≤ L.quiets link.new }
     ensures gots { L.gots link.new ≤ L.gots link.old + most_others }
@@ -167,8 +186,10 @@ fn listen<L: Link>(
 ) -> Result<Option<Status>, LinkFault>
     requires few_quiets { L.quiets link.old ≤ 255 }
     requires few_gots { L.gots link.old ≤ most_others * 255 }
+    requires untold { first_status (L.receives link.old) ≡ None }
     requires begins { IfSome (L.telling link.old) (CanBegin settings) }
     ensures fresh { IfTelling (L.telling link.old) (L.telling link.new) (StaysFresh settings) }
+    ensures asked { IfTelling (L.telling link.old) (L.telling link.new) HasAskedNothing }
     ensures told { IfOk result (λ found. IfTelling (L.telling link.old) (L.telling link.new)
         (EndsRoundWith settings (L.quiets link.old) (L.quiets link.new) (L.held link.old) (L.held link.new) found)) }
     ensures counted { IfOk result (λ found. IfNotTold found
@@ -176,6 +197,7 @@ fn listen<L: Link>(
     ensures handed { IfOk result (λ found. IfNotTold found
         (IfTelling (L.telling link.old) (L.telling link.new) HandedOutNone)) }
     ensures heard { IfOk result (λ found. IfSome found (λ _. L.gots link.old + 1 ≤ L.gots link.new)) }
+    ensures receives { IfOk result (λ found. EndWith found (L.receives link.new)) }
     ensures quiets { L.quiets link.new ≤ L.quiets link.old + 1 }
     ensures quiets_rise { L.quiets link.old ≤ L.quiets link.new }
     ensures gots { L.gots link.new ≤ L.gots link.old + most_others }
@@ -201,7 +223,10 @@ fn hear_once<L: Link>(
     settings: Settings,
 ) -> Result<Answer, LinkFault>
     requires begins { IfSome (L.telling link.old) (CanBegin settings) }
+    requires untold { first_status (L.receives link.old) ≡ None }
     ensures fresh { IfTelling (L.telling link.old) (L.telling link.new) (StaysFresh settings) }
+    ensures asked { IfTelling (L.telling link.old) (L.telling link.new) HasAskedNothing }
+    ensures receives { IfOk result (λ heard. EndWith (status_in heard) (L.receives link.new)) }
     ensures told { IfOk result (λ heard. IfTelling (L.telling link.old) (L.telling link.new)
         (IsHeardFrom settings (L.held link.old) (L.held link.new) heard)) }
     ensures quiets { IfOk result (λ heard. L.quiets link.new ≡ quiets_of_answer heard (L.quiets link.old)) }
@@ -226,12 +251,17 @@ fn hear_once<L: Link>(
 /// What a datagram tells.
 fn tell(bytes: &[u8]) -> Answer
     ensures datagram { IsDatagram result }
+    ensures said { IsSaid (to_hub bytes.now) result }
     ensures found { IfTold result (λ status. IsStatusReply bytes.now status.mtu status.buffers status.next) }
     ensures only { (mtu buffers next : ℕ) → IsMtu mtu → IsBufferCount buffers → IsIdentifier next
         → IsStatusReply bytes.now mtu buffers next → IsTold mtu buffers next result }
 {
+    what_a_hub_reads();
     match read_status_reply(bytes) {
-        Ok(status) => Answer::Told(status),
+        Ok(status) => {
+            let _next = status.next.get();
+            Answer::Told(status)
+        }
         Err(_bad) => Answer::Other,
     }
 }

@@ -14,8 +14,8 @@ ghost use Rattle.world_model.specs.Hub.{offer};
 ghost use Rattle.hub_lane.specs.Plans.{CanPlan, IsRefused, Plans};
 ghost use Rattle.world_core.specs.Telling.{IfTelling};
 ghost use Rattle.hub_lane.specs.Carrying.{HasPut, Pumping};
-ghost use Rattle.hub_lane.specs.Heard.{HasHeard};
-ghost use Rattle.hub_lane.specs.Hearing.{gots_of, quiets_of};
+ghost use Rattle.hub_lane.specs.Heard.{EndsWithStatus, HasHeard, HasListened};
+ghost use Rattle.hub_lane.specs.Hearing.{HasReceivedOnce, gots_of, quiets_of};
 ghost use Rattle.hub_lane.specs.Calls.{Asking, AsksAs, IsReplyAt, IsSameRecord, IsSpent, OffersAs, PumpsAs, SendsAs};
 ghost use Rattle.hub_lane.specs.Calls.{TakesAs, WasAsked, has_stopped};
 ghost use Rattle.hub_lane.specs.Calls.{is_lost_at_place, is_replied, sealed};
@@ -69,7 +69,7 @@ pub struct Lane<L: Link> {
 
 impl<L: Link> Model for Lane<L> {
     ghost use Rattle.std.specs.Prelude.{IfSome, ◌||◌};
-    ghost use Rattle.hub_lane.specs.Heard.{HasHeard};
+    ghost use Rattle.hub_lane.specs.Heard.{HasHeard, HasListened};
     ghost use Rattle.hub_lane.specs.Lanes.{IsLane, LaneState};
     ghost use Rattle.lane_tables.specs.OutcomeTable.{AreAskedIn};
     ghost use Rattle.hub_lane.specs.Rounds.{HasPaid};
@@ -96,7 +96,9 @@ impl<L: Link> Model for Lane<L> {
         × IfSome (L.telling l.link)
         (HasPaid (l.down || l.spent) l.mtu l.settings.rounds l.give_ups l.engine (L.held l.link))
         × HasHeard l.outcomes.items (L.gots l.link)
-        × AreAskedIn l.book.items l.outcomes.bodies };
+        × AreAskedIn l.book.items l.outcomes.bodies
+        × HasListened (record { mtu = l.mtu; buffers = l.buffers; next = l.first }) l.engine l.outcomes.items
+        l.outcomes.lates l.give_ups (L.receives l.link) };
 }
 
 impl<L: Link> Lane<L> {
@@ -127,6 +129,16 @@ impl<L: Link> Lane<L> {
         let _outcomes = &self.outcomes;
     }
 
+    /// What the receives of a lane came to, whether its link tells or not: the first status that was told ended the
+    /// greeting; behind it came the replies whose words the lane has, and the quiet receives that its give-ups cost. It
+    /// does nothing when it runs.
+    pub fn has_listened(&self)
+        ensures { HasListened self.now.status self.now.hub self.now.outcomes self.now.lates self.now.give_ups
+            (L.receives self.now.link) }
+    {
+        let _outcomes = &self.outcomes;
+    }
+
     /// The lane of a link whose board told this status in the greeting. Where memory ran out the link is given back.
     pub(crate) fn new(
         alloc: Global,
@@ -136,6 +148,7 @@ impl<L: Link> Lane<L> {
     ) -> Result<Lane<L>, L>
         requires greeted { IfSome (L.telling link) (IsGreeted settings (status_of status)) }
         requires heard { 1 ≤ L.gots link }
+        requires first { EndsWithStatus (status_of status) (L.receives link) }
         ensures made { IfOk result (λ lane. lane ≡ opened link settings (status_of status)) }
         ensures given_back { IfErr result (λ back. back ≡ link) }
     {
@@ -281,9 +294,12 @@ impl<L: Link> Lane<L> {
         ensures not_spent { OnOk result (self.old.spent ≡ false) }
         ensures down { self.new.down ≡ true → (self.old.down ≡ true)
             ⊎ Rose (L.faults self.old.link) (L.faults self.new.link) }
+        ensures up { IfSome (L.telling self.old.link) (λ _.
+            self.new.down ≡ false → L.faults self.new.link ≡ L.faults self.old.link) }
         ensures faults { L.faults self.old.link ≤ L.faults self.new.link }
         ensures quiets { L.quiets self.new.link ≡ L.quiets self.old.link }
         ensures gots { L.gots self.new.link ≡ L.gots self.old.link }
+        ensures receives { L.receives self.new.link ≡ L.receives self.old.link }
         ensures held { L.held self.old.link ≤ L.held self.new.link }
         ensures board { board_of (L.telling self.new.link) ≡ board_of (L.telling self.old.link) }
         ensures link { IfOk result (λ asked. IfTelling (L.telling self.old.link) (L.telling self.new.link)
@@ -341,9 +357,12 @@ impl<L: Link> Lane<L> {
         ensures same { IsSameRecord self.old self.new }
         ensures down { self.new.down ≡ true → (self.old.down ≡ true)
             ⊎ Rose (L.faults self.old.link) (L.faults self.new.link) }
+        ensures up { IfSome (L.telling self.old.link) (λ _.
+            self.new.down ≡ false → L.faults self.new.link ≡ L.faults self.old.link) }
         ensures faults { L.faults self.old.link ≤ L.faults self.new.link }
         ensures quiets { L.quiets self.new.link ≡ L.quiets self.old.link }
         ensures gots { L.gots self.new.link ≡ L.gots self.old.link }
+        ensures receives { L.receives self.new.link ≡ L.receives self.old.link }
         ensures held { L.held self.old.link ≤ L.held self.new.link }
         ensures board { board_of (L.telling self.new.link) ≡ board_of (L.telling self.old.link) }
         ensures link { has_stopped self.new ≡ false → IfTelling (L.telling self.old.link) (L.telling self.new.link)
@@ -384,6 +403,7 @@ impl<L: Link> Lane<L> {
         ensures faults { L.faults self.new.link ≡ L.faults self.old.link }
         ensures quiets { L.quiets self.new.link ≡ L.quiets self.old.link }
         ensures gots { L.gots self.new.link ≡ L.gots self.old.link }
+        ensures receives { L.receives self.new.link ≡ L.receives self.old.link }
         ensures held { L.held self.new.link ≡ L.held self.old.link }
     {
         self.link.waiter(self.alloc)
@@ -408,12 +428,16 @@ impl<L: Link> Lane<L> {
         ensures not_down { OnErr result ((self.old.spent ≡ true) ⊎ (self.old.down ≡ false)) }
         ensures down { IfOk result (λ _. self.new.down ≡ true → (self.old.down ≡ true)
             ⊎ Rose (L.faults self.old.link) (L.faults self.new.link)) }
+        ensures up { IfSome (L.telling self.old.link) (λ _.
+            self.new.down ≡ false → L.faults self.new.link ≡ L.faults self.old.link) }
         ensures faults { L.faults self.old.link ≤ L.faults self.new.link }
         ensures quiets { IfOk result (λ pumped.
             L.quiets self.new.link ≡ quiets_of pumped (L.quiets self.old.link)) }
         ensures quiets_rise { L.quiets self.old.link ≤ L.quiets self.new.link }
         ensures gots { IfOk result (λ pumped. L.gots self.new.link ≡ gots_of pumped (L.gots self.old.link)) }
         ensures gots_rise { L.gots self.old.link ≤ L.gots self.new.link }
+        ensures receives { IfOk result (λ pumped.
+            HasReceivedOnce pumped (L.receives self.old.link) (L.receives self.new.link)) }
         ensures held { L.held self.old.link ≤ L.held self.new.link }
         ensures board { board_of (L.telling self.new.link) ≡ board_of (L.telling self.old.link) }
         ensures link { IfOk result (λ pumped. IfTelling (L.telling self.old.link) (L.telling self.new.link)

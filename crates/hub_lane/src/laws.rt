@@ -11,6 +11,7 @@ ghost use Rattle.lane_record.specs.declared.outcome.Outcome.{Outcome};
 ghost use Rattle.lane_record.specs.Outcomes.{AreSettled};
 ghost use Rattle.hub_lane.specs.declared.greeting.TheConstants.{MOST_OTHERS};
 ghost use Rattle.hub_lane.specs.Greeting.{most_others};
+ghost use Rattle.hub_lane.specs.Heard.{HasListened};
 ghost use Rattle.hub_lane.specs.declared.answers.Pumped.TheVariants as came_to;
 ghost use Rattle.hub_lane.specs.Rounds.{AreCalls, IsCall, LaneCall, Pumps, RoundState, SettlesOne};
 ghost use Rattle.hub_lane.specs.Standing.{IsStanding};
@@ -62,9 +63,10 @@ pub fn a_timed_out_body_has_its_late_answer()
 pub fn a_finished_lane_is_whole()
     ensures { (settings : Limits) (status : BoardStatus) (hub : Hub) (items : List Item)
         (outcomes : List (Option Outcome)) (lates : List (Option (List ℕ))) (give_ups : ℕ) (down spent : Bool)
-        (telling : Option Telling) (faults quiets : ℕ) → IsFinished items
+        (telling : Option Telling) (faults quiets : ℕ) (receives : List (Option (List ℕ))) → IsFinished items
         → IsLane settings status hub items outcomes lates give_ups down spent telling faults quiets
-        → IsWhole items lates hub.sent hub.window hub.rounds give_ups faults quiets telling }
+        → HasListened status hub outcomes lates give_ups receives
+        → IsWhole items lates hub.sent hub.window hub.rounds give_ups faults quiets status receives telling }
 {
     a_finished_record_tells_all();
     a_hub_has_sent_what_a_finished_record_tells();

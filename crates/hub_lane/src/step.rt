@@ -3,7 +3,7 @@
 ghost use Rattle.std.specs.Prelude.{◌≡◌, ◌≤◌, IfOk, IfSome, IfNone, OnErr};
 ghost use Rattle.hub_lane.specs.Calls.{IsSameRecord, WasAsked};
 ghost use Rattle.hub_lane.specs.Lanes.{opening_of};
-ghost use Rattle.hub_lane.specs.Step.{LooksAs, RoseInVain, StepsAs};
+ghost use Rattle.hub_lane.specs.Step.{LooksAs, RoseInVain, StepsAs, StepsOnce};
 ghost use Rattle.lane_tables.specs.Taken.{HasTakenAll, IsOldest};
 
 use crate::answers::Taken;
@@ -64,6 +64,8 @@ impl<L: Link> Lane<L> {
     pub fn step(&mut self, client: u32) -> Result<Stepped, NoMemory>
         requires client { 1 ≤ client }
         ensures stepped { IfOk result (λ stepped. StepsAs self.old client self.new stepped) }
+        ensures once { IfOk result (λ stepped.
+            StepsOnce L.telling L.receives self.old client self.new stepped) }
         ensures same { OnErr result (IsSameRecord self.old self.new) }
         ensures received { IfOk result (λ stepped. RoseInVain stepped (L.quiets self.old.link)
             (L.quiets self.new.link) (L.gots self.old.link) (L.gots self.new.link)) }

@@ -1,6 +1,6 @@
 //! What a hub knows of a network: a link to one board.
 
-ghost use Rattle.std.specs.Prelude.{◌≡◌, ◌≤◌, ℕ, List, Option, length, OnOk, OnErr, Err};
+ghost use Rattle.std.specs.Prelude.{◌≡◌, ◌≢◌, ◌≤◌, ℕ, List, Option, length, OnOk, OnErr, Err, IfSome};
 ghost use Rattle.ipb_base.specs.Faults.{Rose};
 ghost use Rattle.world_core.specs.Telling.{gots_after, IfTelling, IsCarried, IsSent, quiets_after, Receives, Telling};
 ghost use Rattle.world_core.specs.Receives.{receives_after};
@@ -46,7 +46,8 @@ pub enum Received {
 /// Contracts see four counts, none of which falls: its faults, the receives that were quiet and those that got a
 /// datagram, and the datagrams that it lost, delayed or dropped for age. A count stands still at 2^64 - 1. They see what
 /// each receive came to, of which the program need not keep a byte. A link may tell what it carries, as a simulated one
-/// does: then contracts see its board and all datagrams ever sent too. Whether it tells never changes.
+/// does: then contracts see its board and all datagrams ever sent too, and a fault is counted only in a call that fails.
+/// Whether it tells never changes.
 pub trait Link {
     /// What it tells, where it tells: its board and its air, what is still to be heard, and what was handed out. A
     /// first send is a control packet with the identifier of the place after the last first send, and places are
@@ -76,6 +77,8 @@ pub trait Link {
             (IsSent bytes.now (held self.old) (held self.new))) }
         ensures refused { OnErr result (telling self.new ≡ telling self.old) }
         ensures failed { result ≡ Err LinkFault.Failed → Rose (faults self.old) (faults self.new) }
+        ensures unfaulted { IfSome (telling self.old) (λ _.
+            result ≢ Err LinkFault.Failed → faults self.new ≡ faults self.old) }
         ensures faults { faults self.old ≤ faults self.new }
         ensures quiets { quiets self.new ≡ quiets self.old }
         ensures gots { gots self.new ≡ gots self.old }
@@ -89,6 +92,8 @@ pub trait Link {
         ensures received { IfTelling (telling self.old) (telling self.new)
             (Receives result into.new.items (held self.old) (held self.new)) }
         ensures failed { result ≡ Err LinkFault.Failed → Rose (faults self.old) (faults self.new) }
+        ensures unfaulted { IfSome (telling self.old) (λ _.
+            result ≢ Err LinkFault.Failed → faults self.new ≡ faults self.old) }
         ensures faults { faults self.old ≤ faults self.new }
         ensures quiets { quiets self.new ≡ quiets_after result (quiets self.old) }
         ensures quiets_rise { quiets self.old ≤ quiets self.new }

@@ -4,7 +4,8 @@ use Rattle.world_core.specs.Telling.{IfTelling, IsSent}
 use Rattle.hub_lane.proofs.Sends.{all_out, next_is, none_is, one_less, same_hub, sent_more}
 use Rattle.hub_lane.specs.Carrying.{HasPut}
 use Rattle.hub_lane.proofs.Carrying.{put_more, put_none_by}
-use Rattle.hub_lane.proofs.Linked.{refused_stays, sent_board, sent_on, sent_stays, stays_here, still_spelled}
+use Rattle.hub_lane.proofs.Linked.{none_counted, refused_stays, sent_board, sent_on, sent_stays, stays_here}
+use Rattle.hub_lane.proofs.Linked.{still_spelled, still_uncounted}
 use Rattle.hub_lane.proofs.Standing.{SendLeaves}
 use Rattle.hub_lane.proofs.Rounds.{pays_sent}
 use Rattle.hub_lane.proofs.InRounds.{none_sent, round_sent, same_link}
@@ -29,8 +30,10 @@ loop-send-init g c =
       running = λ limits outcomes lates is. is;
       unanswered = stays_here c.args.hub.now telling;
       fault = omega arith;
+      unfaulted = none_counted telling (g.L.Link.faults c.args.link.now);
       quiet = refl;
       got = refl;
+      receive = refl;
       hold = omega arith;
       pays = λ limits outcomes lates mtu rounds given_up start paid. paid;
       round = none_sent c.args.hub.now (g.L.Link.held c.args.link.now) telling;
@@ -69,6 +72,9 @@ loop-send-preserved g c =
           (telling c.args.link.now) (telling before.link) (telling c.send.new.self) is before.invariant.running
           before.invariant.unanswered call;
       fault = (let a = before.invariant.fault in let b = c.send.ensures.faults in omega (arith, a, b));
+      unfaulted = still_uncounted _ (telling c.args.link.now) (telling before.link)
+          (g.L.Link.faults c.args.link.now) (g.L.Link.faults before.link) (g.L.Link.faults c.send.new.self)
+          before.invariant.board before.invariant.unfaulted c.in_ok-send.ensures.unfaulted (λ e. cc);
       pays = pays_sent c.laws_of_rounds.ensures
           c.args.hub.now old next (held c.args.link.now) (held before.link) (held c.send.new.self)
           (telling c.args.link.now) (telling before.link) (telling c.send.new.self) is c.send.ensures.held
@@ -79,6 +85,7 @@ loop-send-preserved g c =
           c.send.ensures.held before.invariant.running call before.invariant.pays before.invariant.round;
       quiet = c.send.ensures.quiets ∙ before.invariant.quiet;
       got = c.send.ensures.gots ∙ before.invariant.got;
+      receive = c.send.ensures.receives ∙ before.invariant.receive;
       board = sent_board _ _ _ _ _ call ∙ before.invariant.board;
       put = put_more c.args.hub.now old next (held before.link) (held c.send.new.self) (telling c.args.link.now)
           (telling before.link) (telling c.send.new.self) is before.invariant.put call;

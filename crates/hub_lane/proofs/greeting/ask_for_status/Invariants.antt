@@ -6,4 +6,4 @@ abbrev pub invariant-loop-round : goal.invariant-loop-round
 invariant-loop-round g l =
     let link = g.L.Link in
     IsAsking l.settings (link.telling l.fn.link) (link.telling l.link) l.round (link.quiets l.link) (link.gots l.link)
-    (link.held l.link) (link.faults l.fn.link) (link.faults l.link)
+    (link.held l.link) (link.faults l.fn.link) (link.faults l.link) (link.receives l.link)

@@ -1,6 +1,11 @@
-use Rattle.std.proofs.Common.{Ok, subst, ℕ, List}
+use Rattle.std.proofs.Common.{◌≡◌, Ok, subst, ℕ, List}
 use Rattle.world_core.specs.declared.link.Received.{Received}
 use Rattle.world_core.specs.Telling.{IfTelling, Receives}
+use Rattle.world_core.specs.Receives.{receives_after}
+use Rattle.world_model.specs.Messages.{to_hub}
+use Rattle.hub_lane.specs.Greeting.{IsSaid}
+use Rattle.hub_lane.proofs.Listened.{got_end, quiet_end}
+use Rattle.hub_lane.proofs.Requests.{receive_asks_none}
 use Rattle.hub_lane.proofs.Greetings.{fresh_on, got_told, handed_quiet, quiet_told, TellsAll}
 use Rattle.hub_lane.proofs.greeting.hear_once.Goals as goal
 
@@ -59,3 +64,40 @@ returns-in-Quiet-clause-handed g c =
     (subst (λ (r : Received). IfTelling (telling c.args.link.now) (telling c.receive.new.self)
     (Receives (Ok r) c.receive.new.into.items (held c.args.link.now) (held c.receive.new.self))) c.in-Quiet.is
     c.in_ok-receive.ensures.received)
+
+pub returns-in-Quiet-clause-receives : goal.returns-in-Quiet-clause-receives
+returns-in-Quiet-clause-receives g c =
+    let receives = g.L.Link.receives in
+    let old = c.args.link.now in
+    let new = c.receive.new.self in
+    quiet_end (receives old) (receives new) c.requires.untold
+    (subst (λ (r : Received). receives new ≡ receives_after (Ok r) c.receive.new.into.items (receives old))
+    c.in-Quiet.is c.in_ok-receive.ensures.receives)
+
+pub returns-in-Got-clause-receives : goal.returns-in-Got-clause-receives
+returns-in-Got-clause-receives g c =
+    let receives = g.L.Link.receives in
+    let old = c.args.link.now in
+    let new = c.receive.new.self in
+    got_end c.receive.new.into.items c.tell.result (receives old) (receives new) c.requires.untold
+    (subst (λ (bytes : List ℕ). IsSaid (to_hub bytes) c.tell.result) c.deref.ensures.value c.tell.ensures.said)
+    (subst (λ (r : Received). receives new ≡ receives_after (Ok r) c.receive.new.into.items (receives old)) c.in-Got.is
+    c.in_ok-receive.ensures.receives)
+
+pub returns-in_err-receive-clause-asked : goal.returns-in_err-receive-clause-asked
+returns-in_err-receive-clause-asked g c =
+    receive_asks_none c.receive.result c.receive.new.into.items (g.L.Link.held c.args.link.now)
+    (g.L.Link.held c.receive.new.self) (g.L.Link.telling c.args.link.now) (g.L.Link.telling c.receive.new.self)
+    c.receive.ensures.received
+
+pub returns-in-Quiet-clause-asked : goal.returns-in-Quiet-clause-asked
+returns-in-Quiet-clause-asked g c =
+    receive_asks_none c.receive.result c.receive.new.into.items (g.L.Link.held c.args.link.now)
+    (g.L.Link.held c.receive.new.self) (g.L.Link.telling c.args.link.now) (g.L.Link.telling c.receive.new.self)
+    c.receive.ensures.received
+
+pub returns-in-Got-clause-asked : goal.returns-in-Got-clause-asked
+returns-in-Got-clause-asked g c =
+    receive_asks_none c.receive.result c.receive.new.into.items (g.L.Link.held c.args.link.now)
+    (g.L.Link.held c.receive.new.self) (g.L.Link.telling c.args.link.now) (g.L.Link.telling c.receive.new.self)
+    c.receive.ensures.received

@@ -4,4 +4,5 @@ pub returns : goal.returns
 returns g c =
     let v = c.args.self.now in
     c.a_finished_lane_is_whole.ensures v.settings v.status v.hub v.items v.outcomes v.lates v.give_ups v.down v.spent
-    (g.L.Link.telling v.link) (g.L.Link.faults v.link) (g.L.Link.quiets v.link) c.requires c.is_sound.ensures
+    (g.L.Link.telling v.link) (g.L.Link.faults v.link) (g.L.Link.quiets v.link) (g.L.Link.receives v.link) c.requires
+    c.is_sound.ensures c.has_listened.ensures

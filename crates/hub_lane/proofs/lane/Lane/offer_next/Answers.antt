@@ -14,6 +14,7 @@ use Rattle.ipb_base.specs.Numbers.{payload_of}
 use Rattle.hub_lane.proofs.Lanes.{body_sendable, found_fits, lane_asks}
 use Rattle.hub_lane.proofs.Rounds.{pays_asked}
 use Rattle.hub_lane.proofs.Datagrams.{asked_unheard, heard_asked}
+use Rattle.hub_lane.proofs.Listened.{listened_asked}
 use Rattle.lane_tables.specs.OutcomeTable.{AreAskedIn, IsAsked, TableState, asked_body}
 use Rattle.hub_lane.proofs.AskedBodies.{asked_more, not_asked_yet}
 use Rattle.hub_lane.proofs.lane.Lane.offer_next.Goals as goal
@@ -73,6 +74,10 @@ invariant_of-self-2 g c =
       subst (λ (xs : List Item). AreAskedIn xs c.offer.new.self.bodies) (sym entry)
           (asked_more items client seq l.give_ups l.outcomes.bodies c.offer.new.self.bodies c.self.invariant.3
           (c.in_ok-offer.ensures.bodies ∙ ap (λ (n : ℕ). l.outcomes.bodies ++ asked_body client n ∷ []) number)),
+      listened_asked status l.down l.engine c.offer.new.engine
+          (record { tag = length l.outcomes.items; body = c.in_ok-body.body }) l.outcomes.items
+          c.offer.new.self.items l.outcomes.lates c.offer.new.self.lates l.give_ups (g.L.Link.receives l.link) hub_is
+          c.in_ok-offer.ensures.items c.in_ok-offer.ensures.lates c.self.invariant.4,
     )
 
 pub offer-requires-clause-bodies : goal.offer-requires-clause-bodies

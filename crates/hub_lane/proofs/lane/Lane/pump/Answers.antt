@@ -1,14 +1,18 @@
-use Rattle.std.proofs.Common.{◌∙◌, ℕ, List, Option, ap, arith, sym, subst, refl, Bool, true, ◌||◌, inr}
+use Rattle.std.proofs.Common.{◌∙◌, ℕ, List, [], Option, ap, arith, sym, subst, refl, Bool, true, ◌||◌, inr}
 use Rattle.lane_record.specs.Lates.{late_in}
 use Rattle.std.specs.Prelude.{IfSome}
 use Rattle.world_core.specs.Telling.{IfTelling}
+use Rattle.hub_lane.specs.declared.answers.Pumped.TheVariants.{LinkDown}
 use Rattle.hub_lane.specs.Calls.{IsSameRecord}
+use Rattle.hub_lane.specs.Hearing.{HasReceivedOnce}
 use Rattle.hub_lane.specs.Carrying.{Pumping}
 use Rattle.hub_lane.specs.Lanes.{BoardStatus, LaneState}
 use Rattle.hub_lane.proofs.Carrying.{pumping}
 use Rattle.hub_lane.specs.Rounds.{HasPaid, Pumps, RoundAfter, round_of}
 use Rattle.hub_lane.proofs.Datagrams.{heard_down, heard_still}
-use Rattle.hub_lane.proofs.Pumps.{PumpLaws, lost_keeps, pump_down, pump_heard, pump_received, pump_spent}
+use Rattle.hub_lane.proofs.Listened.{listened_sent, lost_answers, same_answers}
+use Rattle.hub_lane.proofs.Pumps.{PumpLaws, lost_keeps, pump_down, pump_heard, pump_listened, pump_received}
+use Rattle.hub_lane.proofs.Pumps.{pump_spent}
 use Rattle.hub_lane.proofs.Rounds.{pays_pumped, pays_stopped, still_up}
 use Rattle.hub_lane.proofs.InRounds.{lane_round, same_lane_idle}
 use Rattle.hub_lane.proofs.lane.Lane.pump.Goals as goal
@@ -63,6 +67,14 @@ invariant_of-self g c =
           (g.L.Link.gots c.exchange.new.link) c.in-Ok.ensures.event c.in-Ok.ensures.outcomes c.in-Ok.ensures.gots
           c.self.invariant.2,
       c.exchange.ensures.bodies ∙ c.self.invariant.3,
+      pump_listened laws l.settings status l.engine l.book.items l.outcomes.items l.outcomes.lates l.give_ups l.down
+          l.spent
+          (telling l.link) (faults l.link) (quiets l.link) c.if-self-2.false c.if-self.false c.self.invariant.0
+          c.exchange.new.buffer.items c.in-Ok.pumped c.exchange.new.hub c.exchange.new.outcomes.items
+          c.exchange.new.outcomes.lates c.exchange.new.give_ups (g.L.Link.receives l.link)
+          (g.L.Link.receives c.exchange.new.link) (sym c.waiting.ensures ∙ c.if-not-waiting.false)
+          c.in-Ok.ensures.event c.in-Ok.ensures.hub c.in-Ok.ensures.outcomes c.in-Ok.ensures.lates
+          c.in-Ok.ensures.give_ups c.in-Ok.ensures.receives c.self.invariant.4,
     )
 
 pub invariant_of-self-in-Err-Failed : goal.invariant_of-self-in-Err-Failed
@@ -113,6 +125,14 @@ invariant_of-self-in-Err-Failed g c =
           (g.L.Link.gots l.link) (g.L.Link.gots c.exchange.new.link) (c.exchange.ensures.failed_gots (cc))
           c.in-Err-Failed.ensures.same_outcomes c.lose_all.ensures.outcomes c.self.invariant.2,
       c.lose_all.ensures.bodies ∙ (c.exchange.ensures.bodies ∙ c.self.invariant.3),
+      listened_sent status l.engine c.exchange.new.hub l.outcomes.items c.lose_all.new.outcomes.items
+          l.outcomes.lates c.lose_all.new.outcomes.lates l.give_ups c.exchange.new.give_ups (g.L.Link.receives l.link)
+          (g.L.Link.receives c.exchange.new.link) c.in-Err-Failed.ensures.sent c.in-Err-Failed.ensures.same_give_ups
+          (lost_answers c.a_failed_link_loses_what_waits.ensures.adds c.sent.result l.outcomes.items
+          c.exchange.new.outcomes.items c.lose_all.new.outcomes.items l.outcomes.lates c.lose_all.new.outcomes.lates
+          c.in-Err-Failed.ensures.same_outcomes c.lose_all.ensures.outcomes
+          (c.lose_all.ensures.lates ∙ c.in-Err-Failed.ensures.same_lates)) c.exchange.ensures.receives_grow
+          c.self.invariant.4,
     )
 
 pub invariant_of-self-in-Err-NoMemory : goal.invariant_of-self-in-Err-NoMemory
@@ -161,6 +181,13 @@ invariant_of-self-in-Err-NoMemory g c =
           (g.L.Link.gots c.exchange.new.link) c.exchange.ensures.gots_rise c.in-Err-NoMemory.ensures.same_outcomes
           c.self.invariant.2,
       c.exchange.ensures.bodies ∙ c.self.invariant.3,
+      listened_sent status l.engine c.exchange.new.hub l.outcomes.items c.exchange.new.outcomes.items
+          l.outcomes.lates c.exchange.new.outcomes.lates l.give_ups c.exchange.new.give_ups (g.L.Link.receives l.link)
+          (g.L.Link.receives c.exchange.new.link) c.in-Err-NoMemory.ensures.sent
+          c.in-Err-NoMemory.ensures.same_give_ups
+          (same_answers l.outcomes.items c.exchange.new.outcomes.items l.outcomes.lates c.exchange.new.outcomes.lates
+          c.in-Err-NoMemory.ensures.same_outcomes c.in-Err-NoMemory.ensures.same_lates)
+          c.exchange.ensures.receives_grow c.self.invariant.4,
     )
 
 pub returns-in-Ok-clause-same : goal.returns-in-Ok-clause-same
@@ -275,3 +302,23 @@ returns-in-Err-Failed-clause-same g c =
           (c.lose_all.ensures.lates ∙ c.in-Err-Failed.ensures.same_lates) ∙ there;
       give_ups = omega (arith, same_give_ups);
     })
+
+pub returns-then-self-2-clause-receives : goal.returns-then-self-2-clause-receives
+returns-then-self-2-clause-receives g c = record { bytes = []; receives = refl }
+
+pub returns-then-not-waiting-clause-receives : goal.returns-then-not-waiting-clause-receives
+returns-then-not-waiting-clause-receives g c = record { bytes = []; receives = refl }
+
+pub returns-in-Ok-clause-receives : goal.returns-in-Ok-clause-receives
+returns-in-Ok-clause-receives g c =
+    let receives = g.L.Link.receives in
+    subst (λ (v : LaneState _). HasReceivedOnce c.in-Ok.pumped (receives v.link) (receives c.exchange.new.link))
+    c.self.view_is
+    (record { bytes = c.exchange.new.buffer.items; receives = c.in-Ok.ensures.receives })
+
+pub returns-in-Err-Failed-clause-receives : goal.returns-in-Err-Failed-clause-receives
+returns-in-Err-Failed-clause-receives g c =
+    let receives = g.L.Link.receives in
+    subst (λ (v : LaneState _). HasReceivedOnce LinkDown (receives v.link) (receives c.exchange.new.link))
+    c.self.view_is
+    (record { bytes = []; receives = c.exchange.ensures.failed_receives (cc) })

@@ -23,4 +23,5 @@ invariant_of-self g c =
       c.self.invariant.2,
       subst (λ (xs : List Item). AreAskedIn xs l.outcomes.bodies) (sym c.seal.ensures)
           (asked_entry l.book.items the_seal l.outcomes.bodies refl c.self.invariant.3),
+      c.self.invariant.4,
     )

@@ -6,6 +6,7 @@ use Rattle.hub_lane.specs.Lanes.{BoardStatus, LaneState}
 use Rattle.world_core.specs.Telling.{IfTelling}
 use Rattle.hub_lane.specs.Rounds.{HasPaid, RoundAfter, Sends, round_of}
 use Rattle.hub_lane.proofs.Datagrams.{heard_down, heard_still}
+use Rattle.hub_lane.proofs.Listened.{listened_sent, lost_answers, same_answers, same_prefix}
 use Rattle.hub_lane.proofs.Pumps.{PumpLaws, lost_keeps, pump_down, pump_sent, pump_spent}
 use Rattle.hub_lane.proofs.Rounds.{pays_pumped, pays_stopped, still_up}
 use Rattle.hub_lane.proofs.InRounds.{lane_round}
@@ -53,6 +54,11 @@ invariant_of-self g c =
       heard_still l.outcomes.items l.outcomes.items (g.L.Link.gots l.link) (g.L.Link.gots c.send_all.new.link)
           (let same = sent.gots in omega (arith, same)) refl c.self.invariant.2,
       c.self.invariant.3,
+      listened_sent status l.engine c.send_all.new.hub l.outcomes.items l.outcomes.items l.outcomes.lates
+          l.outcomes.lates l.give_ups l.give_ups (g.L.Link.receives l.link) (g.L.Link.receives c.send_all.new.link)
+          sent.some refl (same_answers l.outcomes.items l.outcomes.items l.outcomes.lates l.outcomes.lates refl refl)
+          (same_prefix (g.L.Link.receives l.link) (g.L.Link.receives c.send_all.new.link) sent.receives)
+          c.self.invariant.4,
     )
 
 pub invariant_of-self-in-Err-Failed : goal.invariant_of-self-in-Err-Failed
@@ -97,6 +103,14 @@ invariant_of-self-in-Err-Failed g c =
           (g.L.Link.gots l.link) (g.L.Link.gots c.send_all.new.link) sent.gots refl c.lose_all.ensures.outcomes
           c.self.invariant.2,
       c.lose_all.ensures.bodies ∙ c.self.invariant.3,
+      listened_sent status l.engine c.send_all.new.hub l.outcomes.items c.lose_all.new.outcomes.items l.outcomes.lates
+          c.lose_all.new.outcomes.lates l.give_ups l.give_ups (g.L.Link.receives l.link)
+          (g.L.Link.receives c.send_all.new.link) sent.some refl
+          (lost_answers c.a_failed_link_loses_what_waits.ensures.adds c.sent.result l.outcomes.items l.outcomes.items
+          c.lose_all.new.outcomes.items l.outcomes.lates c.lose_all.new.outcomes.lates refl
+          c.lose_all.ensures.outcomes c.lose_all.ensures.lates)
+          (same_prefix (g.L.Link.receives l.link) (g.L.Link.receives c.send_all.new.link) sent.receives)
+          c.self.invariant.4,
     )
 
 pub invariant_of-self-in-Err-NoMemory : goal.invariant_of-self-in-Err-NoMemory
@@ -142,6 +156,11 @@ invariant_of-self-in-Err-NoMemory g c =
       heard_still l.outcomes.items l.outcomes.items (g.L.Link.gots l.link) (g.L.Link.gots c.send_all.new.link)
           (let same = sent.gots in omega (arith, same)) refl c.self.invariant.2,
       c.self.invariant.3,
+      listened_sent status l.engine c.send_all.new.hub l.outcomes.items l.outcomes.items l.outcomes.lates
+          l.outcomes.lates l.give_ups l.give_ups (g.L.Link.receives l.link) (g.L.Link.receives c.send_all.new.link)
+          sent.some refl (same_answers l.outcomes.items l.outcomes.items l.outcomes.lates l.outcomes.lates refl refl)
+          (same_prefix (g.L.Link.receives l.link) (g.L.Link.receives c.send_all.new.link) sent.receives)
+          c.self.invariant.4,
     )
 
 pub returns-in-Ok-clause-round : goal.returns-in-Ok-clause-round

@@ -1,8 +1,9 @@
-use Rattle.std.proofs.Common.{◌⊎◌, refl, sym, subst}
+use Rattle.std.proofs.Common.{◌⊎◌, inl, inr, refl, sym, subst}
 use Rattle.ipb_base.specs.Faults.{Rose}
 use Rattle.hub_lane.specs.Calls.{IsSameRecord, TakesAs}
 use Rattle.hub_lane.specs.Lanes.{LaneState}
-use Rattle.hub_lane.proofs.Steps.{pumped_in_vain, same_record}
+use Rattle.hub_lane.specs.Step.{PumpsOnce}
+use Rattle.hub_lane.proofs.Steps.{oldest_still, one_pump, pumped_in_vain, same_record}
 use Rattle.hub_lane.proofs.lane.Lane.step.Goals as goal
 
 pub returns-in-Ready-clause-stepped : goal.returns-in-Ready-clause-stepped
@@ -43,3 +44,45 @@ returns-in-NotYet-2-clause-received g c =
     ⊎ Rose (link.gots old.link) (link.gots c.take-2.new.self.link)) first.same
     (subst (λ (new : LaneState g.row.L.Denot). Rose (link.quiets c.take.new.self.link) (link.quiets new.link)
     ⊎ Rose (link.gots c.take.new.self.link) (link.gots new.link)) (sym last.same) rose)
+
+pub returns-in-Ready-clause-once : goal.returns-in-Ready-clause-once
+returns-in-Ready-clause-once g c = inl (record {
+  seq = c.in-Some.seq;
+  oldest = c.in-Some.ensures.some;
+  takes = subst (λ t. TakesAs c.args.self.now c.args.client c.in-Some.seq c.take.new.self t) c.in-Ready.is
+      c.in_ok-outcome.ensures.taken;
+})
+
+pub returns-in-Ready-2-clause-once : goal.returns-in-Ready-2-clause-once
+returns-in-Ready-2-clause-once g c =
+    let link = g.L.Link in
+    let first = subst (λ t. TakesAs c.args.self.now c.args.client c.in-Some.seq c.take.new.self t) c.in-NotYet.is
+    c.in_ok-outcome.ensures.taken in
+    let pumped = c.in_ok-pump.ensures in
+    inr (record {
+      pumped = c.pump.new.self;
+      once = one_pump link.telling link.receives c.args.self.now c.take.new.self c.pump.new.self
+          c.in_ok-pump.field-0 c.args.client c.in-Some.seq c.in-Some.ensures.some first pumped.pumped pumped.link
+          pumped.receives;
+      looks = record {
+        seq = c.in-Some.seq;
+        oldest = oldest_still c.args.self.now c.take.new.self c.pump.new.self c.args.client c.in-Some.seq
+            c.in-Some.ensures.some first pumped.same;
+        takes = subst (λ t. TakesAs c.pump.new.self c.args.client c.in-Some.seq c.take-2.new.self t) c.in-Ready-2.is
+            c.in_ok-outcome-2.ensures.taken;
+      };
+    })
+
+pub returns-in-NotYet-2-clause-once : goal.returns-in-NotYet-2-clause-once
+returns-in-NotYet-2-clause-once g c =
+    let link = g.L.Link in
+    let first = subst (λ t. TakesAs c.args.self.now c.args.client c.in-Some.seq c.take.new.self t) c.in-NotYet.is
+    c.in_ok-outcome.ensures.taken in
+    let last = subst (λ t. TakesAs c.pump.new.self c.args.client c.in-Some.seq c.take-2.new.self t) c.in-NotYet-2.is
+    c.in_ok-outcome-2.ensures.taken in
+    let pumped = c.in_ok-pump.ensures in
+    subst (λ (new : LaneState g.row.L.Denot). PumpsOnce link.telling link.receives c.args.self.now
+    c.args.client new) (sym last.same)
+    (one_pump link.telling link.receives c.args.self.now c.take.new.self c.pump.new.self
+    c.in_ok-pump.field-0 c.args.client c.in-Some.seq c.in-Some.ensures.some first pumped.pumped pumped.link
+    pumped.receives)

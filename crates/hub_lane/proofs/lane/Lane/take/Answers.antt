@@ -93,6 +93,7 @@ invariant_of-self-2 g c =
       c.self.invariant.2,
       subst (λ (xs : List Item). AreAskedIn xs l.outcomes.bodies) (sym entry)
           (asked_entry items x l.outcomes.bodies refl c.self.invariant.3),
+      c.self.invariant.4,
     )
 
 pub returns-clause-taken : goal.returns-clause-taken
