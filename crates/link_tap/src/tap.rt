@@ -1,6 +1,6 @@
 //! A link whose datagrams are kept.
 
-ghost use Rattle.std.specs.Prelude.{◌≡◌, ◌≤◌, ◌++◌, ◌∷◌, [], length, IfSome, IfOk, OnOk, OnErr, Ok, Err};
+ghost use Rattle.std.specs.Prelude.{◌≡◌, ◌≢◌, ◌≤◌, ◌++◌, ◌∷◌, [], length, IfSome, IfOk, OnOk, OnErr, Ok, Err};
 ghost use Rattle.ipb_base.specs.Faults.{Rose};
 ghost use Rattle.world_core.specs.Receives.{receives_after};
 ghost use Rattle.world_core.specs.Telling.{gots_after, IfTelling, IsCarried, IsSent, quiets_after, Receives};
@@ -93,6 +93,8 @@ impl<L: Link> TapLink<L> {
             (IsSent bytes.now (L.held self.old.link) (L.held self.new.link))) }
         ensures refused { OnErr result (L.telling self.new.link ≡ L.telling self.old.link) }
         ensures failed { result ≡ Err LinkFault.Failed → Rose (L.faults self.old.link) (L.faults self.new.link) }
+        ensures unfaulted { IfSome (L.telling self.old.link) (λ _.
+            result ≢ Err LinkFault.Failed → L.faults self.new.link ≡ L.faults self.old.link) }
         ensures faults { L.faults self.old.link ≤ L.faults self.new.link }
         ensures quiets { L.quiets self.new.link ≡ L.quiets self.old.link }
         ensures gots { L.gots self.new.link ≡ L.gots self.old.link }
@@ -113,6 +115,8 @@ impl<L: Link> TapLink<L> {
         ensures received { IfTelling (L.telling self.old.link) (L.telling self.new.link)
             (Receives result into.new.items (L.held self.old.link) (L.held self.new.link)) }
         ensures failed { result ≡ Err LinkFault.Failed → Rose (L.faults self.old.link) (L.faults self.new.link) }
+        ensures unfaulted { IfSome (L.telling self.old.link) (λ _.
+            result ≢ Err LinkFault.Failed → L.faults self.new.link ≡ L.faults self.old.link) }
         ensures faults { L.faults self.old.link ≤ L.faults self.new.link }
         ensures quiets { L.quiets self.new.link ≡ quiets_after result (L.quiets self.old.link) }
         ensures quiets_rise { L.quiets self.old.link ≤ L.quiets self.new.link }

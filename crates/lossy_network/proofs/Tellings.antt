@@ -1,7 +1,7 @@
 -- What a send and a receive of a simulated link do to what it tells.
 use Rattle.std.proofs.Common.{◌≡◌, ◌⊎◌, inl, inr, ◌∙◌, ℕ, zero, suc, ◌<◌, ◌≤◌, Bool, true, false, cond, List, []}
 use Rattle.std.proofs.Common.{◌∷◌, ◌++◌, length, nat_lt, Option, Some, None, Result, Ok, Err, refl, sym, ap, subst}
-use Rattle.std.proofs.Common.{arith, ◌^◌}
+use Rattle.std.proofs.Common.{arith, ◌^◌, ◌≢◌}
 use Rattle.std.specs.Prelude.{IfOk, OnOk, OnErr}
 use Rattle.std.specs.List.{Contains, slice_get}
 use Rattle.std.proofs.lemmas.List.Elements.{Contains-append_left, Contains-append_right, Contains-append_cases}
@@ -327,6 +327,7 @@ pub record AreCounts (result : Result Received LinkFault) (bytes : List ℕ) (ol
   pub gots : new.gots ≡ gots_after result old.gots
   pub receives : new.receives ≡ receives_after result bytes old.receives
   pub faults : (new.faults ≡ old.faults) ⊎ (new.faults ≡ one_more old.faults)
+  pub unfaulted : result ≢ Err Failed → new.faults ≡ old.faults
 
 counts_after : (old : Network) → with_carried (called old) (all_taken (called old)) ≡ all_taken (called old)
 counts_after old = sym (takes_keep (most_takings (called old)) (called old))
@@ -342,6 +343,7 @@ counts_quiet old new bytes after_is quiet =
       receives =
           ap (λ (n : Network). n.receives) end ∙ sym (ap (λ (n : Network). n.receives ++ None ∷ []) same);
       faults = inl (ap (λ (n : Network). n.faults) end ∙ sym (ap (λ (n : Network). n.faults) same));
+      unfaulted = λ _. ap (λ (n : Network). n.faults) end ∙ sym (ap (λ (n : Network). n.faults) same);
     }
 
 counts_got : (old new : Network) (bytes : List ℕ) → new ≡ (received old).after → bytes ≡ (received old).bytes
@@ -358,6 +360,7 @@ counts_got old new bytes after_is bytes_is got =
           ∙ ap (λ (xs : List ℕ). old.receives ++ Some xs ∷ [])
           (sym (bytes_is ∙ ap (λ (r : Receipt). r.bytes) got.is)));
       faults = inl (ap (λ (n : Network). n.faults) end ∙ sym (ap (λ (n : Network). n.faults) same));
+      unfaulted = λ _. ap (λ (n : Network). n.faults) end ∙ sym (ap (λ (n : Network). n.faults) same);
     }
 
 pub counts : (result : Result Received LinkFault) (bytes : List ℕ) (old new : Network)
@@ -371,6 +374,7 @@ counts (Err Failed) bytes old new is =
       gots = ap (λ (n : Network). n.gots) same;
       receives = ap (λ (n : Network). n.receives) same;
       faults = inr (ap (λ (n : Network). n.faults) same);
+      unfaulted = λ other. absurd (other refl);
     }
 counts (Err NoMemory) bytes old new is =
     let some = is.no_memory refl in
@@ -380,6 +384,7 @@ counts (Err NoMemory) bytes old new is =
       gots = ap (λ (n : Network). n.gots) same;
       receives = ap (λ (n : Network). n.receives) same;
       faults = inl (ap (λ (n : Network). n.faults) same);
+      unfaulted = λ _. ap (λ (n : Network). n.faults) same;
     }
 
 pub held_rises : (steps : ReceiveSteps) (result : Result Received LinkFault) (bytes : List ℕ) (old new : Network)
@@ -453,6 +458,13 @@ pub send_faults : (result : Result (Unit {0}) LinkFault) (bytes : List ℕ) (old
 send_faults (Ok unit) bytes old new is = inl (ap (λ (n : Network). n.faults) is.after)
 send_faults (Err Failed) bytes old new is = inr (ap (λ (n : Network). n.faults) (is.fault refl))
 send_faults (Err NoMemory) bytes old new is = inl (ap (λ (n : Network). n.faults) (is.no_memory refl))
+
+-- a send that does not fail counts no fault
+pub send_unfaulted : (result : Result (Unit {0}) LinkFault) (bytes : List ℕ) (old new : Network)
+    → IsSending result bytes old new → result ≢ Err Failed → new.faults ≡ old.faults
+send_unfaulted (Ok unit) bytes old new is other = ap (λ (n : Network). n.faults) is.after
+send_unfaulted (Err Failed) bytes old new is other = absurd (other refl)
+send_unfaulted (Err NoMemory) bytes old new is other = ap (λ (n : Network). n.faults) (is.no_memory refl)
 
 pub send_holds : (result : Result (Unit {0}) LinkFault) (bytes : List ℕ) (old new : Network) → IsCount old.traffic.held
     → IsSending result bytes old new → old.traffic.held ≤ new.traffic.held

@@ -49,8 +49,8 @@ impl Model for SimLink {
 
 impl SimLink {
     /// A link to a board that has executed nothing, with an empty air and counts of 0. The calls of `send` and
-    /// `receive` are counted together from 1, and those whose numbers are in `fail` fail. `NoMemory` where memory for
-    /// what can be delayed ran out.
+    /// `receive` are counted together from 1, and those whose numbers are in `fail` fail. `NoMemory` where memory ran
+    /// out for what can be delayed or for what the first receive comes to.
     pub fn new(
         alloc: Global,
         board: Board,

@@ -39,6 +39,9 @@ pub returns-clause-faults : goal.returns-clause-faults
 returns-clause-faults c =
     rises_by c.args.self.now.faults c.receive.new.self.faults c.counts_fit.ensures.faults (counted c).faults
 
+pub returns-clause-unfaulted : goal.returns-clause-unfaulted
+returns-clause-unfaulted c = (counted c).unfaulted
+
 pub returns-clause-quiets : goal.returns-clause-quiets
 returns-clause-quiets c = (counted c).quiets
 

@@ -1,4 +1,4 @@
-use Rattle.lossy_network.proofs.Tellings.{rises_by, send_faults, send_holds, sends}
+use Rattle.lossy_network.proofs.Tellings.{rises_by, send_faults, send_holds, send_unfaulted, sends}
 use Rattle.lossy_network.proofs.telling.SimLinkLink.send.Goals as goal
 
 pub returns-clause-sent : goal.returns-clause-sent
@@ -12,6 +12,13 @@ returns-clause-faults c = rises_by c.args.self.now.faults c.send.new.self.faults
       fault = c.send.ensures.failed;
       no_memory = c.send.ensures.no_memory;
     }))
+
+pub returns-clause-unfaulted : goal.returns-clause-unfaulted
+returns-clause-unfaulted c = send_unfaulted c.send.result c.args.bytes.now c.args.self.now c.send.new.self (record {
+  after = c.send.ensures.sent;
+  fault = c.send.ensures.failed;
+  no_memory = c.send.ensures.no_memory;
+})
 
 pub returns-clause-held : goal.returns-clause-held
 returns-clause-held c =
