@@ -104,17 +104,30 @@ fn rules_in(alloc: Global, steps: &[Step]) -> Result<Vec<Option<u32>>, NoMemory>
     Ok(rules)
 }
 
+/// How many decisions are made on the steps of the script.
+fn decisions(alloc: Global, policy: &Policy) -> Result<usize, Fail> {
+    let (session, scripts) = compiled(alloc, GUARDED)?;
+    match scripts.as_slice() {
+        [steps] => Ok(permit(alloc, policy, 1, &session, steps.as_slice())?.len()),
+        _ => Err("not one script")?,
+    }
+}
+
+/// The rules that deny the steps of the script.
+fn denied_by(alloc: Global, policy: &Policy) -> Result<Vec<Option<u32>>, Fail> {
+    let (session, mut scripts) = compiled(alloc, GUARDED)?;
+    if scripts.len() != 1 {
+        return Err("not one script")?;
+    }
+    rule_scripts(alloc, policy, &session, scripts.as_mut_slice())?;
+    Ok(rules_in(alloc, scripts[0].as_slice())?)
+}
+
 #[test]
 fn scripts_are_put_under_a_policy(rt: HostRuntime) -> Result<(), Fail> {
     let policy = policy_in(rt.alloc(), GUARDED)?;
-    let (session, mut scripts) = compiled(rt.alloc(), GUARDED)?;
-    let [first] = scripts.as_slice() else {
-        return Err("not one script")?;
-    };
-    let said = permit(rt.alloc(), &policy, 1, &session, first.as_slice())?;
-    same(&rt, &said.len(), &3);
-    rule_scripts(rt.alloc(), &policy, &session, scripts.as_mut_slice())?;
-    let rules = rules_in(rt.alloc(), scripts[0].as_slice())?;
-    same_items(&rt, rules.as_slice(), &[Some(1), None, Some(0)]);
+    same(&rt, &decisions(rt.alloc(), &policy)?, &3);
+    let rules = denied_by(rt.alloc(), &policy)?;
+    same_items(&rt, &rules, &[Some(1), None, Some(0)]);
     Ok(())
 }

@@ -1,6 +1,6 @@
 //! Configurations that are saved, applied and read.
 
-use crate::same::same;
+use crate::same::{same, same_items};
 use config_store::{
     State, StoreRefusal, StoreWhy, apply_lines, missing_state, read_state, save_lines, state_text,
 };
@@ -66,33 +66,31 @@ fn applied(alloc: Global, session: &Session, text: &str) -> Result<Vec<Text>, St
     apply_lines(alloc, session, &indexes, &state)
 }
 
-#[test]
-fn a_configuration_is_saved(rt: HostRuntime) -> Result<(), Fail> {
-    let alloc = rt.alloc();
-    let session = session(alloc)?;
+/// The script that saves the registers that a session keeps.
+fn saved(alloc: Global, session: &Session) -> Result<Vec<Text>, Fail> {
     let indexes = [compile(alloc, &session.tables, "t")?];
     if session.boards.as_slice().len() != 1 {
         return Err("one board".into());
     }
-    let lines = save_lines(alloc, &session, &indexes)?;
-    same(
-        &rt,
-        &joined(alloc, lines.as_slice())?.as_str(),
-        &"read b0:a.top\n",
-    );
+    Ok(save_lines(alloc, session, &indexes)?)
+}
+
+#[test]
+fn a_configuration_is_saved(rt: HostRuntime) -> Result<(), Fail> {
+    let session = session(rt.alloc())?;
+    let lines = saved(rt.alloc(), &session)?;
+    let text = joined(rt.alloc(), &lines)?;
+    same(&rt, &text.as_str(), &"read b0:a.top\n");
     Ok(())
 }
 
 #[test]
 fn a_configuration_is_applied(rt: HostRuntime) -> Result<(), Fail> {
-    let alloc = rt.alloc();
-    let session = session(alloc)?;
-    let lines = applied(alloc, &session, "[state.b0]\n\"a.top\" = 1\n")?;
-    same(
-        &rt,
-        &joined(alloc, lines.as_slice())?.as_str(),
-        &"write b0:a.top 1\ndispatch\nread b0:a.top\n",
-    );
+    let session = session(rt.alloc())?;
+    let lines = applied(rt.alloc(), &session, "[state.b0]\n\"a.top\" = 1\n")?;
+    let text = joined(rt.alloc(), &lines)?;
+    let wanted = "write b0:a.top 1\ndispatch\nread b0:a.top\n";
+    same(&rt, &text.as_str(), &wanted);
     Ok(())
 }
 
@@ -141,35 +139,37 @@ fn values_are_refused(rt: HostRuntime) -> Result<(), Fail> {
     Ok(())
 }
 
-/// What became of the read of the register.
-fn read(alloc: Global, came_to: OpResult) -> Result<OpLine, Fail> {
+/// What became of the read of the register: the word 1, or nothing where it was not sent.
+fn read(alloc: Global, is_sent: bool) -> Result<OpLine, Fail> {
+    let result = if is_sent {
+        OpResult::Value(Words::from_vec([1].to_vec(alloc)?))
+    } else {
+        OpResult::Unsent
+    };
     Ok(OpLine {
         number: 1,
         verb: Verb::Read,
         board: Text::copy_of(alloc, "b0")?,
         name: Text::copy_of(alloc, "a.top")?,
-        result: came_to,
+        result,
         places: LinePlaces::from_vec(Vec::new(alloc)),
     })
 }
 
+/// The text of the configuration where the register was read, or where its read was not sent.
+fn text_of(alloc: Global, is_sent: bool) -> Result<Vec<u8>, Fail> {
+    let session = session(alloc)?;
+    let lines = [read(alloc, is_sent)?];
+    Ok(state_text(alloc, session.boards.as_slice(), &lines)?)
+}
+
 #[test]
 fn a_configuration_has_a_text(rt: HostRuntime) -> Result<(), Fail> {
-    let alloc = rt.alloc();
-    let session = session(alloc)?;
-    let boards = session.boards.as_slice();
-    let word = OpResult::Value(Words::from_vec(vec![in alloc; 1]?));
-    let text = state_text(alloc, boards, &[read(alloc, word)?])?;
-    same(
-        &rt,
-        &text.as_slice(),
-        &b"[state.b0]\n\"a.top\" = 0x00000001\n".as_slice(),
-    );
-    let text = state_text(alloc, boards, &[read(alloc, OpResult::Unsent)?])?;
-    same(
-        &rt,
-        &text.as_slice(),
-        &b"[state.b0]\n# \"a.top\" unsent\n".as_slice(),
-    );
+    for (is_sent, text) in [
+        (true, "[state.b0]\n\"a.top\" = 0x00000001\n"),
+        (false, "[state.b0]\n# \"a.top\" unsent\n"),
+    ] {
+        same_items(&rt, &text_of(rt.alloc(), is_sent)?, text.as_bytes());
+    }
     Ok(())
 }

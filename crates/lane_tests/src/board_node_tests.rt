@@ -52,38 +52,40 @@ fn heard(alloc: Global, board: &mut Board, sent: Sent) -> Result<(Heard, Answer)
     Ok((heard, answer_of(&out)))
 }
 
-/// A board that holds one reply.
+/// What a board hears that holds one reply, and its answers.
+const DATAGRAMS: [(Sent, Heard, Answer); 10] = [
+    (Sent::Control(1), Heard::Replied, Answer::Reply(1)),
+    (
+        Sent::Control(1),
+        Heard::Dropped(DropCause::OtherId),
+        Answer::Nothing,
+    ),
+    (Sent::Resend(1), Heard::Resent, Answer::Reply(1)),
+    (
+        Sent::Resend(9),
+        Heard::Dropped(DropCause::NotHeld),
+        Answer::Nothing,
+    ),
+    (
+        Sent::Ragged,
+        Heard::Dropped(DropCause::NotPacket),
+        Answer::Nothing,
+    ),
+    (Sent::Control(0), Heard::Replied, Answer::Reply(0)),
+    (Sent::Control(0), Heard::Replied, Answer::Reply(0)),
+    (Sent::Little(2), Heard::Replied, Answer::LittleReply(2)),
+    (
+        Sent::Resend(1),
+        Heard::Dropped(DropCause::NotHeld),
+        Answer::Nothing,
+    ),
+    (Sent::Resend(2), Heard::Resent, Answer::LittleReply(2)),
+];
+
 #[test]
 fn each_datagram_is_answered(rt: HostRuntime) -> Result<(), Fail> {
     let mut board = board(rt.alloc(), 1, 1)?;
-    for (sent, wanted, answer) in [
-        (Sent::Control(1), Heard::Replied, Answer::Reply(1)),
-        (
-            Sent::Control(1),
-            Heard::Dropped(DropCause::OtherId),
-            Answer::Nothing,
-        ),
-        (Sent::Resend(1), Heard::Resent, Answer::Reply(1)),
-        (
-            Sent::Resend(9),
-            Heard::Dropped(DropCause::NotHeld),
-            Answer::Nothing,
-        ),
-        (
-            Sent::Ragged,
-            Heard::Dropped(DropCause::NotPacket),
-            Answer::Nothing,
-        ),
-        (Sent::Control(0), Heard::Replied, Answer::Reply(0)),
-        (Sent::Control(0), Heard::Replied, Answer::Reply(0)),
-        (Sent::Little(2), Heard::Replied, Answer::LittleReply(2)),
-        (
-            Sent::Resend(1),
-            Heard::Dropped(DropCause::NotHeld),
-            Answer::Nothing,
-        ),
-        (Sent::Resend(2), Heard::Resent, Answer::LittleReply(2)),
-    ] {
+    for (sent, wanted, answer) in DATAGRAMS {
         same(
             &rt,
             &heard(rt.alloc(), &mut board, sent)?,

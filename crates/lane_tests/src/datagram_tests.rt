@@ -58,55 +58,59 @@ fn answered(
     Ok((heard, out))
 }
 
+const NO_PACKET: Heard = Heard::Dropped(DropCause::NotPacket);
+
+/// Whether a board takes small packets alone, the front of a datagram, how many bytes it has, what the board does with
+/// it, and its answer.
+const ANSWERED_OR_DROPPED: [(bool, &[u8], usize, Heard, &[u8]); 10] = [
+    (false, b"", 0, NO_PACKET, b""),
+    (false, b"\x20\0\x01", 3, NO_PACKET, b""),
+    (false, b"\x20\0\x01\xf3", 4, NO_PACKET, b""),
+    // a status request is longer, and every packet is shorter
+    (false, b"\x20\0\0\xf1", 4, NO_PACKET, b""),
+    (false, b"\x20\0\x01\xf0", 8976, NO_PACKET, b""),
+    (
+        false,
+        b"\x20\0\x01\xf0",
+        4,
+        Heard::Replied,
+        b"\x20\0\x01\xf0",
+    ),
+    // a transaction without its address
+    (
+        false,
+        b"\x20\0\x01\xf0\x20\0\x01\x0f",
+        8,
+        Heard::Replied,
+        b"\x20\0\x01\xf0\x20\0\0\x01",
+    ),
+    (
+        false,
+        b"\x20\0\x02\xf0",
+        4,
+        Heard::Dropped(DropCause::OtherId),
+        b"",
+    ),
+    (
+        false,
+        b"\x20\0\x01\xf2",
+        4,
+        Heard::Dropped(DropCause::NotHeld),
+        b"",
+    ),
+    // a read of 255 words
+    (
+        true,
+        b"\x20\0\x01\xf0\x20\0\xff\x0f",
+        12,
+        Heard::Dropped(DropCause::TooLong),
+        b"",
+    ),
+];
+
 #[test]
 fn a_fresh_board_hears_anything(rt: HostRuntime) -> Result<(), Fail> {
-    let no_packet = Heard::Dropped(DropCause::NotPacket);
-    let rows: [(bool, &[u8], usize, Heard, &[u8]); 10] = [
-        (false, b"", 0, no_packet, b""),
-        (false, b"\x20\0\x01", 3, no_packet, b""),
-        (false, b"\x20\0\x01\xf3", 4, no_packet, b""),
-        // a status request is longer, and every packet is shorter
-        (false, b"\x20\0\0\xf1", 4, no_packet, b""),
-        (false, b"\x20\0\x01\xf0", 8976, no_packet, b""),
-        (
-            false,
-            b"\x20\0\x01\xf0",
-            4,
-            Heard::Replied,
-            b"\x20\0\x01\xf0",
-        ),
-        // a transaction without its address
-        (
-            false,
-            b"\x20\0\x01\xf0\x20\0\x01\x0f",
-            8,
-            Heard::Replied,
-            b"\x20\0\x01\xf0\x20\0\0\x01",
-        ),
-        (
-            false,
-            b"\x20\0\x02\xf0",
-            4,
-            Heard::Dropped(DropCause::OtherId),
-            b"",
-        ),
-        (
-            false,
-            b"\x20\0\x01\xf2",
-            4,
-            Heard::Dropped(DropCause::NotHeld),
-            b"",
-        ),
-        // a read of 255 words
-        (
-            true,
-            b"\x20\0\x01\xf0\x20\0\xff\x0f",
-            12,
-            Heard::Dropped(DropCause::TooLong),
-            b"",
-        ),
-    ];
-    for (is_small, front, length, heard, answer) in rows {
+    for (is_small, front, length, heard, answer) in ANSWERED_OR_DROPPED {
         let datagram = padded(rt.alloc(), front, length)?;
         // what is dropped is dropped again
         let most = if answer.is_empty() { 2 } else { 1 };

@@ -380,20 +380,27 @@ fn first_counts(lanes: &[Lane<SimLink>]) -> Option<(usize, (u64, u64, u64))> {
     Some((lane.entries().len(), lane.counts()))
 }
 
+/// The places of the replies that four clients of a lane took at once, and the lanes.
+fn read_by_four<R: Threads + Wait + Sync>(
+    rt: &R,
+    alloc: Global,
+    lane: Lane<SimLink>,
+) -> Result<([u64; 4], Vec<Lane<SimLink>>), Fail> {
+    let (hub, mut master, one) = hub_of(alloc, lane)?;
+    let (two, three, four) = more_seats(alloc, &hub, &mut master)?;
+    let ((one, two), (three, four)) = read_all(rt, &hub, one, two, three, four);
+    let places = [one.1, two.1, three.1, four.1];
+    let lanes = finish_four(rt, hub, master, (one.0, two.0), (three.0, four.0));
+    Ok((places, lanes))
+}
+
 #[test]
 fn four_clients_read_at_once(rt: HostRuntime) -> Result<(), Fail> {
     let lane = planned_lane(rt.alloc(), "ddlddld2r", 5)?;
-    let (hub, mut master, one) = hub_of(rt.alloc(), lane)?;
-    let (two, three, four) = more_seats(rt.alloc(), &hub, &mut master)?;
-    let ((one, two), (three, four)) = read_all(&rt, &hub, one, two, three, four);
-    let places = [one.1, two.1, three.1, four.1];
-    let lanes = finish_four(&rt, hub, master, (one.0, two.0), (three.0, four.0));
+    let (places, lanes) = read_by_four(&rt, rt.alloc(), lane)?;
     assert!(rt; are_the_first_four(places));
     same(&rt, &first_counts(&lanes), &Some((13, (4, 0, 0))));
-    same(
-        &rt,
-        &kinds_by_client(rt.alloc(), &lanes)?.as_str(),
-        &"134134134134",
-    );
+    let kinds = kinds_by_client(rt.alloc(), &lanes)?;
+    same(&rt, &kinds.as_str(), &"134134134134");
     Ok(())
 }

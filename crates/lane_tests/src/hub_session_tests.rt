@@ -181,11 +181,19 @@ fn faults_end_a_connection(rt: HostRuntime) -> Result<(), Fail> {
 /// read of its own, it does. A write that is cut short behind the first answer counts that one.
 #[test]
 fn frames_of_one_read_are_answered_by_one_write(rt: HostRuntime) -> Result<(), Fail> {
-    let together = serve(&rt, rt.alloc(), Input::ReadTwice, 40, 48, 0, 2)?;
-    assert!(rt; together == (2, SessionEnd::Closed, Written::AnswerTwice));
-    let apart = serve(&rt, rt.alloc(), Input::ReadTwice, 20, 48, 0, 2)?;
-    assert!(rt; apart == (1, SessionEnd::WriteFault, Written::Answer));
-    let cut_short = serve(&rt, rt.alloc(), Input::ReadTwice, 40, 5, 0, 6)?;
-    assert!(rt; cut_short == (1, SessionEnd::WriteFault, Written::AnswerAndAByte));
+    for (piece, take, write, wanted) in [
+        (40, 48, 2, (2, SessionEnd::Closed, Written::AnswerTwice)),
+        (20, 48, 2, (1, SessionEnd::WriteFault, Written::Answer)),
+        (
+            40,
+            5,
+            6,
+            (1, SessionEnd::WriteFault, Written::AnswerAndAByte),
+        ),
+    ] {
+        assert!(rt; piece > 0 && take > 0);
+        let served = serve(&rt, rt.alloc(), Input::ReadTwice, piece, take, 0, write)?;
+        assert!(rt; served == wanted);
+    }
     Ok(())
 }

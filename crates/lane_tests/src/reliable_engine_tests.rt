@@ -72,16 +72,21 @@ fn times_out_and_unsends(engine: &mut Engine) -> bool {
     first && second && engine.settled().is_none()
 }
 
+/// Its one round is quiet, and so is what is received behind the request for a status.
+fn gives_up(rt: &impl Abort, engine: &mut Engine) {
+    hears_nothing(rt, engine);
+    same(rt, &engine.next_send(), &Some(Sending::Status));
+    hears_nothing(rt, engine);
+    assert!(rt; !engine.waiting());
+}
+
 #[test]
 fn after_its_rounds_the_hub_gives_up(rt: HostRuntime) -> Result<(), Fail> {
     let mut engine = engine(rt.alloc())?;
     offers(&rt, rt.alloc(), &mut engine, 7)?;
     offers(&rt, rt.alloc(), &mut engine, 8)?;
     sends_first(&rt, &mut engine, 7)?;
-    hears_nothing(&rt, &mut engine);
-    same(&rt, &engine.next_send(), &Some(Sending::Status));
-    hears_nothing(&rt, &mut engine);
-    assert!(rt; !engine.waiting());
+    gives_up(&rt, &mut engine);
     assert!(rt; times_out_and_unsends(&mut engine));
     Ok(())
 }
@@ -95,6 +100,19 @@ fn tells_late(engine: &mut Engine, word: u32) -> bool {
     first && engine.late().is_none()
 }
 
+/// A reply of this one word to the packet of place 1.
+fn hears_a_reply(
+    rt: &impl Abort,
+    alloc: Global,
+    engine: &mut Engine,
+    word: u32,
+) -> Result<(), Fail> {
+    let id = Id::new(65535).ok_or("no identifier")?;
+    let words = Words::from_vec([word].to_vec(alloc)?);
+    assert!(rt; engine.on_reply(id, words));
+    Ok(())
+}
+
 #[test]
 fn a_late_reply_is_kept(rt: HostRuntime) -> Result<(), Fail> {
     let mut engine = engine(rt.alloc())?;
@@ -103,9 +121,7 @@ fn a_late_reply_is_kept(rt: HostRuntime) -> Result<(), Fail> {
     hears_nothing(&rt, &mut engine);
     hears_nothing(&rt, &mut engine);
     assert!(rt; engine.late().is_none());
-    let id = Id::new(65535).ok_or("no identifier")?;
-    let words = Words::from_vec([0x77].to_vec(rt.alloc())?);
-    assert!(rt; engine.on_reply(id, words));
+    hears_a_reply(&rt, rt.alloc(), &mut engine, 0x77)?;
     assert!(rt; tells_late(&mut engine, 0x77));
     Ok(())
 }

@@ -101,17 +101,14 @@ fn simulated(alloc: Global) -> Result<BoardSpec, Fail> {
 /// A simulated board is refused, and refused again, and no list is used up: the link made behind that has the first one.
 #[test]
 fn simulated_boards_are_refused_again(rt: HostRuntime) -> Result<(), Fail> {
-    let mut lists = Vec::new(rt.alloc());
-    lists.push(two(rt.alloc())?)?;
-    assert!(rt; lists.iter().all(|list| are_datagrams(list)));
-    let mut rack = ScriptRack::new(rt.alloc(), lists);
+    let mut rack = rack_of_two(rt.alloc())?;
     let spec = simulated(rt.alloc())?;
     for _ in 0..2 {
         assert!(rt; rack.make(&spec).err() == Some(RackFault::Failed));
     }
-    let mut link = rack.make(&on_network(rt.alloc())?)?;
+    let spec = on_network(rt.alloc())?;
     let mut into = Vec::new(rt.alloc());
-    assert!(rt; ask(&mut link, &REQUEST, &mut into) == Ok(Received::Got));
+    assert!(rt; ask_and_keep(&mut rack, &spec, &mut into) == Ok(Ok(Received::Got)));
     same(&rt, &into.len(), &12);
     Ok(())
 }

@@ -2,7 +2,7 @@
 
 use crate::fixtures::add;
 use crate::same::same_items;
-use ipb_base::Text;
+use ipb_base::{NoMemory, Text};
 use script_plans::laws::few_words_are_few_pieces;
 use script_plans::{
     BoardRun, ClientPart, ClientParts, Greeting, Lates, Outcome, Outcomes, Planned, Words, plan_on,
@@ -10,6 +10,7 @@ use script_plans::{
 use script_steps::laws::what_is_denied_asks_for_less;
 use script_steps::{Decision, Steps, Verb};
 use std::alloc::Global;
+use std::process::Abort;
 use std::test::Fail;
 use transcript::{
     LateAnswer, LinePlaces, OpLine, OpResult, all_good, board_lines, line_text, lines_of_clients,
@@ -49,55 +50,60 @@ fn a_denied_sum_is_not_planned(rt: HostRuntime) -> Result<(), Fail> {
     Ok(())
 }
 
+/// Stops where the line of an operation on `b0:a` has another text.
+fn is_printed(
+    rt: &impl Abort,
+    alloc: Global,
+    number: u32,
+    verb: Verb,
+    came_to: OpResult,
+    places: &[(u64, u16)],
+    text: &str,
+) -> Result<(), Fail> {
+    let line = OpLine {
+        number,
+        verb,
+        board: Text::copy_of(alloc, "b0")?,
+        name: Text::copy_of(alloc, "a")?,
+        result: came_to,
+        places: LinePlaces::from_vec(places.to_vec(alloc)?),
+    };
+    same_items(rt, &line_text(alloc, &line)?, text.as_bytes());
+    Ok(())
+}
+
 #[test]
 fn a_denied_write_is_printed_with_its_rule(rt: HostRuntime) -> Result<(), Fail> {
-    let line = OpLine {
-        number: 2,
-        verb: Verb::Write,
-        board: Text::copy_of(rt.alloc(), "b0")?,
-        name: Text::copy_of(rt.alloc(), "a")?,
-        result: OpResult::Denied { rule: u32::MAX },
-        places: LinePlaces::from_vec(Vec::new(rt.alloc())),
-    };
-    let text = line_text(rt.alloc(), &line)?;
-    let wanted = b"2 write b0:a denied by rule 4294967295\n";
-    same_items(&rt, text.as_slice(), wanted.as_slice());
-    Ok(())
+    let denied = OpResult::Denied { rule: u32::MAX };
+    let text = "2 write b0:a denied by rule 4294967295\n";
+    is_printed(&rt, rt.alloc(), 2, Verb::Write, denied, &[], text)
 }
 
 #[test]
 fn a_sum_is_printed_with_the_word_before(rt: HostRuntime) -> Result<(), Fail> {
-    let line = OpLine {
-        number: 12,
-        verb: Verb::RmwSum,
-        board: Text::copy_of(rt.alloc(), "b0")?,
-        name: Text::copy_of(rt.alloc(), "a")?,
-        result: OpResult::Was(u32::MAX),
-        places: LinePlaces::from_vec([(1u64, 2u16), (3, 1)].to_vec(rt.alloc())?),
-    };
-    let text = line_text(rt.alloc(), &line)?;
-    let wanted = b"12 rmwsum b0:a was 0xffffffff @1.2,3.1\n";
-    same_items(&rt, text.as_slice(), wanted.as_slice());
-    Ok(())
+    let was = OpResult::Was(u32::MAX);
+    let text = "12 rmwsum b0:a was 0xffffffff @1.2,3.1\n";
+    let places = [(1, 2), (3, 1)];
+    is_printed(&rt, rt.alloc(), 12, Verb::RmwSum, was, &places, text)
 }
 
 #[test]
 fn a_late_answer_is_printed_behind_its_timeout(rt: HostRuntime) -> Result<(), Fail> {
-    let line = OpLine {
-        number: 1,
-        verb: Verb::Write,
-        board: Text::copy_of(rt.alloc(), "b0")?,
-        name: Text::copy_of(rt.alloc(), "a")?,
-        result: OpResult::Late {
-            rounds: 2,
-            answer: LateAnswer::Done,
-        },
-        places: LinePlaces::from_vec([(1u64, 1u16)].to_vec(rt.alloc())?),
+    let late = OpResult::Late {
+        rounds: 2,
+        answer: LateAnswer::Done,
     };
-    let text = line_text(rt.alloc(), &line)?;
-    let wanted = b"1 write b0:a timeout after 2 rounds, answered late: done @1.1\n";
-    same_items(&rt, text.as_slice(), wanted.as_slice());
-    Ok(())
+    let text = "1 write b0:a timeout after 2 rounds, answered late: done @1.1\n";
+    is_printed(&rt, rt.alloc(), 1, Verb::Write, late, &[(1, 1)], text)
+}
+
+/// The text of what became of a client's steps on a board, and whether all of it is good.
+fn told(alloc: Global, run: BoardRun, steps: Steps) -> Result<(Vec<u8>, bool), NoMemory> {
+    let runs = [run];
+    let clients = lines_of_clients(alloc, &runs, &[steps])?;
+    let boards = board_lines(alloc, &runs)?;
+    let text = transcript_text(alloc, &clients, &boards)?;
+    Ok((text, all_good(&clients)))
 }
 
 /// A live board whose one body was timed out at place 1 after 2 rounds, and then answered by the word 5.
@@ -122,19 +128,22 @@ fn answered_late(alloc: Global, planned: Planned) -> Result<BoardRun, Fail> {
     })
 }
 
+/// A step that adds 7.
+fn one_sum(alloc: Global) -> Result<Steps, NoMemory> {
+    let mut sums = Vec::new(alloc);
+    sums.push(add(alloc, 0, 7)?)?;
+    Ok(Steps::from_vec(sums))
+}
+
 #[test]
 fn a_body_that_was_answered_late_shows_the_answer(rt: HostRuntime) -> Result<(), Fail> {
-    let runs = [answered_late(rt.alloc(), planned_sum(rt.alloc())?)?];
-    let mut sums = Vec::new(rt.alloc());
-    sums.push(add(rt.alloc(), 0, 7)?)?;
-    let clients = lines_of_clients(rt.alloc(), &runs, &[Steps::from_vec(sums)])?;
-    let boards = board_lines(rt.alloc(), &runs)?;
-    let text = transcript_text(rt.alloc(), &clients, &boards)?;
-    let line = "1 rmwsum b0:a timeout after 2 rounds, answered late: was 0x00000005 @1.1";
-    let board = "board b0 places 1 replied 0 timeout 1 lost 0";
-    let wanted = format!(in rt.alloc(); "client 1\n{line}\n{board}\n")?;
-    same_items(&rt, text.as_slice(), wanted.as_bytes());
-    assert!(rt; !all_good(&clients));
+    let run = answered_late(rt.alloc(), planned_sum(rt.alloc())?)?;
+    let (text, is_good) = told(rt.alloc(), run, one_sum(rt.alloc())?)?;
+    let wanted = "client 1\n\
+        1 rmwsum b0:a timeout after 2 rounds, answered late: was 0x00000005 @1.1\n\
+        board b0 places 1 replied 0 timeout 1 lost 0\n";
+    same_items(&rt, &text, wanted.as_bytes());
+    assert!(rt; !is_good);
     Ok(())
 }
 
@@ -159,13 +168,11 @@ fn ruled(alloc: Global) -> Result<Steps, Fail> {
 
 #[test]
 fn a_denied_operation_has_its_line(rt: HostRuntime) -> Result<(), Fail> {
-    let runs = [silent(rt.alloc())?];
-    let clients = lines_of_clients(rt.alloc(), &runs, &[ruled(rt.alloc())?])?;
-    let boards = board_lines(rt.alloc(), &runs)?;
-    let text = transcript_text(rt.alloc(), &clients, &boards)?;
+    let run = silent(rt.alloc())?;
+    let (text, is_good) = told(rt.alloc(), run, ruled(rt.alloc())?)?;
     let wanted =
         "client 1\n1 rmwsum b0:a denied by rule 2\n2 rmwsum b0:a unsent\nboard b0 silent\n";
-    same_items(&rt, text.as_slice(), wanted.as_bytes());
-    assert!(rt; !all_good(&clients));
+    same_items(&rt, &text, wanted.as_bytes());
+    assert!(rt; !is_good);
     Ok(())
 }

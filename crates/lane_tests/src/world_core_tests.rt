@@ -4,6 +4,7 @@ use crate::fixtures::{FOUR_READ, READ_FOUR, REPLY, REQUEST, board};
 use crate::same::same;
 use ipb_base::{NoMemory, Words};
 use std::alloc::Global;
+use std::process::Abort;
 use std::test::Fail;
 use world_core::{Air, Fate, Settings, World, WorldEnd, WorldMove, are_short, run_world};
 
@@ -156,12 +157,19 @@ fn moves_are_run(rt: HostRuntime) -> Result<(), Fail> {
     Ok(())
 }
 
+/// The request is sent over an air, and its board hears it; nothing stands behind it.
+fn is_heard(rt: &impl Abort, air: &mut Air) -> Result<(), NoMemory> {
+    air.send(&REQUEST)?;
+    for (place, is_there) in [(0, true), (1, false)] {
+        same(rt, &air.hear(place)?, &is_there);
+    }
+    Ok(())
+}
+
 #[test]
 fn an_air_keeps_what_was_sent_and_answered(rt: HostRuntime) -> Result<(), Fail> {
     let mut air = Air::new(rt.alloc(), board(rt.alloc(), 16, 1)?);
-    air.send(&REQUEST)?;
-    assert!(rt; air.hear(0)?);
-    assert!(rt; !air.hear(1)?);
-    assert!(rt; air.for_hub(1) == Some(REPLY.as_slice()));
+    is_heard(&rt, &mut air)?;
+    same(&rt, &air.for_hub(1), &Some(REPLY.as_slice()));
     Ok(())
 }
