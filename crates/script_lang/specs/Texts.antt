@@ -6,6 +6,7 @@ use Rattle.address_table.specs.Kinds.{is_one_of}
 use Rattle.ipb_base.specs.Digits.{is_between, number_in_text}
 use Rattle.address_table.specs.Rules.{is_id}
 use Rattle.std.specs.Str.{bytes_eq}
+use Rattle.ipb_base.specs.Numbers.{greatest_port}
 use Rattle.board_bus.specs.declared.kind.RangeKind.{RangeKind}
 use Rattle.board_bus.specs.declared.kind.RangeKind.TheVariants.{Rw, Ro, Wo, Slow}
 use Rattle.script_lang.specs.declared.keys.TextRule.{TextRule}
@@ -43,10 +44,6 @@ infixl 10 ◌>>=◌
 abbrev pub ◌>>=◌ : {A B : Type 0} → Option A → (A → Option B) → Option B
 None >>= f = None
 (Some x) >>= f = f x
-
--- the greatest port of UDP
-abbrev pub greatest_port : ℕ
-greatest_port = 65535
 
 -- `A.B.C.D:PORT`: the four bytes of an IPv4 address and a port, all decimal.
 unfoldable pub endpoint : List ℕ → Option (List ℕ × ℕ)

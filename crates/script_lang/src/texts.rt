@@ -2,6 +2,7 @@
 
 ghost use Rattle.std.specs.Prelude.{◌≡◌, ◌==◌, ◌&&◌, option_map};
 ghost use Rattle.std.specs.List.{list_all};
+ghost use Rattle.ipb_base.specs.Numbers.{greatest_port};
 ghost use Rattle.address_table.specs.Rules.{holds_of};
 ghost use Rattle.toml.specs.Data.{as_str};
 ghost use Rattle.toml.specs.View.{view};
@@ -114,7 +115,7 @@ fn byte_in(text: &[u8]) -> Option<u8>
 
 /// A port, from 1.
 fn port_in(text: &[u8]) -> Option<u16>
-    ensures { result ≡ spec.decimal_between 1 spec.greatest_port text.now }
+    ensures { result ≡ spec.decimal_between 1 greatest_port text.now }
 {
     let number = decimal_between(1, 65535, text)?;
     u16::try_from(number).ok()
