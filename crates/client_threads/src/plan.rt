@@ -1,14 +1,17 @@
 //! What a client asks of the lanes of a hub.
 
-ghost use Rattle.std.specs.Prelude.{◌≡◌};
+ghost use Rattle.std.specs.Prelude.{◌≡◌, ◌++◌, ◌∷◌, [], OnErr, OnOk};
 
+use hub_multiplexer::NoMemory;
+use smallvec::SmallVec;
+use std::alloc::Global;
 use std::marker::Model;
 
-/// How many bodies to ask of which lane: pairs of a lane's number, from 0, and a number of bodies, by rising lane.
-/// Contracts see that list.
+/// How many bodies to ask of which lane: pairs of a lane's number, from 0, and a number of bodies, by rising lane. One
+/// pair takes no memory. Contracts see that list.
 #[derive(Drop)]
 pub struct Asks {
-    items: Vec<(u32, u32)>,
+    items: SmallVec<(u32, u32), 1>,
 }
 
 impl Model for Asks {
@@ -20,11 +23,21 @@ impl Model for Asks {
 }
 
 impl Asks {
-    /// The pairs of a vector, in its order. It takes no memory.
-    pub fn from_vec(items: Vec<(u32, u32)>) -> Asks
-        ensures { result ≡ items.items }
+    /// No pairs.
+    pub fn new(alloc: Global) -> Asks
+        ensures { result ≡ [] }
     {
-        Asks { items }
+        Asks {
+            items: SmallVec::new(alloc),
+        }
+    }
+
+    /// Adds a pair at the end. Where memory ran out nothing changed.
+    pub fn push(&mut self, lane: u32, count: u32) -> Result<(), NoMemory>
+        ensures pushed { OnOk result (self.new ≡ self.old ++ (lane, count) ∷ []) }
+        ensures unchanged { OnErr result (self.new ≡ self.old) }
+    {
+        Ok(self.items.push((lane, count))?)
     }
 
     /// The pairs, in order.

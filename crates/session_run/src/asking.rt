@@ -25,11 +25,11 @@ fn count_at(planned: &[Planned], client: usize, dispatch: usize) -> usize
 }
 
 /// Adds a lane with a number of bodies, unless there are none.
-fn add_pair(asks: &mut Vec<(u32, u32)>, lane: u32, count: u32) -> Result<(), NoMemory>
-    ensures { OnOk result (asks.new.items ≡ asks.old.items ++ spec.pair_of lane count) }
+fn add_pair(asks: &mut Asks, lane: u32, count: u32) -> Result<(), NoMemory>
+    ensures { OnOk result (asks.new ≡ asks.old ++ spec.pair_of lane count) }
 {
     if count > 0 {
-        asks.push((lane, count))?;
+        asks.push(lane, count)?;
     }
     Ok(())
 }
@@ -45,14 +45,12 @@ fn dispatch_over(
     requires few_bodies { AllByRecursion (AllByRecursion HasFewBodies) boards.now }
     ensures { IfOk result (λ made. made ≡ spec.dispatch_over boards.now client dispatch) }
 {
-    let mut asks = Vec::new(alloc);
+    let mut asks = Asks::new(alloc);
     for (lane, board) in boards.iter().enumerate() {
         let count = count_at(board.as_slice(), client, dispatch);
         add_pair(&mut asks, lane as u32, count as u32)?;
     }
-    Ok(Dispatch {
-        asks: Asks::from_vec(asks),
-    })
+    Ok(Dispatch { asks })
 }
 
 /// What a client, from 0, asks of all lanes in so many dispatches.

@@ -6,6 +6,6 @@ use Rattle.session_run.proofs.asking.dispatch_over.Goals as goal
 pub loop-lane-preserved : goal.loop-lane-preserved
 loop-lane-preserved c =
     lane_more c.args.client c.args.dispatch c.loop-lane.lane c.loop-lane.lane c.count_at-count.result c.args.boards.now
-    c.index-boards-lane.result c.loop-lane.asks.items c.add_pair.new.asks.items c.loop-lane-test.true
+    c.index-boards-lane.result c.loop-lane.asks c.add_pair.new.asks c.loop-lane-test.true
     c.index-boards-lane.is c.loop-lane.invariant refl
     (c.count_at-count.ensures ∙ ap (count_at c.args.client c.args.dispatch) c.as_slice.ensures) c.in_ok-add_pair.ensures
