@@ -4,7 +4,7 @@ use Rattle.std.proofs.lemmas.Option.{same_Some}
 use Rattle.ipb_base.specs.Numbers.{payload_of}
 use Rattle.packet_codec.specs.Reading.{packet_of, start_of}
 use Rattle.packet_ids.specs.Identifier.{identifier_at}
-use Rattle.world_model.specs.Messages.{Reply, StatusReply, ToHub, to_hub}
+use Rattle.world_model.specs.Messages.{Reply, StatusReply, to_hub}
 use Rattle.lane_history.specs.Examples.{greeted_and_replied, reply_datagram, seven_read, status_datagram}
 use Rattle.lane_history.specs.Receives.{HasBroughtReply}
 use Rattle.lane_history.proofs.examples.no_other_reply_came.Goals as goal
