@@ -102,11 +102,13 @@ module _ {L : Type 0} (seen : Ghosts L) (settings : Limits) where
       → IfSilent board (λ after rounds. IfSome (seen.telling after)
       (λ _. (settings.rounds ≤ seen.quiets after) × (settings.rounds ≤ seen.held after)))
       → IfSilent board (λ after rounds. first_status (seen.receives after) ≡ None)
+      → IfDown board (λ after. first_status (seen.receives after) ≡ None)
       → IfDown board (λ after. Rose (seen.faults link) (seen.faults after))
       → IsUntouched (shown_by seen (link_of board))
       → IsGreetedAs settings board (shown_by seen (link_of board))
-  told_as link (Ready lane) ready told silent quiet untold down untouched = record { opened' = ready; greeted = told }
-  told_as link (Silent after rounds) ready told silent quiet untold down untouched = record {
+  told_as link (Ready lane) ready told silent quiet untold none down untouched =
+      record { opened' = ready; greeted = told }
+  told_as link (Silent after rounds) ready told silent quiet untold none down untouched = record {
     untold = untold;
     waited = silent.1;
     quiet =
@@ -116,9 +118,9 @@ module _ {L : Type 0} (seen : Ghosts L) (settings : Limits) where
         quiet;
     untouched = untouched;
   }
-  told_as link (Down after) ready told silent quiet untold down untouched =
-      record { failed = omega (arith, down); untouched = untouched }
-  told_as link (NoMemory after) ready told silent quiet untold down untouched = tt
+  told_as link (Down after) ready told silent quiet untold none down untouched =
+      record { untold = none; failed = omega (arith, down); untouched = untouched }
+  told_as link (NoMemory after) ready told silent quiet untold none down untouched = tt
 
   pub is_reached : (spec : BoardSpec) (link : L) (board : Greeted L) → seen.telling link ≡ telling_for spec.link
       → IfTelling (seen.telling link) (seen.telling (link_of board)) (StaysFresh settings)
@@ -129,9 +131,10 @@ module _ {L : Type 0} (seen : Ghosts L) (settings : Limits) where
       → IfSilent board (λ after rounds. IfSome (seen.telling after)
       (λ _. (settings.rounds ≤ seen.quiets after) × (settings.rounds ≤ seen.held after)))
       → IfSilent board (λ after rounds. first_status (seen.receives after) ≡ None)
+      → IfDown board (λ after. first_status (seen.receives after) ≡ None)
       → IfDown board (λ after. Rose (seen.faults link) (seen.faults after))
       → IsReached settings spec board (shown_by seen (link_of board))
-  is_reached spec link board made fresh ready told silent quiet untold down =
+  is_reached spec link board made fresh ready told silent quiet untold none down =
       let call = subst (λ (t : Option Telling). IfTelling t (seen.telling (link_of board)) (StaysFresh settings)) made
       fresh in
       let untouched = untouched_there settings spec.link (seen.telling (link_of board)) call in
@@ -141,7 +144,7 @@ module _ {L : Type 0} (seen : Ghosts L) (settings : Limits) where
           untouched = untouched;
           begins = begins_still settings (telling_for spec.link) (seen.telling (link_of board)) call;
         };
-        as_told = told_as link board ready told silent quiet untold down untouched;
+        as_told = told_as link board ready told silent quiet untold none down untouched;
       }
 
 -- ---- links given back

@@ -21,7 +21,7 @@ use Rattle.hub_lane.specs.declared.answers.Pumped.{Pumped}
 use Rattle.hub_lane.specs.declared.answers.Pumped.TheVariants.{Reply, Status, Stray, Quiet, Idle, LinkDown}
 use Rattle.hub_lane.specs.Calls.{GoesDown, IsSameRecord, PumpsAs, TakesNothing, WasAsked}
 use Rattle.hub_lane.specs.Carrying.{Pumping}
-use Rattle.hub_lane.specs.Hearing.{HasReceivedOnce, gots_of, quiets_of}
+use Rattle.hub_lane.specs.Hearing.{gots_of, quiets_of}
 use Rattle.hub_lane.specs.Lanes.{LaneState}
 use Rattle.hub_lane.specs.Step.{IsPump, PumpsOnce}
 use Rattle.lane_tables.specs.Taken.{IsOldest}
@@ -124,22 +124,23 @@ waits_for true hub cs outcomes k a none is = none_unsettled 0 outcomes k (sym a.
 waits_for false hub cs outcomes k a none is = none_unsettled 0 outcomes k (sym a.waits ∙ nobody hub is) none
 
 -- a pump after which the body has no outcome received
-pub pumped_in_vain : {L : Type 0} (old new : LaneState L) (telling : Option Telling) (pumped : Pumped) (k q q' g g' : ℕ)
-    → PumpsAs old telling new pumped
+pub pumped_in_vain : {L : Type 0} (old new : LaneState L) (telling : Option Telling)
+    (before now : List (Option (List ℕ))) (pumped : Pumped) (k q q' g g' : ℕ)
+    → PumpsAs old telling before now new pumped
     → Agrees new.hub.sent (if new.down then [] else new.hub.queue) (if new.down then [] else new.hub.open_places)
     (claims new.items) new.outcomes → slice_get new.outcomes k ≡ Some None
     → q' ≡ quiets_of pumped q → g' ≡ gots_of pumped g → Rose q q' ⊎ Rose g g'
-pumped_in_vain old new telling (Reply place) k q q' g g' p a none quiets gots = inr (omega (arith, gots))
-pumped_in_vain old new telling Status k q q' g g' p a none quiets gots = inr (omega (arith, gots))
-pumped_in_vain old new telling Stray k q q' g g' p a none quiets gots = inr (omega (arith, gots))
-pumped_in_vain old new telling Quiet k q q' g g' p a none quiets gots = inl (omega (arith, quiets))
-pumped_in_vain {L} old new telling Idle k q q' g g' p a none quiets gots =
+pumped_in_vain old new telling before now (Reply place) k q q' g g' p a none quiets gots = inr (omega (arith, gots))
+pumped_in_vain old new telling before now Status k q q' g g' p a none quiets gots = inr (omega (arith, gots))
+pumped_in_vain old new telling before now Stray k q q' g g' p a none quiets gots = inr (omega (arith, gots))
+pumped_in_vain old new telling before now Quiet k q q' g g' p a none quiets gots = inl (omega (arith, quiets))
+pumped_in_vain {L} old new telling before now Idle k q q' g g' p a none quiets gots =
     absurd (waits_for new.down new.hub (claims new.items) new.outcomes k a none
     (ap (λ (l : LaneState L). is_waiting l.hub) p.0 ∙ p.1))
-pumped_in_vain {L} old new telling LinkDown k q q' g g' p a none quiets gots = absurd
+pumped_in_vain {L} old new telling before now LinkDown k q q' g g' p a none quiets gots = absurd
     (not_down new.down new.hub (claims new.items) new.outcomes k a none (⊎_elim
     (λ (h : (old.down ≡ true) × (new ≡ old)). ap (λ (l : LaneState L). l.down) h.1 ∙ h.0)
-    (λ (h : (old.down ≡ false) × (is_waiting old.hub ≡ true) × GoesDown old new). h.2.down) p))
+    (λ (h : (old.down ≡ false) × (is_waiting old.hub ≡ true) × GoesDown old new). h.2.down) p.1))
 
 -- ---- the same record
 
@@ -157,10 +158,10 @@ same_record {L} old new e = record {
 
 pub one_pump : {L : Type 0} (telling : L → Option Telling) (receives : L → List (Option (List ℕ)))
     (old before new : LaneState L) (came_to : Pumped) (client seq : ℕ) → IsOldest old.items client seq → TakesNothing old client seq before
-    → PumpsAs before (telling new.link) new came_to
+    → PumpsAs before (telling new.link) (receives before.link) (receives new.link) new came_to
     → IfTelling (telling before.link) (telling new.link) (Pumping came_to before.hub new.hub)
-    → HasReceivedOnce came_to (receives before.link) (receives new.link) → PumpsOnce telling receives old client new
-one_pump {L} telling receives old before new came_to client seq oldest nothing became carried received = record {
+    → PumpsOnce telling receives old client new
+one_pump {L} telling receives old before new came_to client seq oldest nothing became carried = record {
   first = record {
     seq = seq;
     oldest = oldest;
@@ -173,7 +174,7 @@ one_pump {L} telling receives old before new came_to client seq oldest nothing b
   };
   came_to = came_to;
   pump = subst (λ (lane : LaneState L). IsPump telling receives lane came_to new) nothing.same
-      (record { became = became; carried = carried; received = received });
+      (record { became = became; carried = carried });
 }
 
 -- a pump adds no entry

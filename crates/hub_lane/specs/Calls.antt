@@ -21,7 +21,7 @@ use Rattle.hub_lane.specs.declared.answers.Taken.{Taken}
 use Rattle.hub_lane.specs.declared.answers.Taken.TheVariants.{Ready, NotYet}
 use Rattle.hub_lane.specs.Carrying.{HasPut}
 use Rattle.hub_lane.specs.Sends.{HasSent, all_sent}
-use Rattle.hub_lane.specs.Hearing.{IsEventAs, WasReceived, give_ups_of, hub_after}
+use Rattle.hub_lane.specs.Hearing.{IsEventAs, WasReceived, give_ups_of, hub_after, receives_of}
 use Rattle.hub_lane.specs.Lanes.{LaneState, with_item}
 
 -- a Seal is the next entry, unless one stands there
@@ -137,23 +137,28 @@ pub record Became {L : Type 0} (old : LaneState L) (event : Hub) (pumped : Pumpe
   pub down : new.down ≡ false
   pub spent : new.spent ≡ false
 
--- All sends went out, and then came a datagram of these bytes, or none.
-pub record HasReceived {L : Type 0} (old : LaneState L) (telling : Option Telling) (pumped : Pumped)
-    (new : LaneState L) : Type 0 where
+-- All sends went out, and then came a datagram of these bytes, or none: that alone joined what the link received
+-- before, and from it the lane became what it is now.
+pub record HasReceived {L : Type 0} (old : LaneState L) (telling : Option Telling) (before now : List (Option (List ℕ)))
+    (pumped : Pumped) (new : LaneState L) : Type 0 where
   pub waited : is_waiting old.hub ≡ true
   pub bytes : List ℕ
   pub event : IsEventAs (all_sent old.hub) bytes pumped
+  pub receives : now ≡ receives_of pumped bytes before
   pub received : IfSome telling (WasReceived pumped bytes)
   pub became : Became old (hub_after pumped bytes (all_sent old.hub)) pumped new
 
-abbrev pub PumpsAs : {L : Type 0} → LaneState L → Option Telling → LaneState L → Pumped → Type 0
-PumpsAs old telling new (Reply place) = HasReceived old telling (Reply place) new
-PumpsAs old telling new Status = HasReceived old telling Status new
-PumpsAs old telling new Stray = HasReceived old telling Stray new
-PumpsAs old telling new Quiet = HasReceived old telling Quiet new
-PumpsAs old telling new Idle = (new ≡ old) × (is_waiting old.hub ≡ false) × (old.down ≡ false)
-PumpsAs old telling new LinkDown = ((old.down ≡ true) × (new ≡ old))
-    ⊎ ((old.down ≡ false) × (is_waiting old.hub ≡ true) × GoesDown old new)
+-- `before` and `now` are what the receives of the link came to. Nothing joins them where nobody waits, or the link fails.
+abbrev pub PumpsAs : {L : Type 0} → LaneState L → Option Telling → List (Option (List ℕ)) → List (Option (List ℕ))
+    → LaneState L → Pumped → Type 0
+PumpsAs old telling before now new (Reply place) = HasReceived old telling before now (Reply place) new
+PumpsAs old telling before now new Status = HasReceived old telling before now Status new
+PumpsAs old telling before now new Stray = HasReceived old telling before now Stray new
+PumpsAs old telling before now new Quiet = HasReceived old telling before now Quiet new
+PumpsAs old telling before now new Idle =
+    (new ≡ old) × (is_waiting old.hub ≡ false) × (old.down ≡ false) × (now ≡ before)
+PumpsAs old telling before now new LinkDown = (now ≡ before) × (((old.down ≡ true) × (new ≡ old))
+    ⊎ ((old.down ≡ false) × (is_waiting old.hub ≡ true) × GoesDown old new))
 
 -- ---- take
 

@@ -94,11 +94,6 @@ receives_of Quiet bytes before = before ++ None ∷ []
 receives_of Idle bytes before = before
 receives_of LinkDown bytes before = before
 
--- so one datagram was received, or a receive was quiet, or nothing was received
-pub record HasReceivedOnce (came_to : Pumped) (before now : List (Option (List ℕ))) : Type 0 where
-  pub bytes : List ℕ
-  pub receives : now ≡ receives_of came_to bytes before
-
 -- how often the hub gave up, after a quiet receive that left it so
 abbrev pub give_ups_after : Hub → ℕ → ℕ
 give_ups_after hub count = if is_waiting hub then count else count + 1

@@ -9,7 +9,6 @@ use Rattle.hub_lane.specs.Lanes.{LaneState}
 use Rattle.world_core.specs.Telling.{IfTelling, Telling}
 use Rattle.hub_lane.specs.Calls.{IsSameRecord, PumpsAs, Takes, TakesNothing}
 use Rattle.hub_lane.specs.Carrying.{Pumping}
-use Rattle.hub_lane.specs.Hearing.{HasReceivedOnce}
 use Rattle.hub_lane.specs.declared.answers.Pumped.{Pumped}
 use Rattle.hub_lane.specs.declared.step.Looked.{Looked}
 use Rattle.hub_lane.specs.declared.step.Looked.TheVariants as looks
@@ -69,12 +68,11 @@ LooksAs old client new looks.Nothing = (new ≡ old) × HasTakenAll old.items cl
 
 -- ---- what a step does to its link
 
--- one pump that came to this: what the lane became, and what its link did and counted
+-- one pump that came to this: what the lane became and its link received, and what the link carried
 pub record IsPump {L : Type 0} (telling : L → Option Telling) (receives : L → List (Option (List ℕ)))
     (old : LaneState L) (came_to : Pumped) (new : LaneState L) : Type 0 where
-  pub became : PumpsAs old (telling new.link) new came_to
+  pub became : PumpsAs old (telling new.link) (receives old.link) (receives new.link) new came_to
   pub carried : IfTelling (telling old.link) (telling new.link) (Pumping came_to old.hub new.hub)
-  pub received : HasReceivedOnce came_to (receives old.link) (receives new.link)
 
 -- nothing became of the client's oldest asked and untaken body so far, and then the lane was pumped once
 pub record PumpsOnce {L : Type 0} (telling : L → Option Telling) (receives : L → List (Option (List ℕ)))

@@ -57,7 +57,7 @@ impl<L: Link> Lane<L> {
     /// Greets the board of a link that was not used yet: asks for its status and receives until it is told, a receive
     /// is quiet or `MOST_OTHERS` other datagrams came, and so again, at most as many rounds as the settings say. After
     /// any answer a board that the link tells has executed nothing. The lane begins right behind the first datagram
-    /// that tells a status, and no board is called silent that told one.
+    /// that tells a status, and no board is called silent or down that told one.
     pub fn greet(alloc: Global, link: L, settings: Settings) -> Greeted<L>
         requires unused { IsUnused (L.faults link) (L.quiets link) (L.gots link) (L.held link) (L.receives link) }
         requires begins { IfSome (L.telling link) (CanBegin settings) }
@@ -66,6 +66,7 @@ impl<L: Link> Lane<L> {
         ensures told { IfReady result (λ lane. IfSome (L.telling lane.link) (IsGreeted settings lane.status)) }
         ensures first { IfReady result (λ lane. EndsWithStatus lane.status (L.receives lane.link)) }
         ensures none_told { IfSilent result (λ link rounds. first_status (L.receives link) ≡ None) }
+        ensures down_none_told { IfDown result (λ link. first_status (L.receives link) ≡ None) }
         ensures silent { IfSilent result (λ link rounds. (rounds ≡ settings.rounds)
             × (most_others * settings.rounds ≤ most_others * L.quiets link + L.gots link)) }
         ensures silent_told { IfSilent result (λ link rounds. IfSome (L.telling link)
@@ -130,6 +131,7 @@ fn ask_for_status<L: Link>(
         (IfTelling (L.telling link.old) (L.telling link.new) HandedOutNone)) }
     ensures heard { IfOk result (λ found. IfSome found (λ _. 1 ≤ L.gots link.new)) }
     ensures receives { IfOk result (λ found. EndWith found (L.receives link.new)) }
+    ensures none_told { OnErr result (first_status (L.receives link.new) ≡ None) }
     ensures asked { IfTelling (L.telling link.old) (L.telling link.new)
         (HasAskedAtMost (L.quiets link.new + 1)) }
     ensures most_quiets { L.quiets link.new ≤ settings.rounds }
@@ -165,6 +167,7 @@ fn ask_once<L: Link>(
         (IfTelling (L.telling link.old) (L.telling link.new) HandedOutNone)) }
     ensures heard { IfOk result (λ found. IfSome found (λ _. L.gots link.old + 1 ≤ L.gots link.new)) }
     ensures receives { IfOk result (λ found. EndWith found (L.receives link.new)) }
+    ensures none_told { OnErr result (first_status (L.receives link.new) ≡ None) }
     ensures quiets { L.quiets link.new ≤ L.quiets link.old + 1 }
     ensures quiets_rise { L.quiets link.old ≤ L.quiets link.new }
     ensures gots { L.gots link.new ≤ L.gots link.old + most_others }
@@ -199,6 +202,7 @@ fn listen<L: Link>(
         (IfTelling (L.telling link.old) (L.telling link.new) HandedOutNone)) }
     ensures heard { IfOk result (λ found. IfSome found (λ _. L.gots link.old + 1 ≤ L.gots link.new)) }
     ensures receives { IfOk result (λ found. EndWith found (L.receives link.new)) }
+    ensures none_told { OnErr result (first_status (L.receives link.new) ≡ None) }
     ensures quiets { L.quiets link.new ≤ L.quiets link.old + 1 }
     ensures quiets_rise { L.quiets link.old ≤ L.quiets link.new }
     ensures gots { L.gots link.new ≤ L.gots link.old + most_others }
@@ -228,6 +232,7 @@ fn hear_once<L: Link>(
     ensures fresh { IfTelling (L.telling link.old) (L.telling link.new) (StaysFresh settings) }
     ensures asked { IfTelling (L.telling link.old) (L.telling link.new) HasAskedNothing }
     ensures receives { IfOk result (λ heard. EndWith (status_in heard) (L.receives link.new)) }
+    ensures none_told { OnErr result (first_status (L.receives link.new) ≡ None) }
     ensures told { IfOk result (λ heard. IfTelling (L.telling link.old) (L.telling link.new)
         (IsHeardFrom settings (L.held link.old) (L.held link.new) heard)) }
     ensures quiets { IfOk result (λ heard. L.quiets link.new ≡ quiets_of_answer heard (L.quiets link.old)) }

@@ -4,6 +4,7 @@ ghost use Rattle.std.specs.Prelude.{◌≡◌, ◌≤◌, ◌<◌, ◌⊎◌, �
 ghost use Rattle.std.specs.Prelude.{IfOk, IfErr};
 ghost use Rattle.std.specs.Prelude.{IfSome, IfNone, MatchOption, Err, List, if◌then◌else◌, Some, None};
 ghost use Rattle.ipb_base.specs.Faults.{Rose};
+ghost use Rattle.ipb_base.specs.Lists.{IsPrefix};
 ghost use Rattle.ipb_base.specs.Numbers.{payload_of};
 ghost use Rattle.transaction_codec.specs.Answer.{reply_room};
 ghost use Rattle.packet_codec.specs.declared.packet.TheConstants.{MAX_BODY_WORDS};
@@ -15,7 +16,7 @@ ghost use Rattle.hub_lane.specs.Plans.{CanPlan, IsRefused, Plans};
 ghost use Rattle.world_core.specs.Telling.{IfTelling};
 ghost use Rattle.hub_lane.specs.Carrying.{HasPut, Pumping};
 ghost use Rattle.hub_lane.specs.Heard.{EndsWithStatus, HasHeard, HasListened};
-ghost use Rattle.hub_lane.specs.Hearing.{HasReceivedOnce, gots_of, quiets_of};
+ghost use Rattle.hub_lane.specs.Hearing.{gots_of, quiets_of};
 ghost use Rattle.hub_lane.specs.Calls.{Asking, AsksAs, IsReplyAt, IsSameRecord, IsSpent, OffersAs, PumpsAs, SendsAs};
 ghost use Rattle.hub_lane.specs.Calls.{TakesAs, WasAsked, has_stopped};
 ghost use Rattle.hub_lane.specs.Calls.{is_lost_at_place, is_replied, sealed};
@@ -421,7 +422,8 @@ impl<L: Link> Lane<L> {
     /// spent: it never pumps again, and answers so. Where the link fails, now or before, every body that has no outcome
     /// is lost.
     pub fn pump(&mut self) -> Result<Pumped, NoMemory>
-        ensures pumped { IfOk result (PumpsAs self.old (L.telling self.new.link) self.new) }
+        ensures pumped { IfOk result (PumpsAs self.old (L.telling self.new.link) (L.receives self.old.link)
+            (L.receives self.new.link) self.new) }
         ensures same { IsSameRecord self.old self.new }
         ensures not_spent { OnOk result (self.old.spent ≡ false) }
         ensures spent { OnErr result (IsSpent self.old self.new) }
@@ -436,8 +438,7 @@ impl<L: Link> Lane<L> {
         ensures quiets_rise { L.quiets self.old.link ≤ L.quiets self.new.link }
         ensures gots { IfOk result (λ pumped. L.gots self.new.link ≡ gots_of pumped (L.gots self.old.link)) }
         ensures gots_rise { L.gots self.old.link ≤ L.gots self.new.link }
-        ensures receives { IfOk result (λ pumped.
-            HasReceivedOnce pumped (L.receives self.old.link) (L.receives self.new.link)) }
+        ensures receives_grow { IsPrefix (L.receives self.old.link) (L.receives self.new.link) }
         ensures held { L.held self.old.link ≤ L.held self.new.link }
         ensures board { board_of (L.telling self.new.link) ≡ board_of (L.telling self.old.link) }
         ensures link { IfOk result (λ pumped. IfTelling (L.telling self.old.link) (L.telling self.new.link)

@@ -1,6 +1,7 @@
 //! One step of a client, and one look.
 
 ghost use Rattle.std.specs.Prelude.{◌≡◌, ◌≤◌, IfOk, IfSome, IfNone, OnErr};
+ghost use Rattle.ipb_base.specs.Lists.{IsPrefix};
 ghost use Rattle.hub_lane.specs.Calls.{IsSameRecord, WasAsked};
 ghost use Rattle.hub_lane.specs.Lanes.{opening_of};
 ghost use Rattle.hub_lane.specs.Step.{LooksAs, RoseInVain, StepsAs, StepsOnce};
@@ -72,6 +73,7 @@ impl<L: Link> Lane<L> {
         ensures faults { L.faults self.old.link ≤ L.faults self.new.link }
         ensures quiets { L.quiets self.old.link ≤ L.quiets self.new.link }
         ensures gots { L.gots self.old.link ≤ L.gots self.new.link }
+        ensures receives_grow { IsPrefix (L.receives self.old.link) (L.receives self.new.link) }
         ensures held { L.held self.old.link ≤ L.held self.new.link }
         ensures opening { opening_of (L.telling self.new.link) ≡ opening_of (L.telling self.old.link) }
     {

@@ -134,8 +134,10 @@ pub record IsSilentRun (settings : Limits) (link : LinkReport) : Type 0 where
   pub held : IfSome link.telling (λ _. settings.rounds ≤ link.held)
   pub untouched : IsUntouched link
 
--- A board is down only where its link failed at the greeting, and it executed nothing then.
+-- A board is down only where its link failed at the greeting, before a datagram told its status, and it executed nothing
+-- then.
 pub record IsDownRun (link : LinkReport) : Type 0 where
+  pub untold : first_status link.receives ≡ None
   pub failed : HasFailed link
   pub untouched : IsUntouched link
 

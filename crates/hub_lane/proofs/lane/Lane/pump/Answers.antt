@@ -1,10 +1,8 @@
-use Rattle.std.proofs.Common.{◌∙◌, ℕ, List, [], Option, ap, arith, sym, subst, refl, Bool, true, ◌||◌, inr}
+use Rattle.std.proofs.Common.{◌∙◌, ℕ, List, Option, ap, arith, sym, subst, refl, Bool, true, ◌||◌, inr}
 use Rattle.lane_record.specs.Lates.{late_in}
 use Rattle.std.specs.Prelude.{IfSome}
 use Rattle.world_core.specs.Telling.{IfTelling}
-use Rattle.hub_lane.specs.declared.answers.Pumped.TheVariants.{LinkDown}
 use Rattle.hub_lane.specs.Calls.{IsSameRecord}
-use Rattle.hub_lane.specs.Hearing.{HasReceivedOnce}
 use Rattle.hub_lane.specs.Carrying.{Pumping}
 use Rattle.hub_lane.specs.Lanes.{BoardStatus, LaneState}
 use Rattle.hub_lane.proofs.Carrying.{pumping}
@@ -302,23 +300,3 @@ returns-in-Err-Failed-clause-same g c =
           (c.lose_all.ensures.lates ∙ c.in-Err-Failed.ensures.same_lates) ∙ there;
       give_ups = omega (arith, same_give_ups);
     })
-
-pub returns-then-self-2-clause-receives : goal.returns-then-self-2-clause-receives
-returns-then-self-2-clause-receives g c = record { bytes = []; receives = refl }
-
-pub returns-then-not-waiting-clause-receives : goal.returns-then-not-waiting-clause-receives
-returns-then-not-waiting-clause-receives g c = record { bytes = []; receives = refl }
-
-pub returns-in-Ok-clause-receives : goal.returns-in-Ok-clause-receives
-returns-in-Ok-clause-receives g c =
-    let receives = g.L.Link.receives in
-    subst (λ (v : LaneState _). HasReceivedOnce c.in-Ok.pumped (receives v.link) (receives c.exchange.new.link))
-    c.self.view_is
-    (record { bytes = c.exchange.new.buffer.items; receives = c.in-Ok.ensures.receives })
-
-pub returns-in-Err-Failed-clause-receives : goal.returns-in-Err-Failed-clause-receives
-returns-in-Err-Failed-clause-receives g c =
-    let receives = g.L.Link.receives in
-    subst (λ (v : LaneState _). HasReceivedOnce LinkDown (receives v.link) (receives c.exchange.new.link))
-    c.self.view_is
-    (record { bytes = []; receives = c.exchange.ensures.failed_receives (cc) })

@@ -37,7 +37,7 @@ returns-in-NotYet-2-clause-received g c =
     let last = subst (λ t. TakesAs c.pump.new.self c.args.client c.in-Some.seq c.take-2.new.self t) c.in-NotYet-2.is
     c.in_ok-outcome-2.ensures.taken in
     let pumped = c.in_ok-pump.ensures in
-    let rose = pumped_in_vain c.take.new.self c.pump.new.self _ c.in_ok-pump.field-0 last.number
+    let rose = pumped_in_vain c.take.new.self c.pump.new.self _ _ _ c.in_ok-pump.field-0 last.number
     (link.quiets c.take.new.self.link) _ (link.gots c.take.new.self.link) _ pumped.pumped c.is_sound.ensures.agrees
     last.none_yet pumped.quiets pumped.gots in
     subst (λ (old : LaneState g.row.L.Denot). Rose (link.quiets old.link) (link.quiets c.take-2.new.self.link)
@@ -62,8 +62,7 @@ returns-in-Ready-2-clause-once g c =
     inr (record {
       pumped = c.pump.new.self;
       once = one_pump link.telling link.receives c.args.self.now c.take.new.self c.pump.new.self
-          c.in_ok-pump.field-0 c.args.client c.in-Some.seq c.in-Some.ensures.some first pumped.pumped pumped.link
-          pumped.receives;
+          c.in_ok-pump.field-0 c.args.client c.in-Some.seq c.in-Some.ensures.some first pumped.pumped pumped.link;
       looks = record {
         seq = c.in-Some.seq;
         oldest = oldest_still c.args.self.now c.take.new.self c.pump.new.self c.args.client c.in-Some.seq
@@ -84,5 +83,4 @@ returns-in-NotYet-2-clause-once g c =
     subst (λ (new : LaneState g.row.L.Denot). PumpsOnce link.telling link.receives c.args.self.now
     c.args.client new) (sym last.same)
     (one_pump link.telling link.receives c.args.self.now c.take.new.self c.pump.new.self
-    c.in_ok-pump.field-0 c.args.client c.in-Some.seq c.in-Some.ensures.some first pumped.pumped pumped.link
-    pumped.receives)
+    c.in_ok-pump.field-0 c.args.client c.in-Some.seq c.in-Some.ensures.some first pumped.pumped pumped.link)
