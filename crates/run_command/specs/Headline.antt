@@ -6,7 +6,10 @@
 -- every simulated board does: what is printed as the reply to an operation, in time or late, is what a bus with a single
 -- thread answers at the printed places of that order, and each packet that the board executed stands there once.
 -- `timeout` is printed only after as many rounds as the line says, and where the link tells, of a packet that was
--- executed once or never, and once where a late answer stands behind it.
+-- executed once or never, and once where a late answer stands behind it. Of any board, as of one on a network whose
+-- link does not tell: what is printed as a reply is the body of a control packet that the link received behind the
+-- board's first status, with the identifier of the printed place; and the quiet receives that a `timeout` took came
+-- behind that status too.
 --
 -- It is one record, `IsTranscriptOf`, whose parts are these words. What it says of the lines is said of the steps of
 -- any run, by `IsSessionRun` of run_laws/specs/Runs. Profile.

@@ -10,7 +10,9 @@
 --
 --   0     The body of the frame was sent and has a place of its own in the order of its board, behind those of the
 --         frames of its connection before it. Where the link of the board tells, the board executed the body there, and
---         the reply frame has the words that a bus with a single thread gives there.
+--         the reply frame has the words that a bus with a single thread gives there. Whether it tells or not, they are
+--         the body of a control packet that it received behind the board's first status, with the identifier of the
+--         place.
 --   1     The board is live, and the hub gave up after the rounds of the session. The body was sent and has a place of
 --         its own, so that where the link tells, it was executed once or never.
 --   2     The board is live, the hub gave up after those rounds, and the body has no place, since it was not sent; or
