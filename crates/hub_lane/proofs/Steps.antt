@@ -157,7 +157,8 @@ same_record {L} old new e = record {
 -- ---- one pump
 
 pub one_pump : {L : Type 0} (telling : L → Option Telling) (receives : L → List (Option (List ℕ)))
-    (old before new : LaneState L) (came_to : Pumped) (client seq : ℕ) → IsOldest old.items client seq → TakesNothing old client seq before
+    (old before new : LaneState L) (came_to : Pumped) (client seq : ℕ)
+    → IsOldest old.items client seq → TakesNothing old client seq before
     → PumpsAs before (telling new.link) (receives before.link) (receives new.link) new came_to
     → IfTelling (telling before.link) (telling new.link) (Pumping came_to before.hub new.hub)
     → PumpsOnce telling receives old client new

@@ -148,7 +148,7 @@ pub record HasReceived {L : Type 0} (old : LaneState L) (telling : Option Tellin
   pub received : IfSome telling (WasReceived pumped bytes)
   pub became : Became old (hub_after pumped bytes (all_sent old.hub)) pumped new
 
--- `before` and `now` are what the receives of the link came to. Nothing joins them where nobody waits, or the link fails.
+-- `before` and `now` are what the receives of the link came to: the same where nobody waits or the link fails.
 abbrev pub PumpsAs : {L : Type 0} → LaneState L → Option Telling → List (Option (List ℕ)) → List (Option (List ℕ))
     → LaneState L → Pumped → Type 0
 PumpsAs old telling before now new (Reply place) = HasReceived old telling before now (Reply place) new

@@ -88,8 +88,8 @@ pub record TakesAfterPump {L : Type 0} (telling : L → Option Telling) (receive
   pub once : PumpsOnce telling receives old client pumped
   pub looks : LooksAtOutcome pumped client outcome new
 
--- Where the outcome is there it is taken, and all but the entry of that is as before, the link too. Where it is not, the
--- lane is pumped once.
+-- Where the outcome is there it is taken, and all but the entry of that is as before, the link too. Where it is not,
+-- the lane is pumped once.
 abbrev pub StepsOnce : {L : Type 0} → (L → Option Telling) → (L → List (Option (List ℕ))) → LaneState L → ℕ
     → LaneState L → Stepped → Type 0
 StepsOnce telling receives old client new (steps.Ready outcome) =
