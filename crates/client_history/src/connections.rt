@@ -33,11 +33,11 @@ ghost use Rattle.client_history.specs.Connections.{WereServedOn, bodies_of, disp
 ghost use Rattle.client_history.specs.Planned.{IsAmongSubmitted, KeepLimits, WerePlannedLast};
 
 use board_history::laws::the_first_sends_are_the_order;
-use lane_record::laws::finished::a_hub_has_sent_what_a_finished_record_tells;
 use lane_history::records::{
     a_clients_record_is_finished, a_finished_lane_is_live, a_record_counts_what_became_of_bodies,
     the_order_is_the_first_sends,
 };
+use lane_record::laws::finished::a_hub_has_sent_what_a_finished_record_tells;
 
 /// Where a lane came to its hub without an entry, and the seat of each connection submitted its bodies one after the
 /// other, whatever the schedule was, the lane comes back with the record of these connections, each body a dispatch of
