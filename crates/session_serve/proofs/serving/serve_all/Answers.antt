@@ -1,5 +1,6 @@
-use Rattle.std.proofs.Common.{rules, subst, Option, List}
+use Rattle.std.proofs.Common.{rules, subst, ◌≡◌, ℕ, false, Option, List}
 use Rattle.std.specs.Vec.Iter.{into_iter_items}
+use Rattle.ipb_outside.specs.Faults.{RisesExactlyIf}
 use Rattle.ipb_outside.specs.Pairs.{pair_shown}
 use Rattle.session_serve.specs.Seats.{HasServed}
 use Rattle.session_serve.proofs.serving.serve_all.Goals as goal
@@ -9,3 +10,8 @@ returns-clause-served g c =
     let shows = pair_shown g.D.Incoming.Source g.D.Outgoing.Sink in
     subst (λ (now : Option (List _)). HasServed shows c.args.states.now (into_iter_items c.args.seats)
     (g.D.Door.coming c.args.door.now) now c.scoped-back.result.1) (search rules) c.scoped-back.ensures.1.1.0
+
+pub returns-clause-door_faults : goal.returns-clause-door_faults
+returns-clause-door_faults g c =
+    subst (λ (now : ℕ). RisesExactlyIf (c.scoped-back.result.1.is_whole ≡ false) (g.D.Door.faults c.args.door.now) now)
+    (search rules) c.scoped-back.ensures.1.1.1.0

@@ -1,4 +1,4 @@
-use Rattle.std.proofs.Common.{◌∙◌, ◌++◌, [], ap, length, map, subst}
+use Rattle.std.proofs.Common.{◌∙◌, ◌++◌, [], ap, arith, length, map, subst}
 use Rattle.std.specs.Prelude.{IfOk}
 use Rattle.ipb_outside.specs.Pairs.{GivesBack}
 use Rattle.board_greeting.specs.Reports.{shown_by}
@@ -60,7 +60,7 @@ returns-clause-links g c =
 pub returns-clause-rack_faults : goal.returns-clause-rack_faults
 returns-clause-rack_faults g c =
     let same = c.serve_greeted.ensures.rack_faults ∙ c.in_ok-boards.ensures.faults.2 (λ e. cc) in
-    (λ failed. absurd (c.serve_greeted.ensures.not_rack failed), omega same, λ other. same)
+    (λ failed. absurd (c.serve_greeted.ensures.not_rack failed), omega (arith, same), λ other. same)
 
 pub returns-in_err-boards-clause-in_frames : goal.returns-in_err-boards-clause-in_frames
 returns-in_err-boards-clause-in_frames g c =
