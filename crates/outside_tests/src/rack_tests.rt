@@ -8,7 +8,7 @@ use board_node::{BoardSpec, LinkSpec};
 use ipb_base::{NoMemory, Text};
 use net_edges::{Link, LinkFault, Rack, RackFault, RealRack, Received};
 use std::alloc::Global;
-use std::net::{Ipv4Addr, UdpSocket};
+use std::net::{Ipv4Addr, Net, UdpSocket};
 use std::test::Fail;
 use std::time::Duration;
 
@@ -37,14 +37,14 @@ fn status_request() -> [u8; 64] {
     request
 }
 
-/// Asks a board for its status over a link of any rack that makes one, and gives the link back.
-fn ask_and_keep<R: Rack>(
-    rack: &mut R,
+/// Asks a board for its status over a link that the rack of the real outside makes, and gives the link back.
+fn ask_and_keep<N: Net + AllocGlobal + Drop>(
+    rack: &mut RealRack<N>,
     spec: &BoardSpec,
     into: &mut Vec<u8>,
 ) -> Result<Received, RackFault>
     requires { IsMakeable spec.now.link }
-    ensures { R.faults rack.old ≤ R.faults rack.new }
+    ensures { rack.old.faults ≤ rack.new.faults }
 {
     let mut link = rack.make(spec)?;
     let received = ask(&mut link, &status_request(), into);
