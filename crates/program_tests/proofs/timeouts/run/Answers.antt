@@ -1,0 +1,6 @@
+use denote.Param.Send.{sendable}
+use Rattle.program_tests.proofs.Sends.{sim_link_send}
+use Rattle.program_tests.proofs.timeouts.run.Goals as goal
+
+pub run_over-requires-send-K-L : goal.run_over-requires-send-K-L
+run_over-requires-send-K-L g c κs within = search (sim_link_send, sendable)
