@@ -1,4 +1,4 @@
-//! A hub of one board over a simulated link: a client step by step, one that plans as it goes, and four at once.
+//! A hub of one board over a simulated link: a client step by step, and one that plans as it goes.
 
 ghost use Rattle.std.specs.Prelude.{◌≡◌, ◌<◌, length, IfOk};
 ghost use Rattle.hub_multiplexer.specs.Ends.{HasTakenIn};
