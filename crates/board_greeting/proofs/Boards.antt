@@ -25,7 +25,7 @@ use Rattle.hub_lane.specs.declared.greeting.Greeted.TheVariants.{Ready, Silent, 
 use Rattle.hub_lane.specs.Greeting.{CanBegin, IfDown, IfReady, IfSilent, StaysFresh, link_of}
 use Rattle.hub_lane.specs.Lanes.{IsGreeted, opened}
 use Rattle.lane_history.specs.Links.{IsBoardOf, IsUntouched, LinkReport, board_there}
-use Rattle.board_greeting.specs.Boards.{AreFreshLinks, AreReached, HasRoom, IsGreetedAs, IsReached}
+use Rattle.board_greeting.specs.Boards.{AreFreshLinks, AreReached, LeavesRoom, IsGreetedAs, IsReached}
 use Rattle.board_greeting.specs.Reports.{shown_by}
 use Rattle.board_greeting.specs.Links.{AreMadeFor, link_specs}
 use Rattle.lane_history.specs.Links.{CanBeMade}
@@ -149,12 +149,12 @@ module _ {L : Type 0} (seen : Ghosts L) (settings : Limits) where
 
 -- ---- links given back
 
-pub room_for_one : (kept made count : ℕ) → HasRoom kept made (suc count) → kept + 1 ≤ made
+pub room_for_one : (kept made count : ℕ) → LeavesRoom kept made (suc count) → kept + 1 ≤ made
 room_for_one kept made count (inl none) = absurd (omega (arith, none))
 room_for_one kept made count (inr room) = omega (arith, room)
 
 pub room_for_less : (kept kept_now made made_now count : ℕ) → kept_now ≡ kept + 1 → made_now ≡ made
-    → HasRoom kept made (suc count) → HasRoom kept_now made_now count
+    → LeavesRoom kept made (suc count) → LeavesRoom kept_now made_now count
 room_for_less kept kept_now made made_now count one same (inl none) = absurd (omega (arith, none))
 room_for_less kept kept_now made made_now count one same (inr room) = inr (omega (arith, room, one, same))
 
@@ -229,7 +229,7 @@ pub one_more_made : (old new : List LinkSpec) (spec : LinkSpec) → new ≡ old 
 one_more_made old new spec one = ap (λ (l : List LinkSpec). length l) one ∙ length-append old (spec ∷ [])
 
 pub room_for_more : (kept kept_now made made_now count : ℕ) → kept ≤ made → kept_now ≡ kept → made_now ≡ made + 1
-    → HasRoom kept made count → HasRoom kept_now made_now (count + 1)
+    → LeavesRoom kept made count → LeavesRoom kept_now made_now (count + 1)
 room_for_more kept kept_now made made_now count within same one (inl none) =
     inr (omega (arith, none, within, same, one))
 room_for_more kept kept_now made made_now count within same one (inr room) =

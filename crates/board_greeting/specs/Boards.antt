@@ -1,7 +1,8 @@
 -- Boards at their greeting, and what is known of each by it. Profile.
-use Rattle.std.specs.Prelude.{◌≡◌, ◌⊎◌, ℕ, ◌+◌, ◌≤◌, List, [], ◌∷◌, Option, Some, None, IfSome}
+use Rattle.std.specs.Prelude.{◌≡◌, ◌⊎◌, ℕ, ◌+◌, ◌≤◌, List, [], ◌∷◌, length, Option, Some, None, IfSome}
 use Rattle.ipb_base.specs.Numbers.{payload_of}
 use Rattle.world_core.specs.Telling.{Telling}
+use Rattle.lossy_network.specs.declared.rack.Rack.{Ghosts as RackGhosts}
 use Rattle.world_model.specs.Settings.{Limits}
 use Rattle.board_node.specs.declared.spec.BoardSpec.{BoardSpec}
 use Rattle.lane_record.specs.Coding.{Head}
@@ -67,9 +68,13 @@ HasMemory (Silent link rounds) = Unit {0}
 HasMemory (Down link) = Unit {0}
 HasMemory (NoMemory link) = ⊥
 
--- a rack that keeps so many of so many links has room for so many more
-abbrev pub HasRoom : ℕ → ℕ → ℕ → Type 0
-HasRoom kept made count = (count ≡ 0) ⊎ (kept + count ≤ made)
+-- so many links kept, of so many that were made, leave room for so many more
+abbrev pub LeavesRoom : ℕ → ℕ → ℕ → Type 0
+LeavesRoom kept made count = (count ≡ 0) ⊎ (kept + count ≤ made)
+
+-- a rack may take back so many links more
+abbrev pub HasRoom : {R L : Type 0} → RackGhosts R L → R → ℕ → Type 0
+HasRoom seen rack count = LeavesRoom (length (seen.kept rack)) (length (seen.made rack)) count
 
 -- the links are those of the first boards, in order
 abbrev pub AreFreshLinks : Limits → List BoardSpec → List LinkReport → Type 0

@@ -1,16 +1,19 @@
 -- The links of boards, made by a rack and given back to it. Profile.
 use Rattle.std.specs.Prelude.{◌≡◌, ℕ, List, ◌++◌, length, map}
 use Rattle.ipb_base.specs.Lists.{IsPrefix}
-use Rattle.world_core.specs.declared.link.Link.{Ghosts}
+use Rattle.world_core.specs.declared.link.Link.{Ghosts as LinkGhosts}
+use Rattle.lossy_network.specs.declared.rack.Rack.{Ghosts as RackGhosts}
 use Rattle.board_greeting.specs.Reports.{shown_by}
 use Rattle.board_node.specs.declared.spec.BoardSpec.{BoardSpec}
 use Rattle.board_node.specs.declared.spec.LinkSpec.{LinkSpec}
 use Rattle.board_node.specs.OpeningWords.{OpensOnWords}
 use Rattle.lane_history.specs.Links.{CanBeMade, LinkReport}
 
--- These links were given back behind those that were kept before, in this order, and so much holds of what they show.
-abbrev pub Keeps : {L : Type 0} → Ghosts L → List L → List L → (List LinkReport → Type 0) → Type 0
-Keeps {L} seen old new holds = (links : List L) × (new ≡ old ++ links) × holds (map (shown_by seen) links)
+-- These links were given back to the rack behind those that were kept before, in this order, and so much holds of what
+-- they show.
+abbrev pub Keeps : {R L : Type 0} → RackGhosts R L → LinkGhosts L → R → R → (List LinkReport → Type 0) → Type 0
+Keeps {R} {L} seen link old new holds =
+    (links : List L) × (seen.kept new ≡ seen.kept old ++ links) × holds (map (shown_by link) links)
 
 -- the specs of the links of boards
 abbrev pub link_specs : List BoardSpec → List LinkSpec

@@ -32,7 +32,7 @@ pub fn into_link<L: Link>(board: Greeted<L>) -> L
 
 /// Gives all links back to the rack, in order.
 pub fn keep_all<R: Rack>(rack: &mut R, boards: Vec<Greeted<R::L>>)
-    requires room { HasRoom (length (R.kept rack.old)) (length (R.made rack.old)) (length boards.items) }
+    requires room { HasRoom R.Rack rack.old (length boards.items) }
     ensures kept { R.kept rack.new ≡ R.kept rack.old ++ map (λ board. link_of board) boards.items }
     ensures made { R.made rack.new ≡ R.made rack.old }
     ensures faults { R.faults rack.new ≡ R.faults rack.old }
@@ -87,7 +87,7 @@ fn greet_into<R: Rack>(
     ensures faults { RisesExactlyIf (result ≡ Err RackFault.Failed) (R.faults rack.old) (R.faults rack.new) }
     ensures kept { R.kept rack.new ≡ R.kept rack.old }
     ensures made { AreMadeFor specs.now (length boards.new.items) (R.made rack.old) (R.made rack.new) }
-    ensures room { HasRoom (length (R.kept rack.new)) (length (R.made rack.new)) (length boards.new.items) }
+    ensures room { HasRoom R.Rack rack.new (length boards.new.items) }
 {
     for spec in specs {
         let board = greet_board(alloc, settings, spec, rack)?;
@@ -114,8 +114,8 @@ pub fn greet_boards<R: Rack>(
     ensures memory { IfOk result (λ boards. AllByRecursion HasMemory boards.items) }
     ensures kept { OnOk result (R.kept rack.new ≡ R.kept rack.old) }
     ensures made { OnOk result (AreMadeFor specs.now (length specs.now) (R.made rack.old) (R.made rack.new)) }
-    ensures room { OnOk result (HasRoom (length (R.kept rack.new)) (length (R.made rack.new)) (length specs.now)) }
-    ensures left { OnErr result (Keeps R.L.Link (R.kept rack.old) (R.kept rack.new)
+    ensures room { OnOk result (HasRoom R.Rack rack.new (length specs.now)) }
+    ensures left { OnErr result (Keeps R.Rack R.L.Link rack.old rack.new
         (λ links. AreFreshLinks settings specs.now links
         × AreMadeFor specs.now (length links) (R.made rack.old) (R.made rack.new))) }
     ensures faults { RisesExactlyIf (result ≡ Err RackFault.Failed) (R.faults rack.old) (R.faults rack.new) }

@@ -1,10 +1,10 @@
 -- The links and the pairs that a call gave back, together.
 use Rattle.std.proofs.Common.{◌≡◌, List, [], ◌++◌, Option, Some, None}
-use Rattle.std.proofs.Common.{refl, sym, ap, ◌∙◌, subst, append-nil}
+use Rattle.std.proofs.Common.{refl, sym, ap, ◌∙◌, subst, append-nil, map}
 use Rattle.std.specs.Prelude.{option_map}
 use Rattle.ipb_outside.specs.declared.sink.Sink.{Ghosts as SinkGhosts}
 use Rattle.ipb_outside.specs.declared.source.Source.{Ghosts as SourceGhosts}
-use Rattle.ipb_outside.specs.Pairs.{GivesBack}
+use Rattle.ipb_outside.specs.Pairs.{Came, Went, pair_shown}
 use Rattle.lane_history.specs.Links.{LinkReport}
 use Rattle.command_terms.specs.Outside.{GivenBack, no_pairs}
 use Rattle.command_terms.proofs.Leaving.{Told, at_links}
@@ -21,9 +21,9 @@ module _ {L I O : Type 0} (shown : L → LinkReport) (source : SourceGhosts I) (
     (coming coming_now kept kept_now : Option (List (I × O))) where
   -- these links were given back, these pairs came and went back, and so it is
   abbrev pub Together : (GivenBack → Type 0) → Type 0
-  Together holds = Told shown old new
-      (λ links. GivesBack source sink coming coming_now kept kept_now
-      (λ came back. holds (record { links = links; came = came; back = back })))
+  Together holds = Told shown old new (λ links. (came : List (I × O)) × (back : List (I × O))
+      × Came coming coming_now came × Went kept kept_now back
+      × holds (record { links = links; came = map (pair_shown source sink) came; back = map (pair_shown source sink) back }))
 
   -- and so it is therefore
   pub therefore : (holds also : GivenBack → Type 0) → ((given : GivenBack) → holds given → also given)

@@ -38,7 +38,7 @@ pub fn save_document<R: Rack, T: Threads + Wait + Sync, G: Gate>(
     rack: &mut R,
     gate: &G,
 ) -> Result<Answer, RunFault>
-    ensures leaves { Keeps R.L.Link (R.kept rack.old) (R.kept rack.new)
+    ensures leaves { Keeps R.Rack R.L.Link rack.old rack.new
         (λ links. Leaves NoneCame IsRunFailure RunFault.Rack save_terms bytes.now (R.made rack.old) (R.made rack.new)
         result (no_pairs links)) }
     ensures refused { IfOk result (λ answer. answer.status ≡ refused_status → rack.new ≡ rack.old) }
@@ -67,7 +67,7 @@ pub fn apply_document<R: Rack, T: Threads + Wait + Sync, G: Gate>(
     rack: &mut R,
     gate: &G,
 ) -> Result<Answer, RunFault>
-    ensures leaves { Keeps R.L.Link (R.kept rack.old) (R.kept rack.new)
+    ensures leaves { Keeps R.Rack R.L.Link rack.old rack.new
         (λ links. Leaves NoneCame IsRunFailure RunFault.Rack apply_terms bytes.now (R.made rack.old) (R.made rack.new)
         result (no_pairs links)) }
     ensures refused { IfOk result (λ answer. answer.status ≡ refused_status → rack.new ≡ rack.old) }

@@ -35,7 +35,7 @@ pub(crate) fn write_configuration<R: Rack, T: Threads + Wait + Sync, G: Gate>(
 ) -> Result<Answer, RunFault>
     requires runs { MayRun session.now steps.now }
     requires alone { length steps.now ≡ 1 }
-    ensures leaves { Keeps R.L.Link (R.kept rack.old) (R.kept rack.new)
+    ensures leaves { Keeps R.Rack R.L.Link rack.old rack.new
         (RunLeaves session.now steps.now (R.made rack.old) (R.made rack.new) result) }
     ensures rack_faults { RisesExactlyIf (result ≡ Err RunFault.Rack) (R.faults rack.old) (R.faults rack.new) }
 {

@@ -1,5 +1,6 @@
 -- The two sides of connections that a door lets in and takes back, as contracts see them. Profile.
 use Rattle.std.specs.Prelude.{◌≡◌, ℕ, Bool, List, ◌++◌, map, Option, option_map}
+use Rattle.ipb_outside.specs.declared.door.Door.{Ghosts as DoorGhosts}
 use Rattle.ipb_outside.specs.declared.sink.Sink.{Ghosts as SinkGhosts}
 use Rattle.ipb_outside.specs.declared.source.Source.{Ghosts as SourceGhosts}
 
@@ -30,10 +31,11 @@ Came coming coming_now came = coming ≡ option_map (λ rest. came ++ rest) comi
 abbrev pub Went : {C : Type 0} → Option (List C) → Option (List C) → List C → Type 0
 Went kept kept_now back = kept_now ≡ option_map (λ before. before ++ back) kept
 
--- Connections came and were given back in the order in which they came, and so much holds of what they showed before
--- and after.
-abbrev pub GivesBack : {I O : Type 0} → SourceGhosts I → SinkGhosts O → Option (List (I × O)) → Option (List (I × O))
-    → Option (List (I × O)) → Option (List (I × O)) → (List PairReport → List PairReport → Type 0) → Type 0
-GivesBack {I} {O} source sink coming coming_now kept kept_now holds =
-    (came : List (I × O)) × (back : List (I × O)) × Came coming coming_now came × Went kept kept_now back
+-- Connections of a door came and were given back in the order in which they came, and so much holds of what they showed
+-- before and after.
+abbrev pub GivesBack : {D I O : Type 0} → DoorGhosts D I O → SourceGhosts I → SinkGhosts O → D → D
+    → (List PairReport → List PairReport → Type 0) → Type 0
+GivesBack {D} {I} {O} seen source sink door door_now holds =
+    (came : List (I × O)) × (back : List (I × O)) × Came (seen.coming door) (seen.coming door_now) came
+    × Went (seen.kept door) (seen.kept door_now) back
     × holds (map (pair_shown source sink) came) (map (pair_shown source sink) back)

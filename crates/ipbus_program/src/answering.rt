@@ -112,14 +112,12 @@ pub(crate) fn answer_to<R: Rack, D: Door, T: Threads + Wait + Sync, G: Gate>(
     gate: &G,
 ) -> Result<Answer, NoAnswer>
     requires { (count : ℕ) → command.now ≡ Load count → count ≤ most_operations }
-    ensures leaves { Keeps R.L.Link (R.kept rack.old) (R.kept rack.new)
-        (λ links. GivesBack D.Incoming.Source D.Outgoing.Sink (D.coming door.old) (D.coming door.new) (D.kept door.old)
-        (D.kept door.new) (λ came back. Leaves AreBack IsFailure NoAnswer.RackFault (terms_of command.now) bytes.now
+    ensures leaves { Keeps R.Rack R.L.Link rack.old rack.new
+        (λ links. GivesBack D.Door D.Incoming.Source D.Outgoing.Sink door.old door.new (λ came back. Leaves AreBack IsFailure NoAnswer.RackFault (terms_of command.now) bytes.now
         (R.made rack.old) (R.made rack.new) result (record { links = links; came = came; back = back }))) }
     ensures in_frames { (port count : ℕ) → command.now ≡ Serve port count
-        → Keeps R.L.Link (R.kept rack.old) (R.kept rack.new)
-        (λ links. GivesBack D.Incoming.Source D.Outgoing.Sink (D.coming door.old) (D.coming door.new) (D.kept door.old)
-        (D.kept door.new) (CameInFrames links)) }
+        → Keeps R.Rack R.L.Link rack.old rack.new
+        (λ links. GivesBack D.Door D.Incoming.Source D.Outgoing.Sink door.old door.new (CameInFrames links)) }
     ensures alone { LeavesAlone (terms_of command.now) result rack.old rack.new door.old door.new }
     ensures none_out { D.out door.new ≡ D.out door.old }
     ensures listens { (port count : ℕ) → command.now ≡ Serve port count

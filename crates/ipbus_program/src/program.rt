@@ -49,17 +49,15 @@ fn answer_input<S: Source, R: Rack, D: Door, T: Threads + Wait + Sync, G: Gate>(
 ) -> Result<Answer, NoAnswer>
     requires reads { (terms_of command.now).limit ≡ Some limit }
     requires bound { (count : ℕ) → command.now ≡ Load count → count ≤ most_operations }
-    ensures leaves { Keeps R.L.Link (R.kept rack.old) (R.kept rack.new)
-        (λ links. GivesBack D.Incoming.Source D.Outgoing.Sink (D.coming door.old) (D.coming door.new) (D.kept door.old)
-        (D.kept door.new) (λ came back. InputLeaves (terms_of command.now) (S.left input.old) (S.left input.new)
+    ensures leaves { Keeps R.Rack R.L.Link rack.old rack.new
+        (λ links. GivesBack D.Door D.Incoming.Source D.Outgoing.Sink door.old door.new (λ came back. InputLeaves (terms_of command.now) (S.left input.old) (S.left input.new)
         (R.made rack.old) (R.made rack.new) result (record { links = links; came = came; back = back }))) }
     ensures input_faults { RisesExactlyIf (result ≡ Err NoAnswer.ReadFault) (S.faults input.old) (S.faults input.new) }
     ensures rack_faults { RisesExactlyIf (result ≡ Err NoAnswer.RackFault) (R.faults rack.old) (R.faults rack.new) }
     ensures door_faults { RisesExactlyIf (result ≡ Err NoAnswer.DoorFault) (D.faults door.old) (D.faults door.new) }
     ensures in_frames { (port count : ℕ) → command.now ≡ Serve port count
-        → Keeps R.L.Link (R.kept rack.old) (R.kept rack.new)
-        (λ links. GivesBack D.Incoming.Source D.Outgoing.Sink (D.coming door.old) (D.coming door.new) (D.kept door.old)
-        (D.kept door.new) (CameInFrames links)) }
+        → Keeps R.Rack R.L.Link rack.old rack.new
+        (λ links. GivesBack D.Door D.Incoming.Source D.Outgoing.Sink door.old door.new (CameInFrames links)) }
     ensures alone { LeavesAlone (terms_of command.now) result rack.old rack.new door.old door.new }
     ensures none_out { D.out door.new ≡ D.out door.old }
     ensures listens { (port count : ℕ) → command.now ≡ Serve port count
@@ -86,17 +84,15 @@ fn answer_command<S: Source, R: Rack, D: Door, T: Threads + Wait + Sync, G: Gate
     gate: &G,
 ) -> Result<Answer, NoAnswer>
     requires { (count : ℕ) → command.now ≡ Load count → count ≤ most_operations }
-    ensures leaves { Keeps R.L.Link (R.kept rack.old) (R.kept rack.new)
-        (λ links. GivesBack D.Incoming.Source D.Outgoing.Sink (D.coming door.old) (D.coming door.new) (D.kept door.old)
-        (D.kept door.new) (λ came back. InputLeaves (terms_of command.now) (S.left input.old) (S.left input.new)
+    ensures leaves { Keeps R.Rack R.L.Link rack.old rack.new
+        (λ links. GivesBack D.Door D.Incoming.Source D.Outgoing.Sink door.old door.new (λ came back. InputLeaves (terms_of command.now) (S.left input.old) (S.left input.new)
         (R.made rack.old) (R.made rack.new) result (record { links = links; came = came; back = back }))) }
     ensures input_faults { RisesExactlyIf (result ≡ Err NoAnswer.ReadFault) (S.faults input.old) (S.faults input.new) }
     ensures rack_faults { RisesExactlyIf (result ≡ Err NoAnswer.RackFault) (R.faults rack.old) (R.faults rack.new) }
     ensures door_faults { RisesExactlyIf (result ≡ Err NoAnswer.DoorFault) (D.faults door.old) (D.faults door.new) }
     ensures in_frames { (port count : ℕ) → command.now ≡ Serve port count
-        → Keeps R.L.Link (R.kept rack.old) (R.kept rack.new)
-        (λ links. GivesBack D.Incoming.Source D.Outgoing.Sink (D.coming door.old) (D.coming door.new) (D.kept door.old)
-        (D.kept door.new) (CameInFrames links)) }
+        → Keeps R.Rack R.L.Link rack.old rack.new
+        (λ links. GivesBack D.Door D.Incoming.Source D.Outgoing.Sink door.old door.new (CameInFrames links)) }
     ensures alone { LeavesAlone (terms_of command.now) result rack.old rack.new door.old door.new }
     ensures none_out { D.out door.new ≡ D.out door.old }
     ensures listens { (port count : ℕ) → command.now ≡ Serve port count
@@ -149,9 +145,8 @@ pub fn control<S: Source, O: Sink, R: Rack, D: Door, T: Threads + Wait + Sync, G
     // Whatever the status, links were made of the specs of the first boards of the session, each link was given back,
     // board by board, and each pair that came was served and given back, in order. What was written is tied by the
     // status to the words, the input, these links and pairs.
-    ensures ended { Keeps R.L.Link (R.kept rack.old) (R.kept rack.new)
-        (λ links. GivesBack D.Incoming.Source D.Outgoing.Sink
-        (D.coming door.old) (D.coming door.new) (D.kept door.old) (D.kept door.new)
+    ensures ended { Keeps R.Rack R.L.Link rack.old rack.new
+        (λ links. GivesBack D.Door D.Incoming.Source D.Outgoing.Sink door.old door.new
         (λ came back. Ended words.now (record {
           left = S.left input.old;
           left_now = S.left input.new;
@@ -165,9 +160,8 @@ pub fn control<S: Source, O: Sink, R: Rack, D: Door, T: Threads + Wait + Sync, G
     // Where the words ask for a server: whatever the status, over a link that tells no board executed a body that no
     // frame of a connection had for it.
     ensures in_frames { (port count : ℕ) → AreCommand words.now (Serve port count)
-        → Keeps R.L.Link (R.kept rack.old) (R.kept rack.new)
-        (λ links. GivesBack D.Incoming.Source D.Outgoing.Sink (D.coming door.old) (D.coming door.new) (D.kept door.old)
-        (D.kept door.new) (CameInFrames links)) }
+        → Keeps R.Rack R.L.Link rack.old rack.new
+        (λ links. GivesBack D.Door D.Incoming.Source D.Outgoing.Sink door.old door.new (CameInFrames links)) }
 
     // A fault of the input is told by status 4 alone, one of the output by 5, one of the rack by 7, one of the door by
     // 8: each comes with a fault of its own, and none is passed over.

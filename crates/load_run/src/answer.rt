@@ -31,7 +31,7 @@ pub fn answer_load<R: Rack, T: Threads + Wait + Sync, G: Gate>(
     gate: &G,
 ) -> Result<Answer, RunFault>
     requires { count ≤ most_operations }
-    ensures leaves { (bytes : List ℕ) → Keeps R.L.Link (R.kept rack.old) (R.kept rack.new)
+    ensures leaves { (bytes : List ℕ) → Keeps R.Rack R.L.Link rack.old rack.new
         (λ links. Leaves NoneCame IsRunFailure RunFault.Rack (load_terms count) bytes (R.made rack.old)
         (R.made rack.new) result (no_pairs links)) }
     ensures not_refused { IfOk result (λ answer. answer.status ≢ refused_status) }

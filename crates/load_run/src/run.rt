@@ -59,7 +59,7 @@ fn run_generated<R: Rack, T: Threads + Wait + Sync, G: Gate>(
     gate: &G,
 ) -> Result<Load, RunFault>
     requires { IsGenerated count settings boards.now steps.now }
-    ensures leaves { Keeps R.L.Link (R.kept rack.old) (R.kept rack.new)
+    ensures leaves { Keeps R.Rack R.L.Link rack.old rack.new
         (LoadLeaves PrintsLoad count (R.made rack.old) (R.made rack.new) result) }
     ensures rack_faults { RisesExactlyIf (result ≡ Err RunFault.Rack) (R.faults rack.old) (R.faults rack.new) }
 {
@@ -78,7 +78,7 @@ pub fn run_load<R: Rack, T: Threads + Wait + Sync, G: Gate>(
 ) -> Result<Load, RunFault>
     requires { count ≤ most_operations }
     // The link was given back, and what it shows, the lines of the summary and whether all was done go together.
-    ensures leaves { Keeps R.L.Link (R.kept rack.old) (R.kept rack.new)
+    ensures leaves { Keeps R.Rack R.L.Link rack.old rack.new
         (LoadLeaves IsLoadOf count (R.made rack.old) (R.made rack.new) result) }
     ensures rack_faults { RisesExactlyIf (result ≡ Err RunFault.Rack) (R.faults rack.old) (R.faults rack.new) }
 {

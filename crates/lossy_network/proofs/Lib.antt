@@ -12,3 +12,4 @@ mod Deliveries
 mod Numbers
 mod Delays
 mod Reached
+pub mod Sends

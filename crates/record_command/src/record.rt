@@ -67,7 +67,7 @@ pub fn record_document<R: Rack, T: Threads + Wait + Sync, G: Gate>(
     rack: &mut R,
     gate: &G,
 ) -> Result<Answer, RunFault>
-    ensures leaves { Keeps R.L.Link (R.kept rack.old) (R.kept rack.new)
+    ensures leaves { Keeps R.Rack R.L.Link rack.old rack.new
         (λ links. Leaves NoneCame IsRunFailure RunFault.Rack record_terms bytes.now (R.made rack.old) (R.made rack.new)
         result (no_pairs links)) }
     ensures refused { IfOk result (λ answer. answer.status ≡ refused_status → rack.new ≡ rack.old) }
@@ -95,7 +95,7 @@ fn recorded<R: Rack, T: Threads + Wait + Sync, G: Gate>(
 ) -> Result<Answer, RunFault>
     requires may { MayRun session.now steps.now }
     requires one { IsOneSimulated session.now.boards }
-    ensures leaves { Keeps R.L.Link (R.kept rack.old) (R.kept rack.new)
+    ensures leaves { Keeps R.Rack R.L.Link rack.old rack.new
         (RecordLeaves session.now steps.now (R.made rack.old) (R.made rack.new) result) }
     ensures rack_faults { RisesExactlyIf (result ≡ Err RunFault.Rack) (R.faults rack.old) (R.faults rack.new) }
 {

@@ -43,7 +43,7 @@ pub fn run_document<R: Rack, T: Threads + Wait + Sync, G: Gate>(
     rack: &mut R,
     gate: &G,
 ) -> Result<Answer, RunFault>
-    ensures leaves { Keeps R.L.Link (R.kept rack.old) (R.kept rack.new)
+    ensures leaves { Keeps R.Rack R.L.Link rack.old rack.new
         (λ links. Leaves NoneCame IsRunFailure RunFault.Rack run_terms bytes.now (R.made rack.old) (R.made rack.new)
         result (no_pairs links)) }
     ensures refused { IfOk result (λ answer. answer.status ≡ refused_status → rack.new ≡ rack.old) }
@@ -70,7 +70,7 @@ fn transcript<R: Rack, T: Threads + Wait + Sync, G: Gate>(
     gate: &G,
 ) -> Result<Answer, RunFault>
     requires { MayRun session.now steps.now }
-    ensures leaves { Keeps R.L.Link (R.kept rack.old) (R.kept rack.new)
+    ensures leaves { Keeps R.Rack R.L.Link rack.old rack.new
         (RunLeaves session.now steps.now (R.made rack.old) (R.made rack.new) result) }
     ensures rack_faults { RisesExactlyIf (result ≡ Err RunFault.Rack) (R.faults rack.old) (R.faults rack.new) }
 {

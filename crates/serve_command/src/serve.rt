@@ -44,13 +44,11 @@ pub fn serve_document<R: Rack, D: Door, T: Threads + Wait + Sync>(
     rack: &mut R,
     door: &mut D,
 ) -> Result<Answer, ServeFault>
-    ensures leaves { Keeps R.L.Link (R.kept rack.old) (R.kept rack.new)
-        (λ links. GivesBack D.Incoming.Source D.Outgoing.Sink (D.coming door.old) (D.coming door.new) (D.kept door.old)
-        (D.kept door.new) (λ came back. Leaves AreBack IsServeFailure ServeFault.Rack (serve_terms count) bytes.now
+    ensures leaves { Keeps R.Rack R.L.Link rack.old rack.new
+        (λ links. GivesBack D.Door D.Incoming.Source D.Outgoing.Sink door.old door.new (λ came back. Leaves AreBack IsServeFailure ServeFault.Rack (serve_terms count) bytes.now
         (R.made rack.old) (R.made rack.new) result (record { links = links; came = came; back = back }))) }
-    ensures in_frames { Keeps R.L.Link (R.kept rack.old) (R.kept rack.new)
-        (λ links. GivesBack D.Incoming.Source D.Outgoing.Sink (D.coming door.old) (D.coming door.new) (D.kept door.old)
-        (D.kept door.new) (CameInFrames links)) }
+    ensures in_frames { Keeps R.Rack R.L.Link rack.old rack.new
+        (λ links. GivesBack D.Door D.Incoming.Source D.Outgoing.Sink door.old door.new (CameInFrames links)) }
     ensures refused { IfOk result (λ answer. answer.status ≡ refused_status
         → (rack.new ≡ rack.old) × (door.new ≡ door.old)) }
     ensures not_listened { result ≡ Err ServeFault.Rack → door.new ≡ door.old }
@@ -80,13 +78,11 @@ fn served<R: Rack, D: Door, T: Threads + Wait + Sync>(
     door: &mut D,
 ) -> Result<Answer, ServeFault>
     requires { MayServe session.now }
-    ensures leaves { Keeps R.L.Link (R.kept rack.old) (R.kept rack.new)
-        (λ links. GivesBack D.Incoming.Source D.Outgoing.Sink (D.coming door.old) (D.coming door.new) (D.kept door.old)
-        (D.kept door.new) (λ came back. ServeLeaves session.now count (R.made rack.old) (R.made rack.new) result
+    ensures leaves { Keeps R.Rack R.L.Link rack.old rack.new
+        (λ links. GivesBack D.Door D.Incoming.Source D.Outgoing.Sink door.old door.new (λ came back. ServeLeaves session.now count (R.made rack.old) (R.made rack.new) result
         (record { links = links; came = came; back = back }))) }
-    ensures in_frames { Keeps R.L.Link (R.kept rack.old) (R.kept rack.new)
-        (λ links. GivesBack D.Incoming.Source D.Outgoing.Sink (D.coming door.old) (D.coming door.new) (D.kept door.old)
-        (D.kept door.new) (CameInFrames links)) }
+    ensures in_frames { Keeps R.Rack R.L.Link rack.old rack.new
+        (λ links. GivesBack D.Door D.Incoming.Source D.Outgoing.Sink door.old door.new (CameInFrames links)) }
     ensures not_listened { result ≡ Err ServeFault.Rack → door.new ≡ door.old }
     ensures none_out { D.out door.new ≡ D.out door.old }
     ensures listens { Listens port (IsOk result) (D.ports door.old) (D.ports door.new) }

@@ -153,10 +153,10 @@ pub(crate) fn finish_boards<R: Rack>(
     requires can { AllByRecursion (AllByRecursion CanBePacked) scripts.now }
     requires few { AllByRecursion HaveFewPieces scripts.now }
     requires came { AreCameOf (shown_by R.L.Link) settings scripts.now 0 specs.now boards }
-    requires room { HasRoom (length (R.kept rack.old)) (length (R.made rack.old)) (length specs.now) }
-    ensures ran { IfOk result (λ runs. Keeps R.L.Link (R.kept rack.old) (R.kept rack.new)
+    requires room { HasRoom R.Rack rack.old (length specs.now) }
+    ensures ran { IfOk result (λ runs. Keeps R.Rack R.L.Link rack.old rack.new
         (AreRunsOver settings 0 specs.now scripts.now runs.items)) }
-    ensures left { Keeps R.L.Link (R.kept rack.old) (R.kept rack.new)
+    ensures left { Keeps R.Rack R.L.Link rack.old rack.new
         (λ links. AreLeft 0 specs.now scripts.now links × (length links ≡ length specs.now)) }
     ensures made { R.made rack.new ≡ R.made rack.old }
     ensures faults { R.faults rack.new ≡ R.faults rack.old }

@@ -87,10 +87,10 @@ fn run_split<R: Rack, T: Threads + Wait + Sync, G: Gate>(
     requires few_boards { length specs.now < 2 ^ 32 }
     requires can { CanBeRun scripts.now }
     requires reached { IsSplitOf (shown_by R.L.Link) settings specs.now split }
-    requires room { HasRoom (length (R.kept rack.old)) (length (R.made rack.old)) (length specs.now) }
-    ensures ran { IfOk result (λ runs. Keeps R.L.Link (R.kept rack.old) (R.kept rack.new)
+    requires room { HasRoom R.Rack rack.old (length specs.now) }
+    ensures ran { IfOk result (λ runs. Keeps R.Rack R.L.Link rack.old rack.new
         (AreRunsOver settings 0 specs.now scripts.now runs.items)) }
-    ensures left { Keeps R.L.Link (R.kept rack.old) (R.kept rack.new)
+    ensures left { Keeps R.Rack R.L.Link rack.old rack.new
         (λ links. AreLeft 0 specs.now scripts.now links × (length links ≡ length specs.now)) }
     ensures made { R.made rack.new ≡ R.made rack.old }
     ensures faults { R.faults rack.new ≡ R.faults rack.old }
@@ -121,10 +121,10 @@ pub fn run_greeted<R: Rack, T: Threads + Wait + Sync, G: Gate>(
     requires all { length boards.items ≡ length specs.now }
     requires memory { AllByRecursion HasMemory boards.items }
     requires reached { AreReached (shown_by R.L.Link) settings specs.now boards.items }
-    requires room { HasRoom (length (R.kept rack.old)) (length (R.made rack.old)) (length specs.now) }
-    ensures ran { IfOk result (λ runs. Keeps R.L.Link (R.kept rack.old) (R.kept rack.new)
+    requires room { HasRoom R.Rack rack.old (length specs.now) }
+    ensures ran { IfOk result (λ runs. Keeps R.Rack R.L.Link rack.old rack.new
         (AreRunsOver settings 0 specs.now scripts.now runs.items)) }
-    ensures left { Keeps R.L.Link (R.kept rack.old) (R.kept rack.new)
+    ensures left { Keeps R.Rack R.L.Link rack.old rack.new
         (λ links. AreLeft 0 specs.now scripts.now links × (length links ≡ length specs.now)) }
     ensures made { R.made rack.new ≡ R.made rack.old }
     ensures faults { R.faults rack.new ≡ R.faults rack.old }
@@ -154,15 +154,15 @@ pub fn run_session<R: Rack, T: Threads + Wait + Sync, G: Gate>(
     requires reached { AllByRecursion CanBeReached specs.now }
     requires can { CanBeRun scripts.now }
     // What the runs show of each board is what its link bears out.
-    ensures ran { IfOk result (λ runs. Keeps R.L.Link (R.kept rack.old) (R.kept rack.new)
+    ensures ran { IfOk result (λ runs. Keeps R.Rack R.L.Link rack.old rack.new
         (AreRunsOver settings 0 specs.now scripts.now runs.items)) }
     // Whatever came of it, links were made of the specs of the first boards, and they are given back board by board; what
     // was sent to each board is what the scripts ask of it.
-    ensures left { Keeps R.L.Link (R.kept rack.old) (R.kept rack.new) (AreLeft 0 specs.now scripts.now) }
-    ensures made { Keeps R.L.Link (R.kept rack.old) (R.kept rack.new)
+    ensures left { Keeps R.Rack R.L.Link rack.old rack.new (AreLeft 0 specs.now scripts.now) }
+    ensures made { Keeps R.Rack R.L.Link rack.old rack.new
         (λ links. AreMadeFor specs.now (length links) (R.made rack.old) (R.made rack.new)) }
     ensures rack_faults { RisesExactlyIf (result ≡ Err RunFault.Rack) (R.faults rack.old) (R.faults rack.new) }
-    ensures untouched { result ≡ Err RunFault.Rack → Keeps R.L.Link (R.kept rack.old) (R.kept rack.new)
+    ensures untouched { result ≡ Err RunFault.Rack → Keeps R.Rack R.L.Link rack.old rack.new
         (AllByRecursion IsUntouched) }
 {
     a_fresh_link_is_left();

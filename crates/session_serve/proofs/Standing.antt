@@ -4,6 +4,7 @@ use Rattle.std.proofs.Common.{ap, subst, arith}
 use Rattle.std.proofs.Common.{append_assoc, Option}
 use Rattle.std.specs.List.{AllByRecursion}
 use Rattle.std.proofs.lemmas.List.{drop_more}
+use Rattle.ipb_outside.specs.declared.door.Door.{Ghosts as DoorGhosts}
 use Rattle.ipb_outside.specs.declared.sink.Sink.{Ghosts as SinkGhosts}
 use Rattle.ipb_outside.specs.declared.source.Source.{Ghosts as SourceGhosts}
 use Rattle.ipb_outside.specs.Pairs.{GivesBack, PairReport, pair_shown}
@@ -74,12 +75,11 @@ states_within boards =
     (states_below 0 boards)
 
 -- pairs came and went back where the boards stood as these greetings told
-pub back_as_told : {I O : Type 0} (source : SourceGhosts I) (sink : SinkGhosts O)
-    (coming coming_now kept kept_now : Option (List (I × O))) (states : List BoardState) (told : List Greeting)
-    → states ≡ states_from 0 told
-    → GivesBack source sink coming coming_now kept kept_now (AreBackFrom states)
-    → GivesBack source sink coming coming_now kept kept_now AreBack
-back_as_told {I} {O} source sink coming coming_now kept kept_now states told is back =
+pub back_as_told : {D I O : Type 0} (seen : DoorGhosts D I O) (source : SourceGhosts I) (sink : SinkGhosts O)
+    (door door_now : D) (states : List BoardState) (told : List Greeting) → states ≡ states_from 0 told
+    → GivesBack seen source sink door door_now (AreBackFrom states)
+    → GivesBack seen source sink door door_now AreBack
+back_as_told {D} {I} {O} seen source sink door door_now states told is back =
     let shows : I × O → PairReport = pair_shown source sink in (
       back.0,
       back.1,

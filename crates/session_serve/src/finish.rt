@@ -55,7 +55,7 @@ pub(crate) fn finish_boards<R: Rack>(
     rack: &mut R,
 )
     requires all { length names.items ≡ length boards }
-    requires room { HasRoom (length (R.kept rack.old)) (length (R.made rack.old)) (length boards) }
+    requires room { HasRoom R.Rack rack.old (length boards) }
     requires empty { lines.old.items ≡ [] }
     requires place { length names.items ≤ vec_capacity lines.old }
     ensures lines { lines.new.items ≡ lines_in names.items boards }

@@ -222,13 +222,11 @@ pub(crate) fn serve_at_hub<L: Link + Send + Drop, D: Door, T: Threads + Wait + S
     requires unused { AllByRecursion HasNoEntry lanes.items }
     requires lanes { AllByRecursion (IsLaneBelow (length lanes.items)) states.now }
     ensures heads { AtEach lanes.items result.0.items (λ lane. KeepsHead L.telling) }
-    ensures served { IfOk result.1 (λ served. GivesBack D.Incoming.Source D.Outgoing.Sink (D.coming door.old)
-        (D.coming door.new) (D.kept door.old) (D.kept door.new)
+    ensures served { IfOk result.1 (λ served. GivesBack D.Door D.Incoming.Source D.Outgoing.Sink door.old door.new
         (λ came back. AreServedAt L.telling states.now lanes.items result.0.items came back served.items)) }
-    ensures pairs { GivesBack D.Incoming.Source D.Outgoing.Sink (D.coming door.old) (D.coming door.new)
-        (D.kept door.old) (D.kept door.new) (AreBackFrom states.now) }
-    ensures planned { GivesBack D.Incoming.Source D.Outgoing.Sink (D.coming door.old) (D.coming door.new)
-        (D.kept door.old) (D.kept door.new) (ArePlannedAt states.now lanes.items result.0.items) }
+    ensures pairs { GivesBack D.Door D.Incoming.Source D.Outgoing.Sink door.old door.new (AreBackFrom states.now) }
+    ensures planned { GivesBack D.Door D.Incoming.Source D.Outgoing.Sink door.old door.new
+        (ArePlannedAt states.now lanes.items result.0.items) }
     ensures all { IfOk result.1 (λ served. length served.items ≡ count) }
     ensures had_memory { IfOk result.1 (λ served. AllByRecursion HadMemory served.items) }
     ensures none_out { D.out door.new ≡ D.out door.old }

@@ -48,20 +48,17 @@ fn serve_split<R: Rack, D: Door, T: Threads + Wait + Sync>(
     door: &mut D,
 ) -> Result<ServeReport, ServeFault>
     requires ready { IsReady (shown_by R.L.Link) settings specs.now split prepared }
-    requires room { HasRoom (length (R.kept rack.old)) (length (R.made rack.old)) (length specs.now) }
-    ensures served { IfOk result (λ report. Keeps R.L.Link (R.kept rack.old) (R.kept rack.new)
-        (λ links. GivesBack D.Incoming.Source D.Outgoing.Sink (D.coming door.old) (D.coming door.new) (D.kept door.old)
-        (D.kept door.new) (λ came back. AreServed settings specs.now links came back report.connections.items
+    requires room { HasRoom R.Rack rack.old (length specs.now) }
+    ensures served { IfOk result (λ report. Keeps R.Rack R.L.Link rack.old rack.new
+        (λ links. GivesBack D.Door D.Incoming.Source D.Outgoing.Sink door.old door.new (λ came back. AreServed settings specs.now links came back report.connections.items
         report.boards.items))) }
     ensures all { IfOk result (λ report. length report.connections.items ≡ count) }
     ensures had_memory { IfOk result (λ report. AllByRecursion HadMemory report.connections.items) }
-    ensures links { Keeps R.L.Link (R.kept rack.old) (R.kept rack.new)
+    ensures links { Keeps R.Rack R.L.Link rack.old rack.new
         (λ links. AreLinksTo specs.now links × (length links ≡ length specs.now)) }
-    ensures pairs { GivesBack D.Incoming.Source D.Outgoing.Sink (D.coming door.old) (D.coming door.new)
-        (D.kept door.old) (D.kept door.new) AreBack }
-    ensures in_frames { Keeps R.L.Link (R.kept rack.old) (R.kept rack.new)
-        (λ links. GivesBack D.Incoming.Source D.Outgoing.Sink (D.coming door.old) (D.coming door.new) (D.kept door.old)
-        (D.kept door.new) (CameInFrames links)) }
+    ensures pairs { GivesBack D.Door D.Incoming.Source D.Outgoing.Sink door.old door.new AreBack }
+    ensures in_frames { Keeps R.Rack R.L.Link rack.old rack.new
+        (λ links. GivesBack D.Door D.Incoming.Source D.Outgoing.Sink door.old door.new (CameInFrames links)) }
     ensures none_out { D.out door.new ≡ D.out door.old }
     ensures listens { Listens port (IsOk result) (D.ports door.old) (D.ports door.new) }
     ensures made { R.made rack.new ≡ R.made rack.old }
@@ -111,20 +108,17 @@ fn serve_greeted<R: Rack, D: Door, T: Threads + Wait + Sync>(
     requires all { length boards.items ≡ length specs.now }
     requires memory { AllByRecursion HasMemory boards.items }
     requires reached { AreReached (shown_by R.L.Link) settings specs.now boards.items }
-    requires room { HasRoom (length (R.kept rack.old)) (length (R.made rack.old)) (length specs.now) }
-    ensures served { IfOk result (λ report. Keeps R.L.Link (R.kept rack.old) (R.kept rack.new)
-        (λ links. GivesBack D.Incoming.Source D.Outgoing.Sink (D.coming door.old) (D.coming door.new) (D.kept door.old)
-        (D.kept door.new) (λ came back. AreServed settings specs.now links came back report.connections.items
+    requires room { HasRoom R.Rack rack.old (length specs.now) }
+    ensures served { IfOk result (λ report. Keeps R.Rack R.L.Link rack.old rack.new
+        (λ links. GivesBack D.Door D.Incoming.Source D.Outgoing.Sink door.old door.new (λ came back. AreServed settings specs.now links came back report.connections.items
         report.boards.items))) }
     ensures all { IfOk result (λ report. length report.connections.items ≡ count) }
     ensures had_memory { IfOk result (λ report. AllByRecursion HadMemory report.connections.items) }
-    ensures links { Keeps R.L.Link (R.kept rack.old) (R.kept rack.new)
+    ensures links { Keeps R.Rack R.L.Link rack.old rack.new
         (λ links. AreLinksTo specs.now links × (length links ≡ length specs.now)) }
-    ensures pairs { GivesBack D.Incoming.Source D.Outgoing.Sink (D.coming door.old) (D.coming door.new)
-        (D.kept door.old) (D.kept door.new) AreBack }
-    ensures in_frames { Keeps R.L.Link (R.kept rack.old) (R.kept rack.new)
-        (λ links. GivesBack D.Incoming.Source D.Outgoing.Sink (D.coming door.old) (D.coming door.new) (D.kept door.old)
-        (D.kept door.new) (CameInFrames links)) }
+    ensures pairs { GivesBack D.Door D.Incoming.Source D.Outgoing.Sink door.old door.new AreBack }
+    ensures in_frames { Keeps R.Rack R.L.Link rack.old rack.new
+        (λ links. GivesBack D.Door D.Incoming.Source D.Outgoing.Sink door.old door.new (CameInFrames links)) }
     ensures none_out { D.out door.new ≡ D.out door.old }
     ensures listens { Listens port (IsOk result) (D.ports door.old) (D.ports door.new) }
     ensures made { R.made rack.new ≡ R.made rack.old }
@@ -171,33 +165,30 @@ pub fn serve_session<R: Rack, D: Door, T: Threads + Wait + Sync>(
     requires reached { AllByRecursion CanBeReached specs.now }
 
     // What is reported of each board is what its link bears out, and of each connection what its pair does.
-    ensures served { IfOk result (λ report. Keeps R.L.Link (R.kept rack.old) (R.kept rack.new)
-        (λ links. GivesBack D.Incoming.Source D.Outgoing.Sink (D.coming door.old) (D.coming door.new) (D.kept door.old)
-        (D.kept door.new) (λ came back. AreServed settings specs.now links came back report.connections.items
+    ensures served { IfOk result (λ report. Keeps R.Rack R.L.Link rack.old rack.new
+        (λ links. GivesBack D.Door D.Incoming.Source D.Outgoing.Sink door.old door.new (λ came back. AreServed settings specs.now links came back report.connections.items
         report.boards.items))) }
     ensures all { IfOk result (λ report. length report.connections.items ≡ count) }
     ensures had_memory { IfOk result (λ report. AllByRecursion HadMemory report.connections.items) }
 
     // Whatever came of it, links were made of the specs of the first boards, and each is given back once, in board
     // order, and each connection that was let in once, in the order of acceptance.
-    ensures links { Keeps R.L.Link (R.kept rack.old) (R.kept rack.new)
+    ensures links { Keeps R.Rack R.L.Link rack.old rack.new
         (λ links. AreLinksTo specs.now links × AreMadeFor specs.now (length links) (R.made rack.old)
         (R.made rack.new)) }
-    ensures pairs { GivesBack D.Incoming.Source D.Outgoing.Sink (D.coming door.old) (D.coming door.new)
-        (D.kept door.old) (D.kept door.new) AreBack }
+    ensures pairs { GivesBack D.Door D.Incoming.Source D.Outgoing.Sink door.old door.new AreBack }
     ensures none_out { D.out door.new ≡ D.out door.old }
 
     // Whatever came of it, over a link that tells no board executed a body that no frame of a connection had for it.
-    ensures in_frames { Keeps R.L.Link (R.kept rack.old) (R.kept rack.new)
-        (λ links. GivesBack D.Incoming.Source D.Outgoing.Sink (D.coming door.old) (D.coming door.new) (D.kept door.old)
-        (D.kept door.new) (CameInFrames links)) }
+    ensures in_frames { Keeps R.Rack R.L.Link rack.old rack.new
+        (λ links. GivesBack D.Door D.Incoming.Source D.Outgoing.Sink door.old door.new (CameInFrames links)) }
 
     // The door listened on the port once, and on no other; where there is no report, once or not at all.
     ensures listens { Listens port (IsOk result) (D.ports door.old) (D.ports door.new) }
 
     // The faults of the rack and of the door come only from them. Where the rack failed the door was not called.
     ensures rack_faults { RisesExactlyIf (result ≡ Err ServeFault.Rack) (R.faults rack.old) (R.faults rack.new) }
-    ensures untouched { result ≡ Err ServeFault.Rack → Keeps R.L.Link (R.kept rack.old) (R.kept rack.new)
+    ensures untouched { result ≡ Err ServeFault.Rack → Keeps R.Rack R.L.Link rack.old rack.new
         (AllByRecursion IsUntouched) }
     ensures not_listened { result ≡ Err ServeFault.Rack → door.new ≡ door.old }
     ensures door_faults { RisesExactlyIf (result ≡ Err ServeFault.Door) (D.faults door.old) (D.faults door.new) }

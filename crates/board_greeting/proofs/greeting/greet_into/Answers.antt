@@ -3,7 +3,7 @@ use Rattle.std.specs.List.{AllByRecursion, slice_get}
 use Rattle.std.proofs.lemmas.Option.{slice_get-get_or}
 use Rattle.board_node.specs.declared.spec.BoardSpec.{BoardSpec}
 use Rattle.ipb_base.proofs.AllLemmas.{AllByRecursion-append}
-use Rattle.board_greeting.specs.Boards.{AreReached, HasMemory, HasRoom}
+use Rattle.board_greeting.specs.Boards.{AreReached, HasMemory, LeavesRoom}
 use Rattle.board_greeting.specs.Reports.{shown_by}
 use Rattle.board_greeting.proofs.Boards.{made_more, made_still, one_more_made, reached_more, room_for_more}
 use Rattle.board_greeting.proofs.greeting.greet_into.Goals as goal
@@ -43,7 +43,7 @@ returns-then-is_last-clause-room g c =
     let new = g.R.Rack.made c.greet_board.new.rack in
     let longer : length c.push_reserved.new.self.items ≡ length boards + 1 =
     ap length c.push_reserved.ensures.items ∙ length-append boards (c.in_ok-board.board ∷ []) in
-    subst (HasRoom (length (g.R.Rack.kept c.greet_board.new.rack)) (length new)) (sym longer)
+    subst (LeavesRoom (length (g.R.Rack.kept c.greet_board.new.rack)) (length new)) (sym longer)
     (room_for_more (length (g.R.Rack.kept c.loop-spec.rack)) (length (g.R.Rack.kept c.greet_board.new.rack))
     (length old) (length new) (length boards) c.greet_board.ensures.within (ap length c.greet_board.ensures.kept)
     (one_more_made old new c.spec-item.result.link c.in_ok-board.ensures.made) c.loop-spec.invariant.room)
@@ -85,7 +85,7 @@ loop-spec-preserved g c =
       made = made_still c.args.specs.now (length boards + 1) (length c.push_reserved.new.self.items)
           (g.R.Rack.made c.args.rack.now) new new (made_more c.args.specs.now (length boards) c.spec-item.result
           (g.R.Rack.made c.args.rack.now) old new there c.loop-spec.invariant.made made) longer refl;
-      room = subst (HasRoom (length (g.R.Rack.kept c.greet_board.new.rack)) (length new)) (sym longer)
+      room = subst (LeavesRoom (length (g.R.Rack.kept c.greet_board.new.rack)) (length new)) (sym longer)
           (room_for_more (length (g.R.Rack.kept c.loop-spec.rack)) (length (g.R.Rack.kept c.greet_board.new.rack))
           (length old) (length new) (length boards) c.greet_board.ensures.within
           (ap length c.greet_board.ensures.kept) (one_more_made old new c.spec-item.result.link made)

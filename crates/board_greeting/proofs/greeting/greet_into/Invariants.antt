@@ -1,7 +1,7 @@
 use Rattle.std.proofs.Common.{◌≡◌, ◌+◌, ◌-◌, ◌≤◌, length}
 use Rattle.std.specs.List.{AllByRecursion}
 use Rattle.std.specs.Vec.{vec_capacity, vec_len}
-use Rattle.board_greeting.specs.Boards.{AreReached, HasMemory, HasRoom}
+use Rattle.board_greeting.specs.Boards.{AreReached, HasMemory, LeavesRoom}
 use Rattle.board_greeting.specs.Reports.{shown_by}
 use Rattle.board_greeting.specs.Links.{AreMadeFor}
 use Rattle.board_greeting.proofs.greeting.greet_into.Given as goal
@@ -15,6 +15,6 @@ invariant-loop-spec g l = record {
   faults : g.R.Rack.faults l.rack ≡ g.R.Rack.faults l.initial.rack;
   kept : g.R.Rack.kept l.rack ≡ g.R.Rack.kept l.initial.rack;
   made : AreMadeFor l.specs (length l.boards.items) (g.R.Rack.made l.initial.rack) (g.R.Rack.made l.rack);
-  room : HasRoom (length (g.R.Rack.kept l.rack)) (length (g.R.Rack.made l.rack)) (length l.boards.items);
+  room : LeavesRoom (length (g.R.Rack.kept l.rack)) (length (g.R.Rack.made l.rack)) (length l.boards.items);
   place : vec_len l.boards + (l.spec-index-end - l.spec-index) ≤ vec_capacity l.boards;
 }

@@ -3,7 +3,7 @@ use Rattle.std.proofs.Common.{arith}
 use Rattle.std.specs.Vec.Iter.{into_iter_items}
 use Rattle.hub_lane.specs.declared.greeting.Greeted.{Greeted}
 use Rattle.hub_lane.specs.Greeting.{link_of}
-use Rattle.board_greeting.specs.Boards.{HasRoom}
+use Rattle.board_greeting.specs.Boards.{LeavesRoom}
 use Rattle.board_greeting.proofs.Boards.{one_kept, room_for_less, room_for_one}
 use Rattle.board_greeting.proofs.greeting.keep_all.Goals as goal
 
@@ -11,7 +11,7 @@ pub keep-requires : goal.keep-requires
 keep-requires g c =
     let kept = length (g.R.Rack.kept c.loop-board.rack) in
     let made = length (g.R.Rack.made c.loop-board.rack) in
-    let room = subst (λ (n : ℕ). HasRoom kept made n) (ap length c.in-Some.ensures.steps.0)
+    let room = subst (λ (n : ℕ). LeavesRoom kept made n) (ap length c.in-Some.ensures.steps.0)
     c.loop-board.invariant.room in
     let one = room_for_one kept made (length (into_iter_items c.next.new.self)) room in
     omega (arith, one)
@@ -22,7 +22,7 @@ loop-board-preserved g c =
     let now = g.R.Rack.kept c.keep.new.self in
     let made = length (g.R.Rack.made c.loop-board.rack) in
     let rest = into_iter_items c.next.new.self in
-    let room = subst (λ (n : ℕ). HasRoom (length kept) made n) (ap length c.in-Some.ensures.steps.0)
+    let room = subst (λ (n : ℕ). LeavesRoom (length kept) made n) (ap length c.in-Some.ensures.steps.0)
     c.loop-board.invariant.room in
     let pushed = c.keep.ensures.kept ∙ ap (λ link. kept ++ link ∷ []) c.into_link.ensures in
     let one : length now ≡ length kept + 1 = ap length pushed ∙ length-append kept (link_of c.in-Some.board ∷ []) in
@@ -46,6 +46,6 @@ loop-board-init g c =
       split = ap (λ (bs : List (Greeted _)). g.R.Rack.kept c.args.rack.now ++ map (λ board. link_of board) bs) same;
       made = refl;
       faults = refl;
-      room = subst (λ (bs : List (Greeted _)). HasRoom (length (g.R.Rack.kept c.args.rack.now))
+      room = subst (λ (bs : List (Greeted _)). LeavesRoom (length (g.R.Rack.kept c.args.rack.now))
           (length (g.R.Rack.made c.args.rack.now)) (length bs)) (sym same) c.requires.room;
     }

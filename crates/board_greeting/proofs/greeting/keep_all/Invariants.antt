@@ -1,7 +1,7 @@
 use Rattle.std.proofs.Common.{◌≡◌, ◌++◌, length, map}
 use Rattle.std.specs.Vec.Iter.{into_iter_items}
 use Rattle.hub_lane.specs.Greeting.{link_of}
-use Rattle.board_greeting.specs.Boards.{HasRoom}
+use Rattle.board_greeting.specs.Boards.{LeavesRoom}
 use Rattle.board_greeting.proofs.greeting.keep_all.Given as goal
 
 -- the links so far, and the boards that are left
@@ -11,6 +11,6 @@ invariant-loop-board g l = record {
       ≡ g.R.Rack.kept l.initial.rack ++ map (λ board. link_of board) l.fn.boards.items;
   made : g.R.Rack.made l.rack ≡ g.R.Rack.made l.initial.rack;
   faults : g.R.Rack.faults l.rack ≡ g.R.Rack.faults l.initial.rack;
-  room : HasRoom (length (g.R.Rack.kept l.rack)) (length (g.R.Rack.made l.rack))
+  room : LeavesRoom (length (g.R.Rack.kept l.rack)) (length (g.R.Rack.made l.rack))
       (length (into_iter_items l.board-iterator));
 }

@@ -2,7 +2,7 @@ use Rattle.std.proofs.Common.{subst}
 use Rattle.hub_multiplexer.specs.Calls.{AskTried}
 use Rattle.hub_multiplexer.specs.Seats.{ChangesAt}
 use denote.Param.Send.{sendable}
-use Rattle.lane_tests.proofs.Sends.{sim_link_send}
+use Rattle.lossy_network.proofs.Sends.{sim_link_send}
 use Rattle.lane_tests.proofs.hub_multiplexer_tests.reads.Goals as goal
 
 pub submit-requires-clause-all_asked : goal.submit-requires-clause-all_asked

@@ -1,5 +1,5 @@
 use denote.Param.Send.{sendable}
-use Rattle.lane_tests.proofs.Sends.{sim_link_send}
+use Rattle.lossy_network.proofs.Sends.{sim_link_send}
 use Rattle.lane_tests.proofs.hub_multiplexer_tests.steps_once.Goals as goal
 
 pub try_step-requires-send-L : goal.try_step-requires-send-L

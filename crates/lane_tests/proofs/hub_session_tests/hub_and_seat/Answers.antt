@@ -1,5 +1,5 @@
 use denote.Param.Send.{sendable}
-use Rattle.lane_tests.proofs.Sends.{sim_link_send}
+use Rattle.lossy_network.proofs.Sends.{sim_link_send}
 use Rattle.lane_tests.proofs.hub_session_tests.hub_and_seat.Goals as goal
 
 pub new-requires-send-L : goal.new-requires-send-L

@@ -1,5 +1,5 @@
 use denote.Param.Send.{sendable}
-use Rattle.program_tests.proofs.Sends.{sim_link_send}
+use Rattle.lossy_network.proofs.Sends.{sim_link_send}
 use Rattle.program_tests.proofs.recordings.record.Goals as goal
 
 pub over-status-requires-send-R-L : goal.over-status-requires-send-R-L

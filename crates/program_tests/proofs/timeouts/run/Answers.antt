@@ -1,5 +1,5 @@
 use denote.Param.Send.{sendable}
-use Rattle.program_tests.proofs.Sends.{sim_link_send}
+use Rattle.lossy_network.proofs.Sends.{sim_link_send}
 use Rattle.program_tests.proofs.timeouts.run.Goals as goal
 
 pub run_over-requires-send-K-L : goal.run_over-requires-send-K-L

@@ -46,9 +46,8 @@ returns-in-Ok-clause-served g c =
     (with_seats m (length seats)) end' (coming c.args.door.now) (coming door) (kept c.args.door.now) (kept door)
     served.items)
     × AllByRecursion HadMemory served.items)
-    (λ (served : Vec Served Global). GivesBack g.D.Incoming.Source g.D.Outgoing.Sink (coming c.args.door.now)
-    (coming door)
-    (kept c.args.door.now) (kept door) (λ came back. AreServedAt g.L.Link.telling c.args.states.now c.args.lanes.items
+    (λ (served : Vec Served Global). GivesBack g.D.Door g.D.Incoming.Source
+    g.D.Outgoing.Sink c.args.door.now door (λ came back. AreServedAt g.L.Link.telling c.args.states.now c.args.lanes.items
     c.finish.result.items came back served.items))
     (λ served is. (let h = is.0.1 in (
       h.all_back.came,

@@ -1,15 +1,15 @@
-use Rattle.std.proofs.Common.{◌∙◌, ◌++◌, [], ap, arith, length, map, subst}
-use Rattle.std.specs.Prelude.{IfOk}
-use Rattle.ipb_outside.specs.Pairs.{GivesBack}
+use Rattle.std.proofs.Common.{◌≡◌, ◌∙◌, ◌++◌, List, [], ap, arith, length, map}
+use Rattle.std.proofs.Common.{IfOk-weaker}
 use Rattle.board_greeting.specs.Reports.{shown_by}
-use Rattle.board_greeting.specs.Links.{Keeps}
 use Rattle.board_greeting.proofs.Boards.{made_still}
-use Rattle.session_serve.specs.Executed.{CameInFrames}
-use Rattle.session_serve.specs.Serving.{AreServed}
 use Rattle.session_serve.proofs.Executing.{none_executed}
 use Rattle.session_serve.proofs.Lists.{came_none, went_none}
 use Rattle.session_serve.proofs.Reporting.{untouched_links}
 use Rattle.session_serve.proofs.session.serve_session.Goals as goal
+
+-- what stands behind a list stands behind what the list was before
+since_then : {L : Type 0} {before old new links : List L} → new ≡ old ++ links → old ≡ before → new ≡ before ++ links
+since_then {L} {before} {old} {new} {links} behind same = behind ∙ ap (λ (l : List L). l ++ links) same
 
 pub returns-in_err-boards-clause-links : goal.returns-in_err-boards-clause-links
 returns-in_err-boards-clause-links g c =
@@ -34,20 +34,15 @@ returns-in_err-boards-clause-untouched g c =
 
 pub returns-clause-served : goal.returns-clause-served
 returns-clause-served g c =
-    let link = g.R.L.Link in
-    subst (λ kept. IfOk c.serve_greeted.result (λ report. Keeps link kept
-    (g.R.Rack.kept c.serve_greeted.new.rack) (λ links. GivesBack g.D.Incoming.Source g.D.Outgoing.Sink
-    (g.D.Door.coming c.args.door.now)
-    (g.D.Door.coming c.serve_greeted.new.door) (g.D.Door.kept c.args.door.now) (g.D.Door.kept c.serve_greeted.new.door)
-    (λ came back. AreServed c.args.settings c.args.specs.now links came back report.connections.items
-    report.boards.items)))) c.in_ok-boards.ensures.kept c.serve_greeted.ensures.served
+    IfOk-weaker c.serve_greeted.result _ _ (λ report is. (is.0, since_then is.1 c.in_ok-boards.ensures.kept, is.2))
+    c.serve_greeted.ensures.served
 
 pub returns-clause-links : goal.returns-clause-links
 returns-clause-links g c =
     let shows = shown_by g.R.L.Link in
     let left = c.serve_greeted.ensures.links in (
       left.0,
-      left.1 ∙ ap (λ kept. kept ++ left.0) c.in_ok-boards.ensures.kept,
+      since_then left.1 c.in_ok-boards.ensures.kept,
       (
         left.2.0,
         made_still c.args.specs.now (length c.args.specs.now) (length (map shows left.0))
@@ -80,9 +75,5 @@ returns-in_err-boards-clause-in_frames g c =
 
 pub returns-clause-in_frames : goal.returns-clause-in_frames
 returns-clause-in_frames g c =
-    let link = g.R.L.Link in
-    subst (λ kept. Keeps link kept
-    (g.R.Rack.kept c.serve_greeted.new.rack) (λ links. GivesBack g.D.Incoming.Source g.D.Outgoing.Sink
-    (g.D.Door.coming c.args.door.now)
-    (g.D.Door.coming c.serve_greeted.new.door) (g.D.Door.kept c.args.door.now) (g.D.Door.kept c.serve_greeted.new.door)
-    (CameInFrames links))) c.in_ok-boards.ensures.kept c.serve_greeted.ensures.in_frames
+    let is = c.serve_greeted.ensures.in_frames in
+    (is.0, since_then is.1 c.in_ok-boards.ensures.kept, is.2)

@@ -158,10 +158,9 @@ returns-in-Ok-clause-served g c =
     let ended = c.of-boards.result in
     let olds = c.args.split.lanes.items in
     let all = c.args.prepared.states in
-    let given = subst (λ r. IfOk r (λ (served : Vec Served Global). GivesBack g.D.Incoming.Source g.D.Outgoing.Sink
-    (g.D.Door.coming c.args.door.now) (g.D.Door.coming c.serve_at_hub-lanes.new.door) (g.D.Door.kept c.args.door.now)
-    (g.D.Door.kept c.serve_at_hub-lanes.new.door) (λ came back. AreServedAt tells all olds news came back
-    served.items)))
+    let given = subst (λ r. IfOk r (λ (served : Vec Served Global). GivesBack g.D.Door g.D.Incoming.Source
+    g.D.Outgoing.Sink c.args.door.now c.serve_at_hub-lanes.new.door
+    (λ came back. AreServedAt tells all olds news came back served.items)))
     c.in-Ok.is c.serve_at_hub-lanes.ensures.served in (
       map (λ b. link_in b) ended,
       c.finish_boards.ensures.kept,
@@ -191,17 +190,15 @@ returns-in-Err-clause-door_faults g c =
 pub returns-in-Ok-clause-pairs : goal.returns-in-Ok-clause-pairs
 returns-in-Ok-clause-pairs g c =
     let ready = c.requires.ready in
-    back_as_told g.D.Incoming.Source g.D.Outgoing.Sink (g.D.Door.coming c.args.door.now)
-    (g.D.Door.coming c.serve_at_hub-lanes.new.door)
-    (g.D.Door.kept c.args.door.now) (g.D.Door.kept c.serve_at_hub-lanes.new.door) c.args.prepared.states
+    back_as_told g.D.Door g.D.Incoming.Source g.D.Outgoing.Sink c.args.door.now
+    c.serve_at_hub-lanes.new.door c.args.prepared.states
     (map (λ b. told_by b) ready.apart.boards) ready.prepared'.states' c.serve_at_hub-lanes.ensures.pairs
 
 pub returns-in-Err-clause-pairs : goal.returns-in-Err-clause-pairs
 returns-in-Err-clause-pairs g c =
     let ready = c.requires.ready in
-    back_as_told g.D.Incoming.Source g.D.Outgoing.Sink (g.D.Door.coming c.args.door.now)
-    (g.D.Door.coming c.serve_at_hub-lanes.new.door)
-    (g.D.Door.kept c.args.door.now) (g.D.Door.kept c.serve_at_hub-lanes.new.door) c.args.prepared.states
+    back_as_told g.D.Door g.D.Incoming.Source g.D.Outgoing.Sink c.args.door.now
+    c.serve_at_hub-lanes.new.door c.args.prepared.states
     (map (λ b. told_by b) ready.apart.boards) ready.prepared'.states' c.serve_at_hub-lanes.ensures.pairs
 
 -- a server that has no report

@@ -1,4 +1,5 @@
--- A simulated link may cross threads: more lies in it than a search goes through without being told how far.
+-- A simulated link may cross threads: more lies in it than a search goes through without being told how far. Cited
+-- where a rack in memory is handed to what starts threads.
 use denote.Param.Send.{IsSend, sendable}
 use Rattle.circular_buffer.proofs.Crosses.{Cells-send, Deed-send}
 use Rattle.std.proofs.Crossing.{crosses}
