@@ -5,6 +5,8 @@ use Rattle.clap.specs.Simple.{App, Shape, built, new_app, new_rule, new_shape, o
 use Rattle.clap.specs.Simple.{subcommand_rows_of}
 use Rattle.clap.specs.Walk.{Held, Row, Rule, Text, Walk, arg_by_index, finished, idle, nothing_held, to_positional}
 use Rattle.clap.specs.Walk.{walk_from}
+use Rattle.clap.specs.Words.{AddsSubcommand, app_of}
+use Rattle.clap.specs.declared.builder.command.Command.{Command}
 use Rattle.clap.specs.declared.parser.matches.ArgMatches.{ArgMatches}
 use Rattle.command_words.specs.Forms.{Form, alone, check, serve, load, names_alone}
 
@@ -20,6 +22,11 @@ serve_app = with_rule (with_rule (new_app (codes "serve")) (needed (codes "port"
 
 abbrev pub load_app : App
 load_app = with_rule (new_app (codes "load")) (needed (codes "count"))
+
+-- where this command is added to another, that one has its shape behind the others
+abbrev pub HasShapeBelow : Command → Type 0
+HasShapeBelow c = (old new : Command) → AddsSubcommand old c new
+    → app_of new ≡ with_subcommand (app_of old) (app_of c).top
 
 -- no help, no version, and a command has to be there
 abbrev pub bare : App

@@ -3,7 +3,9 @@
 ghost use Rattle.std.specs.Prelude.{◌≡◌, ℕ, true, false, map, IfOk, IsErrOf, Some, List};
 ghost use Rattle.clap.specs.Words.{app_of, rule_of, rows_of, found_of, first_of};
 ghost use Rattle.command_words.specs.Forms.{Form, words_of, IsNamed, IsPlain, ArePlain, texts};
-ghost use Rattle.command_words.specs.App.{ipbus, needed, with_alone as with_names, IsFor, name_of, rows_of_form};
+ghost use Rattle.clap.specs.Simple.{new_app, with_rule};
+ghost use Rattle.command_words.specs.App.{bare, ipbus, needed, serve_app, with_alone as with_names, worded};
+ghost use Rattle.command_words.specs.App.{HasShapeBelow, IsFor, name_of, rows_of_form};
 ghost use Rattle.command_words.specs.Read.{form_of};
 
 use clap::error::ErrorKind;
@@ -45,24 +47,54 @@ fn needed<'a>(alloc: Global, name: &'a str) -> Arg<'a>
     Arg::new(alloc, name).required(true)
 }
 
-/// The commands, each with its words; there is no help and no version.
-fn command<'a>(alloc: Global) -> Result<Command<'a>, AllocError>
-    ensures { IfOk result (λ c. app_of c ≡ ipbus) }
+/// A command of this name with one word, which has to be there.
+fn with_word<'a>(alloc: Global, name: &'a str, word: &'a str) -> Result<Command<'a>, AllocError>
+    ensures app { IfOk result (λ c. app_of c ≡ with_rule (new_app name.entry.now) (needed word.entry.now)) }
+    ensures below { IfOk result HasShapeBelow }
 {
-    let check = Command::new(alloc, "check").arg(needed(alloc, "table"))?;
-    let serve = Command::new(alloc, "serve")
+    Command::new(alloc, name).arg(needed(alloc, word))
+}
+
+/// The command `serve`, with its two words.
+fn serve<'a>(alloc: Global) -> Result<Command<'a>, AllocError>
+    ensures app { IfOk result (λ c. app_of c ≡ serve_app) }
+    ensures below { IfOk result HasShapeBelow }
+{
+    Command::new(alloc, "serve")
         .arg(needed(alloc, "port"))?
-        .arg(needed(alloc, "count"))?;
-    let load = Command::new(alloc, "load").arg(needed(alloc, "count"))?;
-    let worded = Command::new(alloc, "ipbus")
+        .arg(needed(alloc, "count"))
+}
+
+/// The program without its commands. There is no help and no version, and a command has to be there.
+fn bare<'a>(alloc: Global) -> Command<'a>
+    ensures { app_of result ≡ bare }
+{
+    Command::new(alloc, "ipbus")
         .no_binary_name(true)
         .disable_help_flag(true)
         .disable_help_subcommand(true)
         .disable_version_flag(true)
         .subcommand_required(true)
+}
+
+/// The program with the commands that have words.
+fn worded<'a>(alloc: Global) -> Result<Command<'a>, AllocError>
+    ensures { IfOk result (λ c. app_of c ≡ worded) }
+{
+    let check = with_word(alloc, "check", "table")?;
+    let serve = serve(alloc)?;
+    let load = with_word(alloc, "load", "count")?;
+    bare(alloc)
         .subcommand(check)?
         .subcommand(serve)?
-        .subcommand(load)?;
+        .subcommand(load)
+}
+
+/// The commands, each with its words.
+fn command<'a>(alloc: Global) -> Result<Command<'a>, AllocError>
+    ensures { IfOk result (λ c. app_of c ≡ ipbus) }
+{
+    let worded = worded(alloc)?;
     with_alone(alloc, worded, &ALONE)
 }
 
