@@ -86,7 +86,7 @@ fn a_faulty_rule_is_told_by_its_path(rt: HostRuntime) -> Result<(), Fail> {
 fn compiled(alloc: Global, document: &str) -> Result<(Session, Vec<Steps>), Fail> {
     let mut document = parse_document(alloc, document.as_bytes())?;
     take_key(&mut document, "policy");
-    let session = read_session_table(alloc, &document)?;
+    let session = read_session_table(alloc, document)?;
     let index = compile(alloc, &session.tables, "front")?;
     let steps = compile_scripts(alloc, &session, &[index])?;
     Ok((session, steps))

@@ -222,7 +222,7 @@ fn line_note(
     };
     take_key(&mut document, "policy");
     take_key(&mut document, "state");
-    let Ok(session) = read_session_table(alloc, &document) else {
+    let Ok(session) = read_session_table(alloc, document) else {
         return Err(NoMemory);
     };
     let scripts = session.scripts.as_slice();

@@ -1,14 +1,14 @@
-//! The settings, the boards and the scripts of a document.
+//! The settings and the boards of a document.
 
 ghost use Rattle.std.specs.Prelude.{◌≡◌, IfOk, map, codes};
 ghost use Rattle.toml.specs.View.{view, table_view};
-ghost use Rattle.script_lang.specs.Fields.{number_at as number_there, numbers_in, texts_in, tables_in};
+ghost use Rattle.script_lang.specs.Fields.{number_at as number_there, numbers_in, tables_in};
 ghost use Rattle.script_lang.specs.Keys.{sim_keys};
 ghost use Rattle.script_lang.specs.Sessions as spec;
 
 use crate::fields::{has_key, is_udp, items_at, number_at, text_at};
 use crate::keys::Form;
-use crate::session::{Boards, Script, Scripts};
+use crate::session::Boards;
 use crate::texts::{endpoint, range_kind_named};
 use address_table::number;
 use board_bus::{Range, RangeKind};
@@ -142,36 +142,4 @@ fn each_board(alloc: Global, items: &[Value]) -> Result<Boards, NoMemory>
         }
     }
     Ok(Boards::from_vec(boards))
-}
-
-/// The lines of a client.
-fn script(alloc: Global, items: &[Value]) -> Result<Script, NoMemory>
-    ensures { IfOk result (λ script. script ≡ texts_in (map view items.now)) }
-{
-    let mut lines = Vec::with_capacity(alloc, items.len())?;
-    for item in items {
-        if let Some(line) = item.as_str() {
-            lines.push(Text::copy_of(alloc, line)?)?;
-        }
-    }
-    Ok(Script::from_vec(lines))
-}
-
-/// The scripts of a document's clients.
-pub(crate) fn scripts(alloc: Global, document: &Table) -> Result<Scripts, NoMemory>
-    ensures { IfOk result (λ scripts. scripts ≡ spec.scripts_of (table_view document.now)) }
-{
-    each_script(alloc, items_at(document, "client"))
-}
-
-fn each_script(alloc: Global, items: &[Value]) -> Result<Scripts, NoMemory>
-    ensures { IfOk result (λ scripts. scripts ≡ tables_in spec.script_of (map view items.now)) }
-{
-    let mut scripts = Vec::with_capacity(alloc, items.len())?;
-    for item in items {
-        if let Some(members) = item.as_table() {
-            scripts.push(script(alloc, items_at(members, "script"))?)?;
-        }
-    }
-    Ok(Scripts::from_vec(scripts))
 }

@@ -14,10 +14,11 @@ ghost use Rattle.script_lang.specs.declared.refusal.SessionRefusal.TheVariants.{
 ghost use Rattle.script_lang.specs.declared.refusal.SessionRefusal.TheVariants as refusals;
 ghost use Rattle.script_lang.specs.declared.session.Session.{Session as Sess};
 
-use crate::boards::{boards, scripts, settings};
+use crate::boards::{boards, settings};
 use crate::fields::items_at;
 use crate::keys::Form;
 use crate::refusal::{DocWhy, MAX_BOARDS, MAX_CLIENTS, SessionRefusal};
+use crate::scripts::scripts;
 use crate::session::Session;
 use crate::steps::Misfit;
 use crate::tables::tables;
@@ -38,7 +39,7 @@ pub fn read_session(alloc: Global, bytes: &[u8]) -> Result<Session, SessionRefus
     ensures within { IfOk result IsWithin }
 {
     match parse_document(alloc, bytes) {
-        Ok(document) => read_session_table(alloc, &document),
+        Ok(document) => read_session_table(alloc, document),
         Err(refusal) => Err(refusal),
     }
 }
@@ -61,12 +62,12 @@ pub fn parse_document(alloc: Global, bytes: &[u8]) -> Result<Table, SessionRefus
 }
 
 /// Reads a session document that was parsed (profile). The answer is the session that it stands for, or else its first
-/// fault.
-pub fn read_session_table(alloc: Global, document: &Table) -> Result<Session, SessionRefusal>
-    ensures found { IfOk result (spec.IsSession (table_view document.now)) }
-    ensures only { (session : Sess) → spec.IsSession (table_view document.now) session
+/// fault. The lines of the scripts are moved out of the table, so that none is copied.
+pub fn read_session_table(alloc: Global, document: Table) -> Result<Session, SessionRefusal>
+    ensures found { IfOk result (spec.IsSession (table_view document)) }
+    ensures only { (session : Sess) → spec.IsSession (table_view document) session
         → MatchResult result (λ read. spec.SameSession read session) (λ refusal. refusal ≡ no_memory) }
-    ensures refused { IfErr result (spec.TellsFault (spec.faults (table_view document.now))) }
+    ensures refused { IfErr result (spec.TellsFault (spec.faults (table_view document))) }
     ensures within { IfOk result IsWithin }
 {
     session(alloc, document)
@@ -83,17 +84,17 @@ fn refused_whole(alloc: Global, why: DocWhy) -> SessionRefusal
 }
 
 /// The session that a parsed document stands for.
-fn session(alloc: Global, document: &Table) -> Result<Session, SessionRefusal>
-    ensures found { IfOk result (spec.IsSession (table_view document.now)) }
-    ensures first { IfErr result (spec.TellsFault (spec.faults (table_view document.now))) }
+fn session(alloc: Global, document: Table) -> Result<Session, SessionRefusal>
+    ensures found { IfOk result (spec.IsSession (table_view document)) }
+    ensures first { IfErr result (spec.TellsFault (spec.faults (table_view document))) }
 {
-    check_shape(alloc, document)?;
-    check_counts(alloc, document)?;
-    let boards = boards(alloc, document)?;
+    check_shape(alloc, &document)?;
+    check_counts(alloc, &document)?;
+    let boards = boards(alloc, &document)?;
     check_names(alloc, boards.as_slice())?;
     Ok(Session {
-        settings: settings(document),
-        tables: tables(alloc, document)?,
+        settings: settings(&document),
+        tables: tables(alloc, &document)?,
         boards,
         scripts: scripts(alloc, document)?,
     })

@@ -13,6 +13,7 @@ pub mod laws;
 mod line;
 mod refusal;
 mod script_refusal;
+mod scripts;
 mod session;
 mod steps;
 mod tables;

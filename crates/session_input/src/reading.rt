@@ -124,16 +124,16 @@ pub fn read_document(alloc: Global, document: Table) -> Result<Stated, Unread>
 {
     let mut rest = document;
     let policy = take_key(&mut rest, "policy");
-    read_parts(alloc, &rest, &policy)
+    read_parts(alloc, rest, &policy)
 }
 
 /// The session that a table stands for, and the policy that a value beside it stands for.
-fn read_parts(alloc: Global, table: &Table, value: &Option<Value>) -> Result<Stated, Unread>
-    ensures session { IfOk result (λ read. IsSession (table_view table.now) read.session) }
+fn read_parts(alloc: Global, table: Table, value: &Option<Value>) -> Result<Stated, Unread>
+    ensures session { IfOk result (λ read. IsSession (table_view table) read.session) }
     ensures policy { IfOk result (λ read. spec.IsPolicyOf (option_map view value.now) read.policy) }
     ensures within { IfOk result (λ read. IsWithin read.session) }
     ensures refused { IfErr result
-        (spec.Tells (spec.BreaksParts (table_view table.now) (option_map view value.now))) }
+        (spec.Tells (spec.BreaksParts (table_view table) (option_map view value.now))) }
 {
     let session = session_of(alloc, table)?;
     let policy = policy_of(alloc, value)?;
@@ -141,10 +141,10 @@ fn read_parts(alloc: Global, table: &Table, value: &Option<Value>) -> Result<Sta
 }
 
 /// The session that a table stands for.
-fn session_of(alloc: Global, table: &Table) -> Result<Session, Unread>
-    ensures found { IfOk result (IsSession (table_view table.now)) }
+fn session_of(alloc: Global, table: Table) -> Result<Session, Unread>
+    ensures found { IfOk result (IsSession (table_view table)) }
     ensures within { IfOk result IsWithin }
-    ensures refused { (value : Option Data) → IfErr result (spec.Tells (spec.BreaksParts (table_view table.now) value)) }
+    ensures refused { (value : Option Data) → IfErr result (spec.Tells (spec.BreaksParts (table_view table) value)) }
 {
     match read_session_table(alloc, table) {
         Ok(session) => Ok(session),

@@ -7,14 +7,14 @@ use Rattle.script_lang.proofs.document.session.Goals as goal
 
 pub returns-in_err-check_shape-clause-first : goal.returns-in_err-check_shape-clause-first
 returns-in_err-check_shape-clause-first c =
-    let document = table_view c.args.document.now in
+    let document = table_view c.args.document in
     at_shape document c.from_residual.result
     (handed_on (TellsFault (misfits document)) c.from_residual.result c.in_err-check_shape.field-0.0
     c.from_residual.ensures.1 c.in_err-check_shape.ensures.first)
 
 pub returns-in_err-check_counts-clause-first : goal.returns-in_err-check_counts-clause-first
 returns-in_err-check_counts-clause-first c =
-    let document = table_view c.args.document.now in
+    let document = table_view c.args.document in
     let handed = c.from_residual-in_err-check_counts in
     at_counts document c.in_ok-check_shape.ensures.none handed.result
     (handed_on (TellsFault (size_faults document)) handed.result c.in_err-check_counts.field-0.0 handed.ensures.1
@@ -22,7 +22,7 @@ returns-in_err-check_counts-clause-first c =
 
 pub returns-in_err-check_names-clause-first : goal.returns-in_err-check_names-clause-first
 returns-in_err-check_names-clause-first c =
-    let document = table_view c.args.document.now in
+    let document = table_view c.args.document in
     let handed = c.from_residual-in_err-check_names in
     let same : c.as_slice.result.now ≡ boards_of document = c.as_slice.ensures ∙ c.in_ok-boards.ensures in
     at_names document c.in_ok-check_shape.ensures.none c.in_ok-check_counts.ensures.none handed.result
@@ -33,7 +33,7 @@ returns-in_err-check_names-clause-first c =
 
 pub returns-in_err-tables-clause-first : goal.returns-in_err-tables-clause-first
 returns-in_err-tables-clause-first c =
-    let document = table_view c.args.document.now in
+    let document = table_view c.args.document in
     let handed = c.from_residual-in_err-tables in
     let same : c.as_slice.result.now ≡ boards_of document = c.as_slice.ensures ∙ c.in_ok-boards.ensures in
     at_tables document c.in_ok-check_shape.ensures.none c.in_ok-check_counts.ensures.none
@@ -43,7 +43,7 @@ returns-in_err-tables-clause-first c =
 
 pub returns-clause-found : goal.returns-clause-found
 returns-clause-found c =
-    let document = table_view c.args.document.now in
+    let document = table_view c.args.document in
     let same : c.as_slice.result.now ≡ boards_of document = c.as_slice.ensures ∙ c.in_ok-boards.ensures in
     record {
       faultless = all_faultless document c.in_ok-check_shape.ensures.none c.in_ok-check_counts.ensures.none
