@@ -113,8 +113,9 @@ pub(crate) fn answer_to<R: Rack, D: Door, T: Threads + Wait + Sync, G: Gate>(
 ) -> Result<Answer, NoAnswer>
     requires { (count : ℕ) → command.now ≡ Load count → count ≤ most_operations }
     ensures leaves { Keeps R.Rack R.L.Link rack.old rack.new
-        (λ links. GivesBack D.Door D.Incoming.Source D.Outgoing.Sink door.old door.new (λ came back. Leaves AreBack IsFailure NoAnswer.RackFault (terms_of command.now) bytes.now
-        (R.made rack.old) (R.made rack.new) result (record { links = links; came = came; back = back }))) }
+        (λ links. GivesBack D.Door D.Incoming.Source D.Outgoing.Sink door.old door.new
+        (λ came back. Leaves AreBack IsFailure NoAnswer.RackFault (terms_of command.now) bytes.now (R.made rack.old)
+        (R.made rack.new) result (record { links = links; came = came; back = back }))) }
     ensures in_frames { (port count : ℕ) → command.now ≡ Serve port count
         → Keeps R.Rack R.L.Link rack.old rack.new
         (λ links. GivesBack D.Door D.Incoming.Source D.Outgoing.Sink door.old door.new (CameInFrames links)) }

@@ -45,8 +45,9 @@ pub fn serve_document<R: Rack, D: Door, T: Threads + Wait + Sync>(
     door: &mut D,
 ) -> Result<Answer, ServeFault>
     ensures leaves { Keeps R.Rack R.L.Link rack.old rack.new
-        (λ links. GivesBack D.Door D.Incoming.Source D.Outgoing.Sink door.old door.new (λ came back. Leaves AreBack IsServeFailure ServeFault.Rack (serve_terms count) bytes.now
-        (R.made rack.old) (R.made rack.new) result (record { links = links; came = came; back = back }))) }
+        (λ links. GivesBack D.Door D.Incoming.Source D.Outgoing.Sink door.old door.new
+        (λ came back. Leaves AreBack IsServeFailure ServeFault.Rack (serve_terms count) bytes.now (R.made rack.old)
+        (R.made rack.new) result (record { links = links; came = came; back = back }))) }
     ensures in_frames { Keeps R.Rack R.L.Link rack.old rack.new
         (λ links. GivesBack D.Door D.Incoming.Source D.Outgoing.Sink door.old door.new (CameInFrames links)) }
     ensures refused { IfOk result (λ answer. answer.status ≡ refused_status
@@ -79,7 +80,8 @@ fn served<R: Rack, D: Door, T: Threads + Wait + Sync>(
 ) -> Result<Answer, ServeFault>
     requires { MayServe session.now }
     ensures leaves { Keeps R.Rack R.L.Link rack.old rack.new
-        (λ links. GivesBack D.Door D.Incoming.Source D.Outgoing.Sink door.old door.new (λ came back. ServeLeaves session.now count (R.made rack.old) (R.made rack.new) result
+        (λ links. GivesBack D.Door D.Incoming.Source D.Outgoing.Sink door.old door.new
+        (λ came back. ServeLeaves session.now count (R.made rack.old) (R.made rack.new) result
         (record { links = links; came = came; back = back }))) }
     ensures in_frames { Keeps R.Rack R.L.Link rack.old rack.new
         (λ links. GivesBack D.Door D.Incoming.Source D.Outgoing.Sink door.old door.new (CameInFrames links)) }

@@ -50,8 +50,8 @@ fn serve_split<R: Rack, D: Door, T: Threads + Wait + Sync>(
     requires ready { IsReady (shown_by R.L.Link) settings specs.now split prepared }
     requires room { HasRoom R.Rack rack.old (length specs.now) }
     ensures served { IfOk result (λ report. Keeps R.Rack R.L.Link rack.old rack.new
-        (λ links. GivesBack D.Door D.Incoming.Source D.Outgoing.Sink door.old door.new (λ came back. AreServed settings specs.now links came back report.connections.items
-        report.boards.items))) }
+        (λ links. GivesBack D.Door D.Incoming.Source D.Outgoing.Sink door.old door.new
+        (λ came back. AreServed settings specs.now links came back report.connections.items report.boards.items))) }
     ensures all { IfOk result (λ report. length report.connections.items ≡ count) }
     ensures had_memory { IfOk result (λ report. AllByRecursion HadMemory report.connections.items) }
     ensures links { Keeps R.Rack R.L.Link rack.old rack.new
@@ -110,8 +110,8 @@ fn serve_greeted<R: Rack, D: Door, T: Threads + Wait + Sync>(
     requires reached { AreReached (shown_by R.L.Link) settings specs.now boards.items }
     requires room { HasRoom R.Rack rack.old (length specs.now) }
     ensures served { IfOk result (λ report. Keeps R.Rack R.L.Link rack.old rack.new
-        (λ links. GivesBack D.Door D.Incoming.Source D.Outgoing.Sink door.old door.new (λ came back. AreServed settings specs.now links came back report.connections.items
-        report.boards.items))) }
+        (λ links. GivesBack D.Door D.Incoming.Source D.Outgoing.Sink door.old door.new
+        (λ came back. AreServed settings specs.now links came back report.connections.items report.boards.items))) }
     ensures all { IfOk result (λ report. length report.connections.items ≡ count) }
     ensures had_memory { IfOk result (λ report. AllByRecursion HadMemory report.connections.items) }
     ensures links { Keeps R.Rack R.L.Link rack.old rack.new
@@ -166,8 +166,8 @@ pub fn serve_session<R: Rack, D: Door, T: Threads + Wait + Sync>(
 
     // What is reported of each board is what its link bears out, and of each connection what its pair does.
     ensures served { IfOk result (λ report. Keeps R.Rack R.L.Link rack.old rack.new
-        (λ links. GivesBack D.Door D.Incoming.Source D.Outgoing.Sink door.old door.new (λ came back. AreServed settings specs.now links came back report.connections.items
-        report.boards.items))) }
+        (λ links. GivesBack D.Door D.Incoming.Source D.Outgoing.Sink door.old door.new
+        (λ came back. AreServed settings specs.now links came back report.connections.items report.boards.items))) }
     ensures all { IfOk result (λ report. length report.connections.items ≡ count) }
     ensures had_memory { IfOk result (λ report. AllByRecursion HadMemory report.connections.items) }
 
