@@ -1,20 +1,23 @@
-//! A hub of one board over a simulated link: a client step by step, and one that plans as it goes.
+//! A hub of one board over a simulated link: a client step by step, one that plans as it goes, and four at once.
 
 ghost use Rattle.std.specs.Prelude.{◌≡◌, ◌<◌, length, IfOk};
+ghost use Rattle.std.specs.Thread.{IsSync};
 ghost use Rattle.hub_multiplexer.specs.Ends.{HasTakenIn};
 ghost use Rattle.hub_multiplexer.specs.Seats.{IsMasterOf, IsSeatOf};
 
-use crate::fixtures::{kinds, lane, lane_of_two_reads, place_of, planned_lane, read_four};
+use crate::fixtures::{digit, kinds, lane, lane_of_two_reads, place_of, planned_lane, read_four};
 use crate::same::same;
+use hub_lane::Entry;
 use hub_multiplexer::laws::a_seat_that_asked_all_may_submit;
 use hub_multiplexer::{
-    AskTry, Asked, Hub, Lane, Master, NoMemory, Outcome, Performed, Seat, StepTry,
+    AskTry, Asked, Hub, Lane, Link, Master, NoMemory, Outcome, Performed, Seat, StepTry,
 };
 use lossy_network::SimLink;
 use std::alloc::Global;
+use std::marker::{Send, Sync};
 use std::sync::Wait;
 use std::test::Fail;
-use std::thread::yield_now;
+use std::thread::{Threads, join, yield_now};
 
 /// A hub of one board over a lane, its master, and the seat of client 1.
 fn hub_of(alloc: Global, lane: Lane<SimLink>) -> Result<(Hub<SimLink>, Master, Seat), Fail>
@@ -33,7 +36,12 @@ fn hub_of(alloc: Global, lane: Lane<SimLink>) -> Result<(Hub<SimLink>, Master, S
 }
 
 /// Joins the last seat, and takes the lanes.
-fn finish<R: Wait>(rt: &R, hub: Hub<SimLink>, mut master: Master, seat: Seat) -> Vec<Lane<SimLink>>
+fn finish<R: Wait, L: Link + Send>(
+    rt: &R,
+    hub: Hub<L>,
+    mut master: Master,
+    seat: Seat,
+) -> Vec<Lane<L>>
     requires master { IsMasterOf hub master }
     requires seat { IsSeatOf hub seat × (seat.client ≡ master.seats) }
     requires joined { HasTakenIn seat.client master }
@@ -51,7 +59,7 @@ fn first_kinds(alloc: Global, lanes: &[Lane<SimLink>]) -> Result<String, NoMemor
 }
 
 /// Steps until something became of the client's oldest untaken body, in so many turns at most.
-fn step(hub: &Hub<SimLink>, seat: &mut Seat, turns: usize) -> Option<Outcome>
+fn step<L: Link + Send>(hub: &Hub<L>, seat: &mut Seat, turns: usize) -> Option<Outcome>
     requires board { 0 < length hub.now.turns }
     requires seat { IsSeatOf hub.now seat.old }
     ensures { IsSeatOf hub.now seat.new × (seat.new.client ≡ seat.old.client) }
@@ -215,5 +223,190 @@ fn a_client_plans_as_it_goes(rt: HostRuntime) -> Result<(), Fail> {
     let lanes = finish(&rt, hub, master, seat);
     assert!(rt; read?);
     same(&rt, &first_kinds(rt.alloc(), &lanes)?.as_str(), &"134134");
+    Ok(())
+}
+
+/// The seats of clients 2 to 4.
+fn more_seats<L: Link + Send>(
+    alloc: Global,
+    hub: &Hub<L>,
+    master: &mut Master,
+) -> Result<(Seat, Seat, Seat), NoMemory>
+    requires master { IsMasterOf hub.now master.old × (master.old.seats ≡ 1) }
+    requires taken_in { HasTakenIn 1 master.old }
+    ensures two { IfOk result (λ seats. IsSeatOf hub.now seats.0 × (seats.0.client ≡ 2)) }
+    ensures three { IfOk result (λ seats. IsSeatOf hub.now seats.1 × (seats.1.client ≡ 3)) }
+    ensures four { IfOk result (λ seats. IsSeatOf hub.now seats.2 × (seats.2.client ≡ 4)) }
+    ensures master { IfOk result (λ _. IsMasterOf hub.now master.new × (master.new.seats ≡ 4)) }
+    ensures taken_in { IfOk result (λ _. HasTakenIn 1 master.new) }
+{
+    let two = master.seat(alloc, hub)?;
+    let three = master.seat(alloc, hub)?;
+    let four = master.seat(alloc, hub)?;
+    Ok((two, three, four))
+}
+
+/// A client's seat, and the place of the right reply that it took: 0 where it took none.
+type Taken = (Seat, u64);
+
+/// Asks a client's planned body, and steps until something became of it, in so many turns at most.
+fn read<R: Wait, L: Link + Send>(rt: &R, hub: &Hub<L>, mut seat: Seat) -> Taken
+    requires board { 0 < length hub.now.turns }
+    requires seat { IsSeatOf hub.now seat }
+    ensures { IsSeatOf hub.now result.0 × (result.0.client ≡ seat.client) }
+{
+    if hub.ask(rt, &mut seat, 0).is_err() {
+        return (seat, 0);
+    }
+    let place = place_of(step(hub, &mut seat, 1_000_000)).unwrap_or(0);
+    (seat, place)
+}
+
+/// Two clients at once.
+fn read_both<R: Threads + Wait + Sync, L: Link + Send>(
+    rt: &R,
+    hub: &Hub<L>,
+    one: Seat,
+    other: Seat,
+) -> (Taken, Taken)
+    requires board { 0 < length hub.now.turns }
+    requires one { IsSeatOf hub.now one }
+    requires other { IsSeatOf hub.now other }
+    ensures one { IsSeatOf hub.now result.0.0 × (result.0.0.client ≡ one.client) }
+    ensures other { IsSeatOf hub.now result.1.0 × (result.1.0.client ≡ other.client) }
+{
+    join(
+        rt,
+        move || -> Taken
+            requires { IsSync R.row × (0 < length hub.now.turns) × IsSeatOf hub.now one }
+            ensures { IsSeatOf hub.entry.now result.0 × (result.0.client ≡ one.client) }
+        { read(rt, hub, one) },
+        move || -> Taken
+            requires { IsSync R.row × (0 < length hub.now.turns) × IsSeatOf hub.now other }
+            ensures { IsSeatOf hub.entry.now result.0 × (result.0.client ≡ other.client) }
+        { read(rt, hub, other) },
+    )
+}
+
+/// Four clients at once.
+fn read_all<R: Threads + Wait + Sync, L: Link + Send>(
+    rt: &R,
+    hub: &Hub<L>,
+    one: Seat,
+    two: Seat,
+    three: Seat,
+    four: Seat,
+) -> ((Taken, Taken), (Taken, Taken))
+    requires board { 0 < length hub.now.turns }
+    requires first { IsSeatOf hub.now one × IsSeatOf hub.now two }
+    requires second { IsSeatOf hub.now three × IsSeatOf hub.now four }
+    ensures one { IsSeatOf hub.now result.0.0.0 × (result.0.0.0.client ≡ one.client) }
+    ensures two { IsSeatOf hub.now result.0.1.0 × (result.0.1.0.client ≡ two.client) }
+    ensures three { IsSeatOf hub.now result.1.0.0 × (result.1.0.0.client ≡ three.client) }
+    ensures four { IsSeatOf hub.now result.1.1.0 × (result.1.1.0.client ≡ four.client) }
+{
+    join(
+        rt,
+        move || -> (Taken, Taken)
+            requires { IsSync R.row × (0 < length hub.now.turns) × IsSeatOf hub.now one × IsSeatOf hub.now two }
+            ensures { IsSeatOf hub.entry.now result.0.0 × (result.0.0.client ≡ one.client)
+                × IsSeatOf hub.entry.now result.1.0 × (result.1.0.client ≡ two.client) }
+        { read_both(rt, hub, one, two) },
+        move || -> (Taken, Taken)
+            requires { IsSync R.row × (0 < length hub.now.turns) × IsSeatOf hub.now three × IsSeatOf hub.now four }
+            ensures { IsSeatOf hub.entry.now result.0.0 × (result.0.0.client ≡ three.client)
+                × IsSeatOf hub.entry.now result.1.0 × (result.1.0.client ≡ four.client) }
+        { read_both(rt, hub, three, four) },
+    )
+}
+
+/// Joins the seats of clients 1 to 4, and takes the lanes.
+fn finish_four<R: Wait, L: Link + Send>(
+    rt: &R,
+    hub: Hub<L>,
+    mut master: Master,
+    first: (Seat, Seat),
+    second: (Seat, Seat),
+) -> Vec<Lane<L>>
+    requires master { IsMasterOf hub master × (master.seats ≡ 4) }
+    requires taken_in { HasTakenIn 1 master }
+    requires one { IsSeatOf hub first.0 × (first.0.client ≡ 1) }
+    requires two { IsSeatOf hub first.1 × (first.1.client ≡ 2) }
+    requires three { IsSeatOf hub second.0 × (second.0.client ≡ 3) }
+    requires four { IsSeatOf hub second.1 × (second.1.client ≡ 4) }
+{
+    let (one, two) = first;
+    let (three, four) = second;
+    master.join(&hub, one);
+    master.join(&hub, two);
+    master.join(&hub, three);
+    finish(rt, hub, master, four)
+}
+
+/// Whether these are the places 1 to 4, in some order.
+fn are_the_first_four(places: [u64; 4]) -> bool {
+    for place in 1u64..5 {
+        if !places.contains(&place) {
+            return false;
+        }
+    }
+    true
+}
+
+/// Adds the kinds of a client's entries, in order, a digit each. A `?` for an entry that is not of its first body.
+fn push_kinds(kinds: &mut String, entries: &[Entry], client: u32) -> Result<(), NoMemory> {
+    for entry in entries {
+        if entry.maker == client {
+            let kind = if entry.seq == 0 {
+                digit(entry.kind)
+            } else {
+                '?'
+            };
+            kinds.push(kind)?;
+        }
+    }
+    Ok(())
+}
+
+/// The kinds of the entries of clients 1 to 4 in the first lane, one client after another.
+fn kinds_by_client(alloc: Global, lanes: &[Lane<SimLink>]) -> Result<String, NoMemory> {
+    let mut kinds = String::new(alloc);
+    let Some(lane) = lanes.first() else {
+        return Ok(kinds);
+    };
+    for client in 1..5 {
+        push_kinds(&mut kinds, lane.entries(), client)?;
+    }
+    Ok(kinds)
+}
+
+/// How many entries the first lane has, and how many places have each fate.
+fn first_counts(lanes: &[Lane<SimLink>]) -> Option<(usize, (u64, u64, u64))> {
+    let lane = lanes.first()?;
+    Some((lane.entries().len(), lane.counts()))
+}
+
+/// The places of the replies that four clients of a lane took at once, and the lanes.
+fn read_by_four<R: Threads + Wait + Sync>(
+    rt: &R,
+    alloc: Global,
+    lane: Lane<SimLink>,
+) -> Result<([u64; 4], Vec<Lane<SimLink>>), Fail> {
+    let (hub, mut master, one) = hub_of(alloc, lane)?;
+    let (two, three, four) = more_seats(alloc, &hub, &mut master)?;
+    let ((one, two), (three, four)) = read_all(rt, &hub, one, two, three, four);
+    let places = [one.1, two.1, three.1, four.1];
+    let lanes = finish_four(rt, hub, master, (one.0, two.0), (three.0, four.0));
+    Ok((places, lanes))
+}
+
+#[test]
+fn four_clients_read_at_once(rt: HostRuntime) -> Result<(), Fail> {
+    let lane = planned_lane(rt.alloc(), "ddlddld2r", 5)?;
+    let (places, lanes) = read_by_four(&rt, rt.alloc(), lane)?;
+    assert!(rt; are_the_first_four(places));
+    same(&rt, &first_counts(&lanes), &Some((13, (4, 0, 0))));
+    let kinds = kinds_by_client(rt.alloc(), &lanes)?;
+    same(&rt, &kinds.as_str(), &"134134134134");
     Ok(())
 }
