@@ -6,7 +6,7 @@ use native.Mathlib.Decide.{dec_le}
 use Rattle.std.specs.List.{AllByRecursion, Contains}
 use Rattle.turn_pass.specs.Pass.{Joined, Knowledge, PassState, first_knowledge, kept_of, one_more_made, taking_in}
 use Rattle.turn_pass.specs.Record.{Record}
-use Rattle.hub_multiplexer.specs.Ends.{HasAllJoined, HasJoinedBelow}
+use Rattle.hub_multiplexer.specs.Ends.{HasAllJoined, HasJoinedBelow, HasJoinedEach}
 use Rattle.hub_multiplexer.specs.Seats.{IsFirst, IsIdle, knows_after_join, knows_of, turns_of}
 
 abbrev numbers : List Joined → List ℕ
@@ -43,6 +43,27 @@ seat_taken_in n (p ∷ ps) [] same idle below = absurd (no_turn p.turn (turns_of
 seat_taken_in n (p ∷ ps) (q ∷ qs) same idle below = (
   one_taken_in n p.knows q.knows idle.0.has_number below.0,
   seat_taken_in n ps qs (ap (λ l. drop 1 l) same) idle.1 below.1,
+)
+
+one_more_taken_in : (clients : List ℕ) (n : ℕ) (k other : Knowledge) → other.number ≡ n → HasJoinedEach clients k
+    → HasJoinedEach (n ∷ clients) (taking_in k other)
+one_more_taken_in clients n k other is before c (zero, inside, at) =
+    subst (Contains (numbers (taking_in k other).joined)) (is ∙ at)
+    (right_in (k.joined ++ other.joined) (kept_of other ∷ []) other.number (0, omega arith, refl))
+one_more_taken_in clients n k other is before c (suc i, inside, at) =
+    left_in (k.joined ++ other.joined) (kept_of other ∷ []) c
+    (left_in k.joined other.joined c (before c (i, omega (arith, inside), at)))
+
+-- so did it of a seat that comes in whatever order
+pub seat_joined : (clients : List ℕ) (n : ℕ) (passes others : List PassState) → turns_of others ≡ turns_of passes
+    → AllByRecursion (IsIdle n) others
+    → AllByRecursion (HasJoinedEach clients) (knows_of passes)
+    → AllByRecursion (HasJoinedEach (n ∷ clients)) (knows_after_join (knows_of passes) (knows_of others))
+seat_joined clients n [] others same idle before = tt
+seat_joined clients n (p ∷ ps) [] same idle before = absurd (no_turn p.turn (turns_of ps) (sym same))
+seat_joined clients n (p ∷ ps) (q ∷ qs) same idle before = (
+  one_more_taken_in clients n p.knows q.knows idle.0.has_number before.0,
+  seat_joined clients n ps qs (ap (λ l. drop 1 l) same) idle.1 before.1,
 )
 
 -- one more pass is made of each board

@@ -21,6 +21,14 @@ HasJoinedBelow n k = (c : ℕ) → 1 ≤ c → c < n → Contains (numbers_joine
 abbrev pub HasTakenIn : ℕ → MasterState → Type 0
 HasTakenIn n master = AllByRecursion (HasJoinedBelow n) master.knows
 
+-- each pass with one of these numbers was taken in
+abbrev pub HasJoinedEach : List ℕ → Knowledge → Type 0
+HasJoinedEach numbers k = (c : ℕ) → Contains numbers c → Contains (numbers_joined k) c
+
+-- the master took in the seats of these clients, in whatever order
+abbrev pub HasTakenInEach : List ℕ → MasterState → Type 0
+HasTakenInEach clients master = AllByRecursion (HasJoinedEach clients) master.knows
+
 -- What the first pass of a turn is told of the record at the end: all that a taker is told, and past the opening there
 -- are only entries of passes that were taken in.
 pub record Ends (k : Knowledge) (final : Record) : Type 0 where

@@ -1,8 +1,8 @@
 //! Who makes the seats, and takes them in.
 
-ghost use Rattle.std.specs.Prelude.{◌≡◌, ◌<◌, ◌+◌, ◌-◌, ◌^◌, ℕ, length, map, IfOk, OnErr};
+ghost use Rattle.std.specs.Prelude.{◌≡◌, ◌<◌, ◌+◌, ◌-◌, ◌^◌, ℕ, List, ◌∷◌, length, map, IfOk, OnErr};
 ghost use Rattle.turn_pass.specs.Pass.{newcomer, one_more_made};
-ghost use Rattle.hub_multiplexer.specs.Ends.{HasTakenIn, IsMaster};
+ghost use Rattle.hub_multiplexer.specs.Ends.{HasTakenIn, HasTakenInEach, IsMaster};
 ghost use Rattle.hub_multiplexer.specs.Seats.{IsMasterOf, IsSeatOf, knows_after_join, knows_of, turns_of};
 
 use crate::hub::Hub;
@@ -90,14 +90,15 @@ impl Master {
         })
     }
 
-    /// Takes a seat in, with all that it had seen and the entries that it made. Where seats are joined in the order of
-    /// their clients, all are taken in after the last.
+    /// Takes a seat in, with all that it had seen and the entries that it made. Seats may be joined in any order.
     #[tactic(auto, using(crate::proofs::Seats::master_joined, crate::proofs::Seats::turns_after_join, crate::proofs::Seats::knows_joined))]
     pub fn join<L: Link + Send>(&mut self, hub: &Hub<L>, seat: Seat)
         requires hub { IsMasterOf hub.now self.old }
         requires seat { IsSeatOf hub.now seat }
         ensures joined { self.new ≡ record self.old { knows = knows_after_join self.old.knows seat.knows } }
         ensures taken_in { HasTakenIn seat.client self.old → HasTakenIn (seat.client + 1) self.new }
+        ensures in_any_order { (clients : List ℕ) → HasTakenInEach clients self.old
+            → HasTakenInEach (seat.client ∷ clients) self.new }
     {
         let Seat { client, passes } = seat;
         let count = u64::from(self.seats) + 1;
