@@ -1,18 +1,11 @@
 -- The first fault of a document, where the parts before it have none.
-use Rattle.std.proofs.Common.{◌≡◌, [], Result, Ok, Err, IfErr, sym, subst}
-use Rattle.std.specs.Prelude.{IsErrAnd}
+use Rattle.std.proofs.Common.{◌≡◌, [], Result, Ok, Err, IfErr}
 use Rattle.toml.specs.Data.{Members}
 use Rattle.script_lang.specs.declared.refusal.SessionRefusal.{SessionRefusal}
 use Rattle.script_lang.specs.declared.session.Session.{Session}
 use Rattle.script_lang.specs.Document.{TellsFault, faults, misfits, size_faults, duplicates, tables_faults}
 use Rattle.script_lang.specs.Sessions.{boards_of, format_of, tables_of}
 use Rattle.script_lang.proofs.FaultLists.{first_fault, last_fault, no_faults, second_fault, third_fault}
-
--- an error that is handed on tells what it told
-pub handed_on : {X : Type 0} (P : SessionRefusal → Type 0) (r : Result X SessionRefusal) (refusal : SessionRefusal)
-    → IsErrAnd r (λ handed. handed ≡ refusal) → P refusal → IfErr r P
-handed_on P (Ok x) refusal is told = tt
-handed_on P (Err handed) refusal is told = subst P (sym is) told
 
 pub at_shape : (document : Members) (r : Result Session SessionRefusal) → IfErr r (TellsFault (misfits document))
     → IfErr r (TellsFault (faults document))

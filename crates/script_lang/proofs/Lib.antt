@@ -7,6 +7,7 @@ pub mod TableLists
 pub mod TakenOut
 pub mod BoardNames
 pub mod Answered
+pub mod HandedOn
 pub mod InOrder
 pub mod OneAnswer
 pub mod Kept

@@ -2,17 +2,20 @@
 use Rattle.std.proofs.Common.{◌≡◌, ℕ, ◌+◌, ◌<◌, ◌≤◌, List, [], ◌∷◌, ◌++◌, length, drop, get_or, Option, Some, None}
 use Rattle.std.proofs.Common.{option_to_list, Result, Ok, Err, refl, sym, ap, ◌∙◌, subst, arith}
 use Rattle.std.specs.List.{AllByRecursion}
-use Rattle.std.specs.Prelude.{IfSome}
+use Rattle.std.specs.Prelude.{IfErr, IfSome, IsErrAnd}
 use Rattle.std.proofs.lemmas.List.{append-nil, append_assoc, drop_more}
 use Rattle.ipb_base.proofs.AllLemmas.{AllByRecursion-append}
 use Rattle.board_node.specs.declared.spec.BoardSpec.{BoardSpec}
 use Rattle.node_tree.specs.Maps.{RegisterMap}
+use Rattle.script_lang.proofs.HandedOn.{handed_on}
 use Rattle.script_steps.specs.declared.operation.Step.{Step}
 use Rattle.script_steps.specs.Packing.{CanBePacked}
+use Rattle.script_lang.specs.declared.script_refusal.ScriptRefusal.{ScriptRefusal}
+use Rattle.script_lang.specs.declared.script_refusal.ScriptRefusal.TheVariants.{At, NoMemory}
 use Rattle.script_lang.specs.declared.tally.Tally.{Tally}
 use Rattle.script_lang.specs.Operations.{meaning}
 use Rattle.script_lang.specs.Scripts.{LineFault}
-use Rattle.script_lang.specs.Tallies.{Run, joined, line_run, prepended, run_all, run_from, then_all, then_run}
+use Rattle.script_lang.specs.Tallies.{Run, StopsAs, joined, line_run, prepended, run_all, run_from, then_all, then_run}
 
 joined_twice : (steps more : List Step) (run : Run) → joined (steps ++ more) run ≡ joined steps (joined more run)
 joined_twice steps more (Ok run) = ap (λ (all : List Step). Ok (all, run.1)) (append_assoc steps more run.0)
@@ -51,6 +54,27 @@ one_line_more boards indexes client steps more so_far next step i item text line
     ∙ (line_on boards indexes client steps so_far next step (i + 1) text (drop (i + 1) lines) ran
     ∙ ap (λ (texts : List (List ℕ)). joined steps (run_from boards indexes client so_far (i + 1) texts))
     (sym (left_at lines i item text within is same)))
+
+-- what stops at a line stops there with the steps before it
+stops_at_line : (steps : List Step) (line : Result (Option Step × Tally) LineFault) (rest : Tally → Run)
+    (refusal : ScriptRefusal) → StopsAs line refusal → StopsAs (joined steps (then_run line rest)) refusal
+stops_at_line steps line rest (At client number why) stops = ap (λ run. joined steps (then_run run rest)) stops
+stops_at_line steps line rest NoMemory stops = tt
+
+pub stopped_at_line : {X : Type 0} (boards : List BoardSpec) (indexes : List RegisterMap) (client : ℕ)
+    (steps : List Step) (so_far : Tally) (i : ℕ) (item text : List ℕ) (lines : List (List ℕ))
+    (result : Result X ScriptRefusal) (refusal : ScriptRefusal)
+    → i < length lines → item ≡ get_or lines i item → text ≡ item
+    → StopsAs (line_run client (i + 1) so_far (meaning boards indexes (i + 1) text)) refusal
+    → IsErrAnd result (λ handed. handed ≡ refusal)
+    → IfErr result (StopsAs (joined steps (run_from boards indexes client so_far (i + 1) (drop i lines))))
+stopped_at_line boards indexes client steps so_far i item text lines result refusal within is same stops handed =
+    let rest : Tally → Run = λ next. run_from boards indexes client next (i + 1 + 1) (drop (i + 1) lines) in
+    let line = line_run client (i + 1) so_far (meaning boards indexes (i + 1) text) in
+    subst (λ (texts : List (List ℕ)). IfErr result (StopsAs (joined steps (run_from boards indexes client so_far (i + 1) texts))))
+    (sym (left_at lines i item text within is same))
+    (handed_on (StopsAs (joined steps (then_run line rest))) result refusal handed
+    (stops_at_line steps line rest refusal stops))
 
 -- the step of a line, where it has one
 pub with_step_of : (steps more : List Step) (step : Option Step) (pushed : Step) → more ≡ steps ++ pushed ∷ []
@@ -104,3 +128,25 @@ pub all_scripts_packed : (all more : List (List Step)) (steps : List Step) → m
 all_scripts_packed all more steps grown can these =
     subst (AllByRecursion (AllByRecursion CanBePacked)) (sym grown)
     (AllByRecursion-append (AllByRecursion CanBePacked) all (steps ∷ []) can (these, tt))
+
+-- what stops at a script stops there with the scripts before it
+stops_at_script : (all : List (List Step)) (script : Run) (rest : Tally → Result (List (List Step)) LineFault)
+    (refusal : ScriptRefusal) → StopsAs script refusal → StopsAs (prepended all (then_all script rest)) refusal
+stops_at_script all script rest (At client number why) stops = ap (λ run. prepended all (then_all run rest)) stops
+stops_at_script all script rest NoMemory stops = tt
+
+pub stopped_at_script : {X : Type 0} (boards : List BoardSpec) (indexes : List RegisterMap) (all : List (List Step))
+    (tally : Tally) (i : ℕ) (item script : List (List ℕ)) (scripts : List (List (List ℕ)))
+    (result : Result X ScriptRefusal) (refusal : ScriptRefusal)
+    → i < length scripts → item ≡ get_or scripts i item → script ≡ item
+    → StopsAs (run_from boards indexes (i + 1) tally 1 script) refusal
+    → IsErrAnd result (λ handed. handed ≡ refusal)
+    → IfErr result (StopsAs (prepended all (run_all boards indexes (i + 1) tally (drop i scripts))))
+stopped_at_script boards indexes all tally i item script scripts result refusal within is same stops handed =
+    let rest : Tally → Result (List (List Step)) LineFault =
+    λ next. run_all boards indexes (i + 1 + 1) next (drop (i + 1) scripts) in
+    let run = run_from boards indexes (i + 1) tally 1 script in
+    subst (λ (left : List (List (List ℕ))). IfErr result (StopsAs (prepended all (run_all boards indexes (i + 1) tally left))))
+    (sym (left_at scripts i item script within is same))
+    (handed_on (StopsAs (prepended all (then_all run rest))) result refusal handed
+    (stops_at_script all run rest refusal stops))

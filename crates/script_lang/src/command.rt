@@ -7,9 +7,19 @@ ghost use Rattle.script_lang.specs.Texts.{cut_at};
 use crate::Verb;
 use crate::call::{Call, Command, Name};
 use crate::line::next_word;
+use crate::named::value_named;
 use address_table::number_in_text;
 use ipb_base::{NoMemory, Words};
 use std::alloc::Global;
+
+const VERBS: [(&str, Verb); 6] = [
+    ("read", Verb::Read),
+    ("write", Verb::Write),
+    ("readblock", Verb::ReadBlock),
+    ("writeblock", Verb::WriteBlock),
+    ("rmwbits", Verb::RmwBits),
+    ("rmwsum", Verb::RmwSum),
+];
 
 fn is_comment(word: &[u8]) -> bool
     ensures { result ≡ spec.is_comment word.now }
@@ -23,21 +33,7 @@ fn is_comment(word: &[u8]) -> bool
 fn verb_named(word: &str) -> Option<Verb>
     ensures { result ≡ spec.verb_named word.now }
 {
-    if word == "read" {
-        Some(Verb::Read)
-    } else if word == "write" {
-        Some(Verb::Write)
-    } else if word == "readblock" {
-        Some(Verb::ReadBlock)
-    } else if word == "writeblock" {
-        Some(Verb::WriteBlock)
-    } else if word == "rmwbits" {
-        Some(Verb::RmwBits)
-    } else if word == "rmwsum" {
-        Some(Verb::RmwSum)
-    } else {
-        None
-    }
+    value_named(&VERBS, word)
 }
 
 /// The numbers that the words of a text are.

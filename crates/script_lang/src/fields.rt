@@ -85,13 +85,9 @@ pub(crate) fn number_at(form: Form, members: &Table, name: &str) -> u32
     ensures { result ≡ spec.number_at (form_keys form) name.now (table_view members.now) }
 {
     match kind_at(form, name) {
-        Some(
-            Kind::Number {
-                least,
-                most,
-                default,
-            },
-        ) => number_between(members, name, least, most).unwrap_or(default),
+        Some(Kind::Number(least, most, default)) => {
+            number_between(members, name, least, most).unwrap_or(default)
+        }
         _ => 0,
     }
 }

@@ -2,18 +2,18 @@
 
 ghost use Rattle.std.specs.Prelude.{◌≡◌, ◌∷◌, [], MatchOption, Some, slice_get, option_copied};
 ghost use Rattle.toml.specs.View.{table_view};
-ghost use Rattle.script_lang.specs.Forms.{form_keys, first_absent};
+ghost use Rattle.script_lang.specs.Forms.{first_absent, form_keys};
 ghost use Rattle.script_lang.specs.Keys as spec;
-ghost use Rattle.script_lang.specs.declared.keys.Kind.TheVariants as kinds;
 ghost use Rattle.script_lang.specs.Walk.{missing};
 ghost use Rattle.script_lang.specs.declared.steps.PathStep.TheVariants.{Key};
 
 use crate::fields::{has_key, is_udp};
+use crate::named::value_named;
 use toml::Table;
 use world_model::MAX_WINDOW;
 
 /// The rule of a text.
-#[derive(Clone, Copy, PartialEq, Eq)]
+#[derive(Clone, Copy)]
 pub(crate) enum TextRule {
     Any,
     Id,
@@ -24,7 +24,7 @@ pub(crate) enum TextRule {
 }
 
 /// The tables that stand in arrays.
-#[derive(Clone, Copy, PartialEq, Eq)]
+#[derive(Clone, Copy)]
 pub(crate) enum TableKind {
     Board,
     Range,
@@ -32,7 +32,7 @@ pub(crate) enum TableKind {
 }
 
 /// What the items of an array are.
-#[derive(Clone, Copy, PartialEq, Eq)]
+#[derive(Clone, Copy)]
 pub(crate) enum ItemKind {
     Number,
     Text,
@@ -40,10 +40,10 @@ pub(crate) enum ItemKind {
 }
 
 /// What stands under a key.
-#[derive(Clone, Copy, PartialEq, Eq)]
+#[derive(Clone, Copy)]
 pub(crate) enum Kind {
-    /// A number from `least` to `most`, and `default` where the key is left out.
-    Number { least: u32, most: u32, default: u32 },
+    /// A number from the first to the second, and the third where the key is left out.
+    Number(u32, u32, u32),
     /// A text that keeps a rule.
     Text(TextRule),
     /// A table of any values, whose keys are ids.
@@ -53,7 +53,7 @@ pub(crate) enum Kind {
 }
 
 /// The tables whose keys differ.
-#[derive(Clone, Copy, PartialEq, Eq)]
+#[derive(Clone, Copy)]
 pub(crate) enum Form {
     Document,
     /// A simulated board with `fates`, which has no `noise`.
@@ -65,11 +65,46 @@ pub(crate) enum Form {
     Client,
 }
 
-const WORD: Kind = Kind::Number {
-    least: 0,
-    most: u32::MAX,
-    default: 0,
-};
+/// Any number of 32 bits, and 0 where it is left out.
+const WORD: Kind = Kind::Number(0, u32::MAX, 0);
+
+const DOCUMENT_KEYS: [(&str, Kind); 6] = [
+    ("board", Kind::Array(ItemKind::Table(TableKind::Board))),
+    ("client", Kind::Array(ItemKind::Table(TableKind::Client))),
+    ("format", Kind::Number(1, 2, 1)),
+    ("rounds", Kind::Number(1, 255, 8)),
+    ("tables", Kind::Names),
+    ("window", Kind::Number(1, MAX_WINDOW as u32, 16)),
+];
+
+/// A simulated board's, besides `noise`.
+const SIM_KEYS: [(&str, Kind); 8] = [
+    ("buffers", Kind::Number(1, 64, 16)),
+    ("fates", Kind::Text(TextRule::Fates)),
+    ("first", Kind::Number(1, 65535, 1)),
+    ("link", Kind::Text(TextRule::Link)),
+    ("mtu", Kind::Number(92, 9000, 1500)),
+    ("name", Kind::Text(TextRule::Id)),
+    ("ranges", Kind::Array(ItemKind::Table(TableKind::Range))),
+    ("table", Kind::Text(TextRule::Any)),
+];
+
+const UDP_KEYS: [(&str, Kind); 5] = [
+    ("address", Kind::Text(TextRule::Endpoint)),
+    ("link", Kind::Text(TextRule::Link)),
+    ("name", Kind::Text(TextRule::Id)),
+    ("table", Kind::Text(TextRule::Any)),
+    ("wait", Kind::Number(1, 10000, 100)),
+];
+
+const RANGE_KEYS: [(&str, Kind); 4] = [
+    ("base", WORD),
+    ("init", Kind::Array(ItemKind::Number)),
+    ("kind", Kind::Text(TextRule::RangeWord)),
+    ("size", WORD),
+];
+
+const CLIENT_KEYS: [(&str, Kind); 1] = [("script", Kind::Array(ItemKind::Text))];
 
 /// The form of a table that is an item.
 pub(crate) fn form_of(kind: TableKind, members: &Table) -> Form
@@ -99,121 +134,22 @@ pub(crate) fn kind_at(form: Form, name: &str) -> Option<Kind>
     ensures { result ≡ spec.kind_at (form_keys form) name.now }
 {
     match form {
-        Form::Document => document_kind(name),
-        Form::SimBoard => sim_kind(name),
-        Form::NoisyBoard => noise_kind(name),
-        Form::UdpBoard => udp_kind(name),
-        Form::Range => range_kind(name),
-        Form::Client => client_kind(name),
+        Form::Document => value_named(&DOCUMENT_KEYS, name),
+        Form::SimBoard => value_named(&SIM_KEYS, name),
+        Form::NoisyBoard => noisy_kind(name),
+        Form::UdpBoard => value_named(&UDP_KEYS, name),
+        Form::Range => value_named(&RANGE_KEYS, name),
+        Form::Client => value_named(&CLIENT_KEYS, name),
     }
 }
 
-/// A number from `least` to `most`, and `default` where the key is left out.
-fn number(least: u32, most: u32, default: u32) -> Option<Kind>
-    ensures { result ≡ Some (kinds.Number least most default) }
-{
-    Some(Kind::Number {
-        least,
-        most,
-        default,
-    })
-}
-
-fn document_kind(name: &str) -> Option<Kind>
-    ensures { result ≡ spec.kind_at spec.document_keys name.now }
-{
-    if name == "board" {
-        Some(Kind::Array(ItemKind::Table(TableKind::Board)))
-    } else if name == "client" {
-        Some(Kind::Array(ItemKind::Table(TableKind::Client)))
-    } else if name == "format" {
-        number(1, 2, 1)
-    } else if name == "rounds" {
-        number(1, 255, 8)
-    } else if name == "tables" {
-        Some(Kind::Names)
-    } else if name == "window" {
-        number(1, u32::from(MAX_WINDOW), 16)
-    } else {
-        None
-    }
-}
-
-fn noise_kind(name: &str) -> Option<Kind>
+fn noisy_kind(name: &str) -> Option<Kind>
     ensures { result ≡ spec.kind_at spec.sim_keys_with_noise name.now }
 {
     if name == "noise" {
         Some(WORD)
     } else {
-        sim_kind(name)
-    }
-}
-
-fn sim_kind(name: &str) -> Option<Kind>
-    ensures { result ≡ spec.kind_at spec.sim_keys name.now }
-{
-    if name == "buffers" {
-        number(1, 64, 16)
-    } else if name == "fates" {
-        Some(Kind::Text(TextRule::Fates))
-    } else if name == "first" {
-        number(1, 65535, 1)
-    } else if name == "link" {
-        Some(Kind::Text(TextRule::Link))
-    } else if name == "mtu" {
-        number(92, 9000, 1500)
-    } else if name == "name" {
-        Some(Kind::Text(TextRule::Id))
-    } else if name == "ranges" {
-        Some(Kind::Array(ItemKind::Table(TableKind::Range)))
-    } else if name == "table" {
-        Some(Kind::Text(TextRule::Any))
-    } else {
-        None
-    }
-}
-
-fn udp_kind(name: &str) -> Option<Kind>
-    ensures { result ≡ spec.kind_at spec.udp_keys name.now }
-{
-    if name == "address" {
-        Some(Kind::Text(TextRule::Endpoint))
-    } else if name == "link" {
-        Some(Kind::Text(TextRule::Link))
-    } else if name == "name" {
-        Some(Kind::Text(TextRule::Id))
-    } else if name == "table" {
-        Some(Kind::Text(TextRule::Any))
-    } else if name == "wait" {
-        number(1, 10000, 100)
-    } else {
-        None
-    }
-}
-
-fn range_kind(name: &str) -> Option<Kind>
-    ensures { result ≡ spec.kind_at spec.range_keys name.now }
-{
-    if name == "base" {
-        Some(WORD)
-    } else if name == "init" {
-        Some(Kind::Array(ItemKind::Number))
-    } else if name == "kind" {
-        Some(Kind::Text(TextRule::RangeWord))
-    } else if name == "size" {
-        Some(WORD)
-    } else {
-        None
-    }
-}
-
-fn client_kind(name: &str) -> Option<Kind>
-    ensures { result ≡ spec.kind_at spec.client_keys name.now }
-{
-    if name == "script" {
-        Some(Kind::Array(ItemKind::Text))
-    } else {
-        None
+        value_named(&SIM_KEYS, name)
     }
 }
 

@@ -11,6 +11,7 @@ mod fields;
 mod keys;
 pub mod laws;
 mod line;
+mod named;
 mod refusal;
 mod script_refusal;
 mod scripts;

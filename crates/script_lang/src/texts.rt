@@ -9,9 +9,17 @@ ghost use Rattle.toml.specs.View.{view};
 ghost use Rattle.script_lang.specs.Texts as spec;
 
 use crate::keys::TextRule;
+use crate::named::value_named;
 use address_table::{is_id, number_in_text};
 use board_bus::RangeKind;
 use toml::Value;
+
+const RANGE_KINDS: [(&str, RangeKind); 4] = [
+    ("rw", RangeKind::Rw),
+    ("ro", RangeKind::Ro),
+    ("wo", RangeKind::Wo),
+    ("slow", RangeKind::Slow),
+];
 
 /// Whether a value is a text that keeps a rule.
 pub(crate) fn keeps_rule(rule: TextRule, value: &Value) -> bool
@@ -41,17 +49,7 @@ fn keeps(rule: TextRule, text: &str) -> bool
 pub(crate) fn range_kind_named(word: &str) -> Option<RangeKind>
     ensures { result ≡ spec.range_kind_named word.now }
 {
-    if word == "rw" {
-        Some(RangeKind::Rw)
-    } else if word == "ro" {
-        Some(RangeKind::Ro)
-    } else if word == "wo" {
-        Some(RangeKind::Wo)
-    } else if word == "slow" {
-        Some(RangeKind::Slow)
-    } else {
-        None
-    }
+    value_named(&RANGE_KINDS, word)
 }
 
 fn are_fates(text: &[u8]) -> bool

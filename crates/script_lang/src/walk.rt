@@ -69,13 +69,7 @@ fn check_value(alloc: Global, kind: Option<Kind>, value: &Value) -> Result<(), M
 {
     match kind {
         None => Err(misfit_here(alloc)),
-        Some(
-            Kind::Number {
-                least,
-                most,
-                default: _,
-            },
-        ) => check(alloc, is_number_between(value, least, most)),
+        Some(Kind::Number(least, most, _)) => check(alloc, is_number_between(value, least, most)),
         Some(Kind::Text(rule)) => check(alloc, keeps_rule(rule, value)),
         Some(Kind::Names) => check_names(alloc, value),
         Some(Kind::Array(item)) => match value.as_array() {

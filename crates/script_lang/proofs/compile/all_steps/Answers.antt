@@ -1,5 +1,7 @@
-use Rattle.std.proofs.Common.{◌∙◌}
-use Rattle.script_lang.proofs.StepsSoFar.{all_scripts_packed, one_script_more}
+use Rattle.std.proofs.Common.{◌∙◌, subst}
+use Rattle.std.specs.Prelude.{IfErr}
+use Rattle.script_lang.specs.Tallies.{StopsAs}
+use Rattle.script_lang.proofs.StepsSoFar.{all_scripts_packed, one_script_more, stopped_at_script}
 use Rattle.script_lang.proofs.compile.all_steps.Goals as goal
 
 pub loop-i-preserved : goal.loop-i-preserved
@@ -16,3 +18,12 @@ loop-i-preserved c =
       packed = all_scripts_packed before.all.items c.push.new.self.items next.steps pushed before.invariant.packed
           next.ensures.packed;
     }
+
+pub returns-in_err-steps-clause-stopped : goal.returns-in_err-steps-clause-stopped
+returns-in_err-steps-clause-stopped c =
+    let before = c.loop-i in
+    let handed = c.from_residual-in_err-steps in
+    subst (λ run. IfErr handed.result (StopsAs run)) before.invariant.run
+    (stopped_at_script c.args.boards.now c.args.indexes.now before.all.items before.tally before.i
+    c.index-scripts-i.result c.as_slice.result.now c.args.scripts.now handed.result c.in_err-steps.field-0.0
+    c.loop-i-test.true c.index-scripts-i.is c.as_slice.ensures c.in_err-steps.ensures.stopped handed.ensures.1)

@@ -1,5 +1,8 @@
-use Rattle.std.proofs.Common.{◌≡◌, ◌∙◌, ◌++◌, option_to_list}
-use Rattle.script_lang.proofs.StepsSoFar.{all_can_be_packed, lines_counted, one_line_more, with_no_step, with_step_of}
+use Rattle.std.proofs.Common.{◌≡◌, ◌∙◌, ◌++◌, option_to_list, subst}
+use Rattle.std.specs.Prelude.{IfErr}
+use Rattle.script_lang.specs.Tallies.{StopsAs}
+use Rattle.script_lang.proofs.StepsSoFar.{all_can_be_packed, lines_counted, one_line_more, stopped_at_line, with_no_step}
+use Rattle.script_lang.proofs.StepsSoFar.{with_step_of}
 use Rattle.script_lang.proofs.compile.script_steps.Goals.{in-Some+in_ok-push, in_default}
 use Rattle.script_lang.proofs.compile.script_steps.Goals as goal
 
@@ -25,3 +28,12 @@ loop-i-preserved c =
       packed = all_can_be_packed before.steps.items c.match-step.steps.items next.step grown before.invariant.packed
           next.ensures.packed;
     }
+
+pub returns-in_err-step-clause-stopped : goal.returns-in_err-step-clause-stopped
+returns-in_err-step-clause-stopped c =
+    let before = c.loop-i in
+    let handed = c.from_residual-in_err-step in
+    subst (λ run. IfErr handed.result (StopsAs run)) before.invariant.run
+    (stopped_at_line c.args.boards.now c.args.indexes.now c.args.client before.steps.items before.so_far before.i
+    c.index-lines-i.result c.as_str-text.result.now c.args.lines.now handed.result c.in_err-step.field-0.0
+    c.loop-i-test.true c.index-lines-i.is c.as_str-text.ensures c.in_err-step.ensures.stopped handed.ensures.1)

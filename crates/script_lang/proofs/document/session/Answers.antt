@@ -2,7 +2,8 @@ use Rattle.std.proofs.Common.{◌≡◌, [], subst, ◌∙◌}
 use Rattle.toml.specs.View.{table_view}
 use Rattle.script_lang.specs.Document.{TellsFault, duplicates, misfits, size_faults, tables_faults}
 use Rattle.script_lang.specs.Sessions.{boards_of, format_of, tables_of}
-use Rattle.script_lang.proofs.InOrder.{all_faultless, at_counts, at_names, at_shape, at_tables, handed_on}
+use Rattle.script_lang.proofs.HandedOn.{handed_on}
+use Rattle.script_lang.proofs.InOrder.{all_faultless, at_counts, at_names, at_shape, at_tables}
 use Rattle.script_lang.proofs.document.session.Goals as goal
 
 pub returns-in_err-check_shape-clause-first : goal.returns-in_err-check_shape-clause-first

@@ -1,12 +1,13 @@
 use Rattle.std.proofs.Common.{◌≡◌, ◌<◌, ◌≤◌, get_or, length, string_bytes, subst, ap, ◌∙◌, arith}
 use Rattle.toml.specs.Data.{depth, items_depth}
-use Rattle.toml.specs.View.{view, array_view, members_view}
+use Rattle.toml.specs.View.{view, array_view, members_view, table_view}
 use Rattle.script_lang.specs.Forms.{form_keys}
 use Rattle.script_lang.specs.Keys.{kind_at}
 use Rattle.script_lang.specs.Reading.{TellsFirst}
-use Rattle.script_lang.specs.Walk.{below, keys_faults, value_faults}
+use Rattle.script_lang.specs.Walk.{below, keys_faults, missing, table_faults, value_faults}
 use Rattle.script_lang.specs.declared.steps.PathStep.TheVariants.{Key}
-use Rattle.script_lang.proofs.Faults.{is_table, first-item, first-key, depth-item}
+use Rattle.script_lang.proofs.Faults.{is_table, first-front, first-item, first-key, depth-item}
+use Rattle.script_lang.proofs.HandedOn.{handed_on}
 use Rattle.script_lang.proofs.walk.+walk.Goals as goal
 
 pub check_item-returns-in-Some-clause-none : goal.check_item-returns-in-Some-clause-none
@@ -47,3 +48,17 @@ check_keys-returns-in-Err-clause-first t c =
     (first-key (form_keys c.args.form) c.in-Some.name.now c.in-Some.value.now c.next.new.self c.below_key.result
     told) in
     subst (λ ways. TellsFirst ways c.below_key.result) c.loop-name.invariant.faults first
+
+pub check_table-returns-in_err-check_keys-clause-first : goal.check_table-returns-in_err-check_keys-clause-first
+check_table-returns-in_err-check_keys-clause-first t c =
+    let keys = form_keys c.args.form in
+    let members = table_view c.args.members.now in
+    let broken = c.in_err-check_keys in
+    handed_on (TellsFirst (table_faults keys members)) c.from_residual.result broken.field-0.0 c.from_residual.ensures.1
+    (first-front (keys_faults keys members) (missing keys members) broken.field-0.0 broken.ensures.first)
+
+pub check_table-returns-clause-none : goal.check_table-returns-clause-none
+check_table-returns-clause-none t c = rw c.in_ok-check_keys.ensures.none c.check_missing.ensures.none
+
+pub check_table-returns-clause-first : goal.check_table-returns-clause-first
+check_table-returns-clause-first t c = rw c.in_ok-check_keys.ensures.none c.check_missing.ensures.first
