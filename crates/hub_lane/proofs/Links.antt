@@ -1,6 +1,8 @@
 -- What calls leave of a link, one after another.
-use Rattle.std.proofs.Common.{◌≡◌, ◌∙◌, ap, ℕ, ◌≤◌, List, [], ◌∷◌, ◌++◌, Option, Some, None, arith}
+use Rattle.std.proofs.Common.{◌≡◌, ◌∙◌, ap, sym, inl, inr, Bool, true, false, ℕ, ◌≤◌}
+use Rattle.std.proofs.Common.{List, [], ◌∷◌, ◌++◌, Option, Some, None, arith}
 use Rattle.std.specs.Prelude.{Result, Ok, Err, IfSome}
+use Rattle.ipb_base.specs.Faults.{Rose}
 use Rattle.ipb_base.specs.Lists.{IsPrefix}
 use Rattle.world_core.specs.declared.link.Link.{Ghosts}
 use Rattle.world_core.specs.declared.link.LinkFault.{LinkFault}
@@ -10,7 +12,8 @@ use Rattle.world_core.specs.Receives.{receives_after}
 use Rattle.world_core.specs.Telling.{IfTelling, IsQuiet, Receives, Telling}
 use Rattle.hub_lane.specs.declared.answers.Pumped.TheVariants.{Quiet}
 use Rattle.hub_lane.specs.Hearing.{WasReceived}
-use Rattle.hub_lane.specs.Links.{KeepsCounting, ReceivesNothing}
+use Rattle.hub_lane.specs.Lanes.{LaneState}
+use Rattle.hub_lane.specs.Links.{IsDownByFault, KeepsCounting, ReceivesNothing}
 use Rattle.hub_lane.proofs.Linked.{received_board}
 use Rattle.hub_lane.proofs.Listened.{same_prefix}
 use Rattle.hub_lane.proofs.Standing.{SameBoard}
@@ -68,3 +71,31 @@ was_quiet bytes held now None None quiet = tt
 was_quiet bytes held now None (Some u) quiet = absurd quiet
 was_quiet bytes held now (Some t) None quiet = absurd quiet
 was_quiet bytes held now (Some t) (Some u) quiet = quiet.none_due
+
+-- ---- a lane that is down
+
+not_up : (t : Option Telling) (down : Bool) (P : Type 0) → down ≡ true → IfSome t (λ _. down ≡ false → P)
+not_up None down P is = tt
+not_up (Some t) down P is = λ up. absurd (let clash : true ≡ false = sym is ∙ up in cc)
+
+still_up : (t : Option Telling) (down : Bool) (P Q : Type 0) → IfSome t (λ _. P → Q) → P
+    → IfSome t (λ _. down ≡ false → Q)
+still_up None down P Q leads holds = tt
+still_up (Some t) down P Q leads holds = λ _. leads holds
+
+-- the network failed
+pub went_down : {L : Type 0} (seen : Ghosts L) (old new : LaneState L) → new.down ≡ true
+    → Rose (seen.faults old.link) (seen.faults new.link) → IsDownByFault seen old new
+went_down seen old new down rose = record {
+  down = λ _. inr rose;
+  up = not_up (seen.telling old.link) new.down (seen.faults new.link ≡ seen.faults old.link) down;
+}
+
+-- it did not
+pub did_not_go_down : {L : Type 0} (seen : Ghosts L) (old new : LaneState L) (P : Type 0) → new.down ≡ old.down
+    → IfSome (seen.telling old.link) (λ _. P → seen.faults new.link ≡ seen.faults old.link) → P
+    → IsDownByFault seen old new
+did_not_go_down seen old new P same leads holds = record {
+  down = λ down. inl (sym same ∙ down);
+  up = still_up (seen.telling old.link) new.down P (seen.faults new.link ≡ seen.faults old.link) leads holds;
+}

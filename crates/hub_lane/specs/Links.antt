@@ -1,5 +1,5 @@
 -- What a call leaves of its link. Profile.
-use Rattle.std.specs.Prelude.{◌≡◌, ◌≢◌, ◌≤◌, ℕ, List, IfSome, Result, Err}
+use Rattle.std.specs.Prelude.{◌≡◌, ◌≢◌, ◌⊎◌, ◌≤◌, ℕ, List, true, false, IfSome, Result, Err}
 use Rattle.ipb_base.specs.Faults.{Rose}
 use Rattle.ipb_base.specs.Lists.{IsPrefix}
 use Rattle.world_core.specs.declared.link.Link.{Ghosts}
@@ -7,7 +7,7 @@ use Rattle.world_core.specs.declared.link.LinkFault.{LinkFault}
 use Rattle.world_core.specs.declared.link.LinkFault.TheVariants.{Failed}
 use Rattle.hub_lane.specs.declared.answers.Pumped.{Pumped}
 use Rattle.hub_lane.specs.Hearing.{gots_of, quiets_of, receives_of}
-use Rattle.hub_lane.specs.Lanes.{board_of}
+use Rattle.hub_lane.specs.Lanes.{LaneState, board_of}
 
 -- No count fell, nothing that was received is forgotten, and the board is the same.
 pub record KeepsCounting {L : Type 0} (seen : Ghosts L) (old new : L) : Type 0 where
@@ -41,3 +41,17 @@ pub record ReceivesOnce {L : Type 0} (seen : Ghosts L) (pumped : Pumped) (bytes 
 pub record CountsFaults {L T : Type 0} (seen : Ghosts L) (result : Result T LinkFault) (old new : L) : Type 0 where
   pub failed : result ≡ Err Failed → Rose (seen.faults old) (seen.faults new)
   pub unfaulted : IfSome (seen.telling old) (λ _. result ≢ Err Failed → seen.faults new ≡ seen.faults old)
+
+-- A lane goes down only where its link counted a fault; over a link that tells none is counted while it stays up.
+pub record IsDownByFault {L : Type 0} (seen : Ghosts L) (old new : LaneState L) : Type 0 where
+  pub down : new.down ≡ true → (old.down ≡ true) ⊎ Rose (seen.faults old.link) (seen.faults new.link)
+  pub up : IfSome (seen.telling old.link) (λ _. new.down ≡ false → seen.faults new.link ≡ seen.faults old.link)
+
+-- nothing that contracts see of the link changed
+pub record ShowsTheSame {L : Type 0} (seen : Ghosts L) (old new : L) : Type 0 where
+  pub telling : seen.telling new ≡ seen.telling old
+  pub faults : seen.faults new ≡ seen.faults old
+  pub quiets : seen.quiets new ≡ seen.quiets old
+  pub gots : seen.gots new ≡ seen.gots old
+  pub receives : seen.receives new ≡ seen.receives old
+  pub held : seen.held new ≡ seen.held old

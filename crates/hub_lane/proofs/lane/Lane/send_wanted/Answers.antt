@@ -3,6 +3,7 @@ use Rattle.lane_record.specs.Lates.{late_in}
 use Rattle.std.specs.Prelude.{IfSome}
 use Rattle.hub_lane.specs.Calls.{IsSameRecord}
 use Rattle.hub_lane.specs.Lanes.{BoardStatus, LaneState}
+use Rattle.hub_lane.specs.Links.{IsDownByFault}
 use Rattle.world_core.specs.Telling.{IfTelling}
 use Rattle.hub_lane.specs.Rounds.{HasPaid, RoundAfter, Sends, round_of}
 use Rattle.hub_lane.proofs.Datagrams.{heard_down, heard_still}
@@ -10,6 +11,7 @@ use Rattle.hub_lane.proofs.Listened.{listened_sent, lost_answers, same_answers, 
 use Rattle.hub_lane.proofs.Pumps.{PumpLaws, lost_keeps, pump_down, pump_sent, pump_spent}
 use Rattle.hub_lane.proofs.Rounds.{pays_pumped, pays_stopped, still_up}
 use Rattle.hub_lane.proofs.InRounds.{lane_round}
+use Rattle.hub_lane.proofs.Links.{did_not_go_down, went_down}
 use Rattle.hub_lane.proofs.lane.Lane.send_wanted.Goals as goal
 
 pub invariant_of-self : goal.invariant_of-self
@@ -206,3 +208,35 @@ returns-in-Err-Failed-clause-same g c =
           ∙ there;
       give_ups = omega arith;
     })
+
+pub returns-in-Err-Failed-clause-down : goal.returns-in-Err-Failed-clause-down
+returns-in-Err-Failed-clause-down g c =
+    let l = c.self.inside in
+    subst (λ (v : LaneState _). IsDownByFault g.L.Link v (record {
+      link = c.send_all.new.link;
+      settings = l.settings;
+      status = record { mtu = l.mtu; buffers = l.buffers; next = l.first };
+      hub = c.send_all.new.hub;
+      items = l.book.items;
+      outcomes = c.lose_all.new.outcomes.items;
+      lates = c.lose_all.new.outcomes.lates;
+      give_ups = l.give_ups;
+      down = true;
+      spent = l.spent;
+    })) c.self.view_is (went_down g.L.Link _ _ refl (c.send_all.ensures.faults.failed (cc)))
+
+pub returns-in-Err-NoMemory-clause-down : goal.returns-in-Err-NoMemory-clause-down
+returns-in-Err-NoMemory-clause-down g c =
+    let l = c.self.inside in
+    subst (λ (v : LaneState _). IsDownByFault g.L.Link v (record {
+      link = c.send_all.new.link;
+      settings = l.settings;
+      status = record { mtu = l.mtu; buffers = l.buffers; next = l.first };
+      hub = c.send_all.new.hub;
+      items = l.book.items;
+      outcomes = l.outcomes.items;
+      lates = l.outcomes.lates;
+      give_ups = l.give_ups;
+      down = l.down;
+      spent = true;
+    })) c.self.view_is (did_not_go_down g.L.Link _ _ _ refl c.send_all.ensures.faults.unfaulted (λ e. cc))
