@@ -21,6 +21,7 @@ mod Ready
 mod Lanes
 mod Exchanges
 mod Listened
+mod Links
 mod Pumps
 mod Steps
 mod Records

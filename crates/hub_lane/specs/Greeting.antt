@@ -1,23 +1,23 @@
 -- The greeting of a board: it is asked for its status, round by round, until it tells it. IPbus 2.0, status packet; the
 -- rounds are the profile's.
-use Rattle.std.specs.Prelude.{◌≡◌, ℕ, ◌+◌, ◌*◌, ◌<◌, ◌≤◌, Bool, false, List, [], count_by, length, Option, Some, None}
+use Rattle.std.specs.Prelude.{◌≡◌, ℕ, ◌+◌, ◌*◌, ◌<◌, ◌≤◌, false, [], count_by, length, Option, Some, None, IfSome}
 use Rattle.std.specs.List.{Contains}
 use Rattle.ipb_base.specs.Numbers.{most_others}
 use Rattle.ipb_base.specs.Faults.{Rose, one_more}
 use Rattle.status_packet.specs.declared.status.Status.{Status}
-use Rattle.world_model.specs.declared.datagram.Datagram.{Datagram}
-use Rattle.world_model.specs.declared.datagram.Direction.TheVariants.{ToBoard}
 use Rattle.world_model.specs.Air.{is_for_board}
 use Rattle.world_model.specs.Messages.{ToHub, StatusReply}
 use Rattle.world_model.specs.Facts.{IsStart}
 use Rattle.world_model.specs.Settings.{Limits}
 use Rattle.world_core.specs.Receives.{tells_status}
-use Rattle.world_core.specs.Telling.{Telling}
+use Rattle.world_core.specs.Telling.{IfTelling, Telling}
+use Rattle.world_core.specs.declared.link.Link.{Ghosts}
 use Rattle.hub_lane.specs.declared.greeting.Answer.{Answer}
 use Rattle.hub_lane.specs.declared.greeting.Answer.TheVariants as answer
 use Rattle.hub_lane.specs.declared.greeting.Greeted.{Greeted}
 use Rattle.hub_lane.specs.declared.greeting.Greeted.TheVariants.{Ready, Silent, Down, NoMemory}
-use Rattle.hub_lane.specs.Lanes.{IsGreeted, LaneState, status_of}
+use Rattle.hub_lane.specs.Heard.{EndWith, EndsWithStatus}
+use Rattle.hub_lane.specs.Lanes.{BoardStatus, IsGreeted, LaneState, status_of}
 use Rattle.hub_lane.specs.Standing.{AreInAir}
 
 -- A run can begin at this board and this air: nothing was executed, and nothing but greetings is in the air, where all
@@ -38,12 +38,12 @@ pub record IsExpecting (t : Telling) : Type 0 where
   pub there : place < length t.told.air
 
 -- no call of the link was counted yet, and nothing was received
-pub record IsUnused (faults quiets gots held : ℕ) (receives : List (Option (List ℕ))) : Type 0 where
-  pub no_faults : faults ≡ 0
-  pub no_quiets : quiets ≡ 0
-  pub no_gots : gots ≡ 0
-  pub none_held : held ≡ 0
-  pub none_received : receives ≡ []
+pub record IsUnused {L : Type 0} (seen : Ghosts L) (link : L) : Type 0 where
+  pub no_faults : seen.faults link ≡ 0
+  pub no_quiets : seen.quiets link ≡ 0
+  pub no_gots : seen.gots link ≡ 0
+  pub none_held : seen.held link ≡ 0
+  pub none_received : seen.receives link ≡ []
 
 -- how many datagrams of the air are for the board
 abbrev pub requests_in : Telling → ℕ
@@ -105,6 +105,16 @@ gots_of_answer (answer.Told status) count = one_more count
 gots_of_answer answer.Nothing count = count
 gots_of_answer answer.Other count = one_more count
 
+-- a receive that came to this is counted
+pub record CountsAnswer {L : Type 0} (seen : Ghosts L) (heard : Answer) (old new : L) : Type 0 where
+  pub quiets : seen.quiets new ≡ quiets_of_answer heard (seen.quiets old)
+  pub gots : seen.gots new ≡ gots_of_answer heard (seen.gots old)
+
+-- a receive that failed is not
+pub record CountsNoAnswer {L : Type 0} (seen : Ghosts L) (old new : L) : Type 0 where
+  pub quiets : seen.quiets new ≡ seen.quiets old
+  pub gots : seen.gots new ≡ seen.gots old
+
 abbrev pub IfNothing : Answer → Type 0 → Type 0
 IfNothing (answer.Told status) P = Unit {0}
 IfNothing answer.Nothing P = P
@@ -139,12 +149,39 @@ abbrev pub IfNotTold : Option Status → Type 0 → Type 0
 IfNotTold None P = P
 IfNotTold (Some status) P = Unit {0}
 
+-- No count of the link fell in a round; one receive at most was quiet, and no more others came than a round hears.
+pub record CountsRound {L : Type 0} (seen : Ghosts L) (old new : L) : Type 0 where
+  pub faults : seen.faults old ≤ seen.faults new
+  pub quiets : seen.quiets old ≤ seen.quiets new
+  pub most_quiets : seen.quiets new ≤ seen.quiets old + 1
+  pub gots : seen.gots old ≤ seen.gots new
+  pub most_gots : seen.gots new ≤ seen.gots old + most_others
+  pub held : seen.held old ≤ seen.held new
+
+-- What a round that did not fail leaves of its link: the status came in a datagram, which was the last one; or none of
+-- its receives told one, and it has waited as long as a round does.
+pub record EndsRound {L : Type 0} (seen : Ghosts L) (found : Option Status) (old new : L) : Type 0 where
+  pub receives : EndWith found (seen.receives new)
+  pub heard : IfSome found (λ _. seen.gots old + 1 ≤ seen.gots new)
+  pub counted : IfNotTold found (IsCounted (seen.quiets old) (seen.quiets new) (seen.gots old) (seen.gots new))
+  pub handed : IfNotTold found (IfTelling (seen.telling old) (seen.telling new) HandedOutNone)
+
 -- ---- all rounds
 
 -- over a link that tells: the status is that of the board, or each round had a quiet receive and held a datagram
 abbrev pub EndsGreetingWith : Limits → ℕ → ℕ → Option Status → Telling → Type 0
 EndsGreetingWith settings quiets held (Some status) t = IsGreeted settings (status_of status) t
 EndsGreetingWith settings quiets held None t = (settings.rounds ≤ quiets) × (settings.rounds ≤ held)
+
+-- at most so many rounds: a quiet receive in each, and as many other datagrams as a round hears
+pub record IsWithinRounds {L : Type 0} (seen : Ghosts L) (rounds : ℕ) (link : L) : Type 0 where
+  pub quiets : seen.quiets link ≤ rounds
+  pub gots : seen.gots link ≤ most_others * rounds
+
+-- the status came in a datagram, which is the last one that was received
+pub record EndsWithDatagram {L : Type 0} (seen : Ghosts L) (status : BoardStatus) (link : L) : Type 0 where
+  pub gots : 1 ≤ seen.gots link
+  pub receives : EndsWithStatus status (seen.receives link)
 
 -- ---- what a greeting comes to
 

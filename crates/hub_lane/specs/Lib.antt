@@ -4,7 +4,9 @@ pub mod Carrying
 pub mod LateAnswers
 pub mod Standing
 pub mod Lanes
+pub mod Links
 pub mod Rounds
+pub mod Exchange
 pub mod Plans
 pub mod Calls
 pub mod Heard

@@ -7,6 +7,7 @@ use Rattle.lane_record.specs.Claims.{Claim, IsAskOf}
 use Rattle.lane_tables.specs.Taken.{HasTakenAll, IsOldest}
 use Rattle.hub_lane.specs.Lanes.{LaneState}
 use Rattle.world_core.specs.Telling.{IfTelling, Telling}
+use Rattle.world_core.specs.declared.link.Link.{Ghosts}
 use Rattle.hub_lane.specs.Calls.{IsSameRecord, PumpsAs, Takes, TakesNothing}
 use Rattle.hub_lane.specs.Carrying.{Pumping}
 use Rattle.hub_lane.specs.declared.answers.Pumped.{Pumped}
@@ -41,10 +42,11 @@ StepsAs old client new (steps.NotYet turned) = StepsInVain old client new
 StepsAs old client new steps.Nothing = (new ≡ old) × HasTakenAll old.items client
 
 -- a step that found no outcome received a datagram, or none in the time that the link waits
-abbrev pub RoseInVain : Stepped → ℕ → ℕ → ℕ → ℕ → Type 0
-RoseInVain (steps.Ready outcome) quiets quiets' gots gots' = Unit {0}
-RoseInVain (steps.NotYet turned) quiets quiets' gots gots' = Rose quiets quiets' ⊎ Rose gots gots'
-RoseInVain steps.Nothing quiets quiets' gots gots' = Unit {0}
+abbrev pub RoseInVain : {L : Type 0} → Ghosts L → Stepped → L → L → Type 0
+RoseInVain seen (steps.Ready outcome) old new = Unit {0}
+RoseInVain seen (steps.NotYet turned) old new =
+    Rose (seen.quiets old) (seen.quiets new) ⊎ Rose (seen.gots old) (seen.gots new)
+RoseInVain seen steps.Nothing old new = Unit {0}
 
 -- ---- look
 

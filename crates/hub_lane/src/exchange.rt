@@ -1,27 +1,24 @@
 //! A hub over any link: what it sends, what it hears, and what that settles.
 
-ghost use Rattle.std.specs.Prelude.{◌≡◌, ◌≤◌, ◌<◌, ◌+◌, ◌^◌, ℕ, [], true, None, Some, length, OnOk, OnErr, IfOk};
-ghost use Rattle.std.specs.Prelude.{IfSome, Err, ◌≢◌};
-ghost use Rattle.ipb_base.specs.Faults.{Rose};
-ghost use Rattle.ipb_base.specs.Lists.{IsPrefix};
+ghost use Rattle.std.specs.Prelude.{◌≡◌, ◌≤◌, ◌<◌, ◌+◌, ◌^◌, ℕ, true, None, Some, length, OnOk, OnErr, IfOk};
+ghost use Rattle.std.specs.Prelude.{IfSome, Err};
 ghost use Rattle.packet_ids.specs.Identifier.{identifier_at};
 ghost use Rattle.reliable_engine.specs.Answers.{body_count};
 ghost use Rattle.world_model.specs.Messages.{Reply as ReplyTo, StatusReply, to_hub};
-ghost use Rattle.world_model.specs.Hub.{IsDrained, drained, hear_reply, hear_status, is_waiting, places, take_message};
+ghost use Rattle.world_model.specs.Hub.{IsDrained, hear_reply, hear_status, is_waiting, places, take_message};
 ghost use Rattle.world_model.specs.Sends.{bytes_to_send, next_send};
 ghost use Rattle.world_model.specs.Facts.{AreSendable, IsWindow};
 ghost use Rattle.world_model.specs.Settings.{Limits};
-ghost use Rattle.lane_record.specs.Lates.{put_lates};
-ghost use Rattle.lane_record.specs.Offers.{put_all};
-ghost use Rattle.hub_lane.specs.Lanes.{IsReady, board_of};
+ghost use Rattle.hub_lane.specs.Lanes.{IsReady};
 ghost use Rattle.world_core.specs.declared.link.TheConstants.{MAX_DATAGRAM};
 ghost use Rattle.world_core.specs.Messages.{IsWritable};
 ghost use Rattle.world_core.specs.Telling.{IfTelling};
-ghost use Rattle.hub_lane.specs.Carrying.{Brings, Carries, HasPut};
-ghost use Rattle.hub_lane.specs.Hearing.{IsEventAs, IsHeardAs, WasReceived, give_ups_of, gots_of, hub_after, quiets_of};
-ghost use Rattle.hub_lane.specs.Hearing.{receives_of};
+ghost use Rattle.hub_lane.specs.Carrying.{HasPut};
+ghost use Rattle.hub_lane.specs.Exchange.{FailsUnheard, Hears, Settles, SettlesNothing, TellsExchange, TellsReceive};
+ghost use Rattle.hub_lane.specs.Hearing.{IsHeardAs};
+ghost use Rattle.hub_lane.specs.Links.{CountsFaults, KeepsCounting, ReceivesNothing, ReceivesOnce};
 ghost use Rattle.hub_lane.specs.Sends.{HasSent, all_sent};
-ghost use Rattle.hub_lane.specs.Rounds.{PaysFor, PaysOn, PaysRounds, Pumps, RoundFor, Sends};
+ghost use Rattle.hub_lane.specs.Rounds.{PaysOn, PaysRounds, RoundFor, Sends};
 ghost use Rattle.hub_lane.specs.Standing.{GoesOn, IsRunning, StaysUnanswered, Stops};
 
 use crate::answers::Pumped;
@@ -57,18 +54,10 @@ pub(crate) fn exchange<L: Link>(
     requires first { first ≡ hub.old.first }
     requires few { length outcomes.old.items ≤ 2 ^ 62 }
     requires few_give_ups { give_ups.old < 2 ^ 63 }
-    ensures event { IfOk result (IsEventAs (all_sent hub.old) buffer.new.items) }
-    ensures hub { IfOk result (λ pumped.
-        hub.new ≡ drained (hub_after pumped buffer.new.items (all_sent hub.old))) }
-    ensures outcomes { IfOk result (λ pumped. outcomes.new.items
-        ≡ put_all (hub_after pumped buffer.new.items (all_sent hub.old)).fates outcomes.old.items) }
-    ensures lates { IfOk result (λ pumped. outcomes.new.lates
-        ≡ put_lates (hub_after pumped buffer.new.items (all_sent hub.old)).lates outcomes.old.lates) }
-    ensures bodies { outcomes.new.bodies ≡ outcomes.old.bodies }
-    ensures give_ups { IfOk result (λ pumped. give_ups.new
-        ≡ give_ups_of pumped (hub_after pumped buffer.new.items (all_sent hub.old)) give_ups.old) }
-    ensures received { IfOk result (λ pumped.
-        IfSome (L.telling link.new) (WasReceived pumped buffer.new.items)) }
+    ensures settled { IfOk result (λ pumped. Settles pumped buffer.new.items hub.old hub.new
+        outcomes.old outcomes.new give_ups.old give_ups.new) }
+    ensures unsettled { OnErr result
+        (SettlesNothing hub.old hub.new outcomes.old outcomes.new give_ups.old give_ups.new) }
     ensures running { OnOk result ((limits : Limits)
         → IfSome (L.telling link.old) (IsRunning limits hub.old outcomes.old.items outcomes.old.lates)
         → IfSome (L.telling link.new) (IsRunning limits hub.new outcomes.new.items outcomes.new.lates)) }
@@ -76,35 +65,13 @@ pub(crate) fn exchange<L: Link>(
         → IfSome (L.telling link.old) (IsRunning limits hub.old outcomes.old.items outcomes.old.lates)
         → IfSome (L.telling link.old) (PaysRounds mtu hub.old.rounds give_ups.old hub.old (L.held link.old))
         → IfSome (L.telling link.new) (PaysRounds mtu hub.old.rounds give_ups.new hub.new (L.held link.new))) }
-    ensures round { IfOk result (λ pumped. RoundFor (Pumps pumped) (L.telling link.old) hub.old (L.held link.old)
-        (L.telling link.new) hub.new (L.held link.new)) }
-    ensures unanswered { OnOk result
-        (StaysUnanswered (L.telling link.old) hub.old (L.telling link.new) hub.new) }
-    ensures sent { OnErr result (HasSent hub.old hub.new) }
-    ensures same_outcomes { OnErr result (outcomes.new.items ≡ outcomes.old.items) }
-    ensures same_lates { OnErr result (outcomes.new.lates ≡ outcomes.old.lates) }
-    ensures same_give_ups { OnErr result (give_ups.new ≡ give_ups.old) }
+    ensures told { IfOk result (λ pumped.
+        TellsExchange L.Link pumped buffer.new.items hub.old hub.new link.old link.new) }
     ensures stopped { OnErr result (Stops (L.telling link.old) hub.old (L.telling link.new) hub.new) }
-    ensures failed { result ≡ Err LinkFault.Failed → Rose (L.faults link.old) (L.faults link.new) }
-    ensures unfaulted { IfSome (L.telling link.old) (λ _.
-        result ≢ Err LinkFault.Failed → L.faults link.new ≡ L.faults link.old) }
-    ensures failed_unanswered { result ≡ Err LinkFault.Failed
-        → StaysUnanswered (L.telling link.old) hub.old (L.telling link.new) hub.new }
-    ensures faults { L.faults link.old ≤ L.faults link.new }
-    ensures quiets { IfOk result (λ pumped. L.quiets link.new ≡ quiets_of pumped (L.quiets link.old)) }
-    ensures quiets_rise { L.quiets link.old ≤ L.quiets link.new }
-    ensures gots { IfOk result (λ pumped. L.gots link.new ≡ gots_of pumped (L.gots link.old)) }
-    ensures gots_rise { L.gots link.old ≤ L.gots link.new }
-    ensures receives { IfOk result (λ pumped.
-        L.receives link.new ≡ receives_of pumped buffer.new.items (L.receives link.old)) }
-    ensures receives_grow { IsPrefix (L.receives link.old) (L.receives link.new) }
-    ensures failed_quiets { result ≡ Err LinkFault.Failed → L.quiets link.new ≡ L.quiets link.old }
-    ensures failed_gots { result ≡ Err LinkFault.Failed → L.gots link.new ≡ L.gots link.old }
-    ensures failed_receives { result ≡ Err LinkFault.Failed → L.receives link.new ≡ L.receives link.old }
-    ensures held { L.held link.old ≤ L.held link.new }
-    ensures board { board_of (L.telling link.new) ≡ board_of (L.telling link.old) }
-    ensures carries { IfOk result (λ pumped. IfTelling (L.telling link.old) (L.telling link.new)
-        (Carries pumped buffer.new.items hub.old)) }
+    ensures failed { result ≡ Err LinkFault.Failed → FailsUnheard L.Link hub.old hub.new link.old link.new }
+    ensures counts { KeepsCounting L.Link link.old link.new }
+    ensures received { IfOk result (λ pumped. ReceivesOnce L.Link pumped buffer.new.items link.old link.new) }
+    ensures faults { CountsFaults L.Link result link.old link.new }
 {
     a_send_leaves_the_fates();
     each_event_leads_to_a_state_of_a_run();
@@ -134,15 +101,8 @@ pub(crate) fn send_all<L: Link>(
     ensures round { OnOk result
         (RoundFor Sends (L.telling link.old) hub.old (L.held link.old) (L.telling link.new) hub.new (L.held link.new)) }
     ensures stopped { OnErr result (Stops (L.telling link.old) hub.old (L.telling link.new) hub.new) }
-    ensures failed { result ≡ Err LinkFault.Failed → Rose (L.faults link.old) (L.faults link.new) }
-    ensures unfaulted { IfSome (L.telling link.old) (λ _.
-        result ≢ Err LinkFault.Failed → L.faults link.new ≡ L.faults link.old) }
-    ensures faults { L.faults link.old ≤ L.faults link.new }
-    ensures quiets { L.quiets link.new ≡ L.quiets link.old }
-    ensures gots { L.gots link.new ≡ L.gots link.old }
-    ensures receives { L.receives link.new ≡ L.receives link.old }
-    ensures held { L.held link.old ≤ L.held link.new }
-    ensures board { board_of (L.telling link.new) ≡ board_of (L.telling link.old) }
+    ensures unreceived { ReceivesNothing L.Link link.old link.new }
+    ensures faults { CountsFaults L.Link result link.old link.new }
     ensures put { OnOk result (IfTelling (L.telling link.old) (L.telling link.new) (HasPut hub.old hub.new)) }
 {
     a_send_leaves_the_fates();
@@ -185,38 +145,15 @@ fn receive<L: Link>(
     requires first { first ≡ hub.old.first }
     requires window { IsWindow hub.old.window (length hub.old.sent) (places hub.old.open_places) }
     requires few { body_count hub.old ≤ 2 ^ 62 }
-    ensures event { IfOk result (IsEventAs hub.old buffer.new.items) }
-    ensures hub { IfOk result (λ pumped. hub.new ≡ hub_after pumped buffer.new.items hub.old) }
-    ensures unchanged { OnErr result (hub.new ≡ hub.old) }
-    ensures received { IfOk result (λ pumped.
-        IfSome (L.telling link.new) (WasReceived pumped buffer.new.items)) }
+    ensures heard { IfOk result (λ pumped. Hears pumped buffer.new.items hub.old hub.new) }
+    ensures unheard { OnErr result (hub.new ≡ hub.old) }
     ensures running { GoesOn (L.telling link.old) hub.old (L.telling link.new) hub.new }
-    ensures unanswered { OnOk result
-        (StaysUnanswered (L.telling link.old) hub.old (L.telling link.new) hub.new) }
-    ensures pays { IfOk result (λ pumped.
-        PaysFor pumped (L.telling link.old) hub.old (L.held link.old) (L.telling link.new) hub.new (L.held link.new)) }
-    ensures round { IfOk result (λ pumped. RoundFor (Pumps pumped) (L.telling link.old) hub.old (L.held link.old)
-        (L.telling link.new) hub.new (L.held link.new)) }
-    ensures failed { result ≡ Err LinkFault.Failed → Rose (L.faults link.old) (L.faults link.new) }
-    ensures unfaulted { IfSome (L.telling link.old) (λ _.
-        result ≢ Err LinkFault.Failed → L.faults link.new ≡ L.faults link.old) }
-    ensures failed_unanswered { result ≡ Err LinkFault.Failed
-        → StaysUnanswered (L.telling link.old) hub.old (L.telling link.new) hub.new }
-    ensures faults { L.faults link.old ≤ L.faults link.new }
-    ensures quiets { IfOk result (λ pumped. L.quiets link.new ≡ quiets_of pumped (L.quiets link.old)) }
-    ensures quiets_rise { L.quiets link.old ≤ L.quiets link.new }
-    ensures gots { IfOk result (λ pumped. L.gots link.new ≡ gots_of pumped (L.gots link.old)) }
-    ensures gots_rise { L.gots link.old ≤ L.gots link.new }
-    ensures receives { IfOk result (λ pumped.
-        L.receives link.new ≡ receives_of pumped buffer.new.items (L.receives link.old)) }
-    ensures receives_grow { IsPrefix (L.receives link.old) (L.receives link.new) }
-    ensures failed_quiets { result ≡ Err LinkFault.Failed → L.quiets link.new ≡ L.quiets link.old }
-    ensures failed_gots { result ≡ Err LinkFault.Failed → L.gots link.new ≡ L.gots link.old }
-    ensures failed_receives { result ≡ Err LinkFault.Failed → L.receives link.new ≡ L.receives link.old }
-    ensures held { L.held link.old ≤ L.held link.new }
-    ensures board { board_of (L.telling link.new) ≡ board_of (L.telling link.old) }
-    ensures brings { IfOk result (λ pumped. IfTelling (L.telling link.old) (L.telling link.new)
-        (Brings pumped buffer.new.items)) }
+    ensures told { IfOk result (λ pumped.
+        TellsReceive L.Link pumped buffer.new.items hub.old hub.new link.old link.new) }
+    ensures failed { result ≡ Err LinkFault.Failed → FailsUnheard L.Link hub.old hub.new link.old link.new }
+    ensures counts { KeepsCounting L.Link link.old link.new }
+    ensures received { IfOk result (λ pumped. ReceivesOnce L.Link pumped buffer.new.items link.old link.new) }
+    ensures faults { CountsFaults L.Link result link.old link.new }
 {
     each_event_leads_to_a_state_of_a_run();
     laws_of_rounds();

@@ -9,11 +9,11 @@ ghost use Rattle.world_core.specs.Telling.{IfTelling};
 ghost use Rattle.packet_ids.specs.Identifier.{IsIdentifier};
 ghost use Rattle.status_packet.specs.Range.{IsBufferCount, IsMtu};
 ghost use Rattle.status_packet.specs.StatusBytes.{IsStatusReply};
-ghost use Rattle.hub_lane.specs.Greeting.{CanBegin, EndsAskingWith, EndsGreetingWith, EndsRoundWith, IfDown, IfNotTold};
-ghost use Rattle.hub_lane.specs.Greeting.{IfReady, IfSilent, IfTold, IsCounted, IsDatagram, IsHeardFrom, IsTold};
-ghost use Rattle.hub_lane.specs.Greeting.{HandedOutNone, IfNothing, IsUnused, StaysFresh, gots_of_answer, link_of};
-ghost use Rattle.hub_lane.specs.Greeting.{HasAskedAtMost, HasAskedNothing};
-ghost use Rattle.hub_lane.specs.Greeting.{IsSaid, quiets_of_answer, status_in};
+ghost use Rattle.hub_lane.specs.Greeting.{CanBegin, CountsAnswer, CountsNoAnswer, CountsRound, EndsAskingWith, EndsRound};
+ghost use Rattle.hub_lane.specs.Greeting.{EndsGreetingWith, EndsRoundWith, EndsWithDatagram, HandedOutNone};
+ghost use Rattle.hub_lane.specs.Greeting.{HasAskedAtMost, HasAskedNothing, IfDown, IfNotTold, IfNothing, IfReady};
+ghost use Rattle.hub_lane.specs.Greeting.{IfSilent, IfTold, IsDatagram, IsHeardFrom, IsSaid, IsTold, IsUnused};
+ghost use Rattle.hub_lane.specs.Greeting.{IsWithinRounds, StaysFresh, link_of, status_in};
 ghost use Rattle.hub_lane.specs.Heard.{EndWith, EndsWithStatus};
 ghost use Rattle.hub_lane.specs.Lanes.{IsGreeted, opened, status_of};
 
@@ -59,12 +59,12 @@ impl<L: Link> Lane<L> {
     /// any answer a board that the link tells has executed nothing. The lane begins right behind the first datagram
     /// that tells a status, and no board is called silent or down that told one.
     pub fn greet(alloc: Global, link: L, settings: Settings) -> Greeted<L>
-        requires unused { IsUnused (L.faults link) (L.quiets link) (L.gots link) (L.held link) (L.receives link) }
+        requires unused { IsUnused L.Link link }
         requires begins { IfSome (L.telling link) (CanBegin settings) }
         ensures fresh { IfTelling (L.telling link) (L.telling (link_of result)) (StaysFresh settings) }
         ensures ready { IfReady result (λ lane. lane ≡ opened lane.link settings lane.status) }
         ensures told { IfReady result (λ lane. IfSome (L.telling lane.link) (IsGreeted settings lane.status)) }
-        ensures first { IfReady result (λ lane. EndsWithStatus lane.status (L.receives lane.link)) }
+        ensures first { IfReady result (λ lane. EndsWithDatagram L.Link lane.status lane.link) }
         ensures none_told { IfSilent result (λ link rounds. first_status (L.receives link) ≡ None) }
         ensures down_none_told { IfDown result (λ link. first_status (L.receives link) ≡ None) }
         ensures silent { IfSilent result (λ link rounds. (rounds ≡ settings.rounds)
@@ -77,9 +77,7 @@ impl<L: Link> Lane<L> {
         // The board is asked once a round: for each quiet receive, and once more.
         ensures asked { IfTelling (L.telling link) (L.telling (link_of result))
             (HasAskedAtMost (L.quiets (link_of result) + 1)) }
-        ensures heard { IfReady result (λ lane. 1 ≤ L.gots lane.link) }
-        ensures most_quiets { L.quiets (link_of result) ≤ settings.rounds }
-        ensures most_gots { L.gots (link_of result) ≤ most_others * settings.rounds }
+        ensures most { IsWithinRounds L.Link settings.rounds (link_of result) }
         ensures down { IfDown result (λ after. Rose (L.faults link) (L.faults after)) }
         ensures faults { L.faults link ≤ L.faults (link_of result) }
     {
@@ -119,8 +117,7 @@ fn ask_for_status<L: Link>(
     buffer: &mut Vec<u8>,
     settings: Settings,
 ) -> Result<Option<Status>, LinkFault>
-    requires unused { IsUnused (L.faults link.old) (L.quiets link.old) (L.gots link.old) (L.held link.old)
-        (L.receives link.old) }
+    requires unused { IsUnused L.Link link.old }
     requires begins { IfSome (L.telling link.old) (CanBegin settings) }
     ensures fresh { IfTelling (L.telling link.old) (L.telling link.new) (StaysFresh settings) }
     ensures told { IfOk result (λ found. IfSome (L.telling link.new)
@@ -134,8 +131,7 @@ fn ask_for_status<L: Link>(
     ensures none_told { OnErr result (first_status (L.receives link.new) ≡ None) }
     ensures asked { IfTelling (L.telling link.old) (L.telling link.new)
         (HasAskedAtMost (L.quiets link.new + 1)) }
-    ensures most_quiets { L.quiets link.new ≤ settings.rounds }
-    ensures most_gots { L.gots link.new ≤ most_others * settings.rounds }
+    ensures most { IsWithinRounds L.Link settings.rounds link.new }
     ensures failed { result ≡ Err LinkFault.Failed → Rose (L.faults link.old) (L.faults link.new) }
     ensures faults { L.faults link.old ≤ L.faults link.new }
 {
@@ -161,20 +157,10 @@ fn ask_once<L: Link>(
     ensures asked { IfTelling (L.telling link.old) (L.telling link.new) (HasAskedAtMost 1) }
     ensures told { IfOk result (λ found. IfTelling (L.telling link.old) (L.telling link.new)
         (EndsAskingWith settings (L.quiets link.old) (L.quiets link.new) (L.held link.old) (L.held link.new) found)) }
-    ensures counted { IfOk result (λ found. IfNotTold found
-        (IsCounted (L.quiets link.old) (L.quiets link.new) (L.gots link.old) (L.gots link.new))) }
-    ensures handed { IfOk result (λ found. IfNotTold found
-        (IfTelling (L.telling link.old) (L.telling link.new) HandedOutNone)) }
-    ensures heard { IfOk result (λ found. IfSome found (λ _. L.gots link.old + 1 ≤ L.gots link.new)) }
-    ensures receives { IfOk result (λ found. EndWith found (L.receives link.new)) }
+    ensures ended { IfOk result (λ found. EndsRound L.Link found link.old link.new) }
     ensures none_told { OnErr result (first_status (L.receives link.new) ≡ None) }
-    ensures quiets { L.quiets link.new ≤ L.quiets link.old + 1 }
-    ensures quiets_rise { L.quiets link.old ≤ L.quiets link.new }
-    ensures gots { L.gots link.new ≤ L.gots link.old + most_others }
-    ensures gots_rise { L.gots link.old ≤ L.gots link.new }
+    ensures counts { CountsRound L.Link link.old link.new }
     ensures failed { result ≡ Err LinkFault.Failed → Rose (L.faults link.old) (L.faults link.new) }
-    ensures faults { L.faults link.old ≤ L.faults link.new }
-    ensures held { L.held link.old ≤ L.held link.new }
 {
     a_greeting_goes_on();
     let request = write_status_request();
@@ -196,20 +182,10 @@ fn listen<L: Link>(
     ensures asked { IfTelling (L.telling link.old) (L.telling link.new) HasAskedNothing }
     ensures told { IfOk result (λ found. IfTelling (L.telling link.old) (L.telling link.new)
         (EndsRoundWith settings (L.quiets link.old) (L.quiets link.new) (L.held link.old) (L.held link.new) found)) }
-    ensures counted { IfOk result (λ found. IfNotTold found
-        (IsCounted (L.quiets link.old) (L.quiets link.new) (L.gots link.old) (L.gots link.new))) }
-    ensures handed { IfOk result (λ found. IfNotTold found
-        (IfTelling (L.telling link.old) (L.telling link.new) HandedOutNone)) }
-    ensures heard { IfOk result (λ found. IfSome found (λ _. L.gots link.old + 1 ≤ L.gots link.new)) }
-    ensures receives { IfOk result (λ found. EndWith found (L.receives link.new)) }
+    ensures ended { IfOk result (λ found. EndsRound L.Link found link.old link.new) }
     ensures none_told { OnErr result (first_status (L.receives link.new) ≡ None) }
-    ensures quiets { L.quiets link.new ≤ L.quiets link.old + 1 }
-    ensures quiets_rise { L.quiets link.old ≤ L.quiets link.new }
-    ensures gots { L.gots link.new ≤ L.gots link.old + most_others }
-    ensures gots_rise { L.gots link.old ≤ L.gots link.new }
+    ensures counts { CountsRound L.Link link.old link.new }
     ensures failed { result ≡ Err LinkFault.Failed → Rose (L.faults link.old) (L.faults link.new) }
-    ensures faults { L.faults link.old ≤ L.faults link.new }
-    ensures held { L.held link.old ≤ L.held link.new }
 {
     for other in 0..MOST_OTHERS {
         match hear_once(link, buffer, settings)? {
@@ -235,10 +211,8 @@ fn hear_once<L: Link>(
     ensures none_told { OnErr result (first_status (L.receives link.new) ≡ None) }
     ensures told { IfOk result (λ heard. IfTelling (L.telling link.old) (L.telling link.new)
         (IsHeardFrom settings (L.held link.old) (L.held link.new) heard)) }
-    ensures quiets { IfOk result (λ heard. L.quiets link.new ≡ quiets_of_answer heard (L.quiets link.old)) }
-    ensures same_quiets { OnErr result (L.quiets link.new ≡ L.quiets link.old) }
-    ensures gots { IfOk result (λ heard. L.gots link.new ≡ gots_of_answer heard (L.gots link.old)) }
-    ensures same_gots { OnErr result (L.gots link.new ≡ L.gots link.old) }
+    ensures counted { IfOk result (λ heard. CountsAnswer L.Link heard link.old link.new) }
+    ensures uncounted { OnErr result (CountsNoAnswer L.Link link.old link.new) }
     ensures handed { IfOk result (λ heard. IfNothing heard
         (IfTelling (L.telling link.old) (L.telling link.new) HandedOutNone)) }
     ensures failed { result ≡ Err LinkFault.Failed → Rose (L.faults link.old) (L.faults link.new) }

@@ -3,8 +3,6 @@
 ghost use Rattle.std.specs.Prelude.{◌≡◌, ◌≤◌, ◌<◌, ◌⊎◌, ◌*◌, ℕ, true, false, length, map, count_by, OnOk, OnErr};
 ghost use Rattle.std.specs.Prelude.{IfOk, IfErr};
 ghost use Rattle.std.specs.Prelude.{IfSome, IfNone, MatchOption, Err, List, if◌then◌else◌, Some, None};
-ghost use Rattle.ipb_base.specs.Faults.{Rose};
-ghost use Rattle.ipb_base.specs.Lists.{IsPrefix};
 ghost use Rattle.ipb_base.specs.Numbers.{payload_of};
 ghost use Rattle.transaction_codec.specs.Answer.{reply_room};
 ghost use Rattle.packet_codec.specs.declared.packet.TheConstants.{MAX_BODY_WORDS};
@@ -16,11 +14,11 @@ ghost use Rattle.hub_lane.specs.Plans.{CanPlan, IsRefused, Plans};
 ghost use Rattle.world_core.specs.Telling.{IfTelling};
 ghost use Rattle.hub_lane.specs.Carrying.{HasPut, Pumping};
 ghost use Rattle.hub_lane.specs.Heard.{EndsWithStatus, HasHeard, HasListened};
-ghost use Rattle.hub_lane.specs.Hearing.{gots_of, quiets_of};
 ghost use Rattle.hub_lane.specs.Calls.{Asking, AsksAs, IsReplyAt, IsSameRecord, IsSpent, OffersAs, PumpsAs, SendsAs};
 ghost use Rattle.hub_lane.specs.Calls.{TakesAs, WasAsked, has_stopped};
 ghost use Rattle.hub_lane.specs.Calls.{is_lost_at_place, is_replied, sealed};
-ghost use Rattle.hub_lane.specs.Lanes.{IsGreeted, IsLane, board_of, opened, opening_of, status_of, with_link};
+ghost use Rattle.hub_lane.specs.Lanes.{IsGreeted, IsLane, opened, opening_of, status_of, with_link};
+ghost use Rattle.hub_lane.specs.Links.{CountsPump, IsDownByFault, KeepsCounting, ReceivesNothing, ShowsTheSame};
 ghost use Rattle.hub_lane.specs.Rounds.{LaneRound, Pumps, Sends};
 
 use crate::answers::{Asked, PlanRefusal, Pumped, Taken};
@@ -293,16 +291,8 @@ impl<L: Link> Lane<L> {
         ensures asked { IfOk result (AsksAs self.old client self.new) }
         ensures unchanged { OnErr result (self.new ≡ self.old) }
         ensures not_spent { OnOk result (self.old.spent ≡ false) }
-        ensures down { self.new.down ≡ true → (self.old.down ≡ true)
-            ⊎ Rose (L.faults self.old.link) (L.faults self.new.link) }
-        ensures up { IfSome (L.telling self.old.link) (λ _.
-            self.new.down ≡ false → L.faults self.new.link ≡ L.faults self.old.link) }
-        ensures faults { L.faults self.old.link ≤ L.faults self.new.link }
-        ensures quiets { L.quiets self.new.link ≡ L.quiets self.old.link }
-        ensures gots { L.gots self.new.link ≡ L.gots self.old.link }
-        ensures receives { L.receives self.new.link ≡ L.receives self.old.link }
-        ensures held { L.held self.old.link ≤ L.held self.new.link }
-        ensures board { board_of (L.telling self.new.link) ≡ board_of (L.telling self.old.link) }
+        ensures down { IsDownByFault L.Link self.old self.new }
+        ensures unreceived { ReceivesNothing L.Link self.old.link self.new.link }
         ensures link { IfOk result (λ asked. IfTelling (L.telling self.old.link) (L.telling self.new.link)
             (Asking self.old client self.new asked)) }
         ensures round { LaneRound L.telling L.held Sends self.old self.new }
@@ -356,16 +346,8 @@ impl<L: Link> Lane<L> {
     pub fn send_wanted(&mut self)
         ensures sends { SendsAs self.old self.new }
         ensures same { IsSameRecord self.old self.new }
-        ensures down { self.new.down ≡ true → (self.old.down ≡ true)
-            ⊎ Rose (L.faults self.old.link) (L.faults self.new.link) }
-        ensures up { IfSome (L.telling self.old.link) (λ _.
-            self.new.down ≡ false → L.faults self.new.link ≡ L.faults self.old.link) }
-        ensures faults { L.faults self.old.link ≤ L.faults self.new.link }
-        ensures quiets { L.quiets self.new.link ≡ L.quiets self.old.link }
-        ensures gots { L.gots self.new.link ≡ L.gots self.old.link }
-        ensures receives { L.receives self.new.link ≡ L.receives self.old.link }
-        ensures held { L.held self.old.link ≤ L.held self.new.link }
-        ensures board { board_of (L.telling self.new.link) ≡ board_of (L.telling self.old.link) }
+        ensures down { IsDownByFault L.Link self.old self.new }
+        ensures unreceived { ReceivesNothing L.Link self.old.link self.new.link }
         ensures link { has_stopped self.new ≡ false → IfTelling (L.telling self.old.link) (L.telling self.new.link)
             (HasPut self.old.hub self.new.hub) }
         ensures round { LaneRound L.telling L.held Sends self.old self.new }
@@ -400,12 +382,7 @@ impl<L: Link> Lane<L> {
     /// room for it. Nothing that contracts see of the link changes, and nothing of the lane.
     pub fn waiter(&mut self) -> Option<Waiter>
         ensures lane { self.new ≡ with_link self.old self.new.link }
-        ensures telling { L.telling self.new.link ≡ L.telling self.old.link }
-        ensures faults { L.faults self.new.link ≡ L.faults self.old.link }
-        ensures quiets { L.quiets self.new.link ≡ L.quiets self.old.link }
-        ensures gots { L.gots self.new.link ≡ L.gots self.old.link }
-        ensures receives { L.receives self.new.link ≡ L.receives self.old.link }
-        ensures held { L.held self.new.link ≡ L.held self.old.link }
+        ensures shows { ShowsTheSame L.Link self.old.link self.new.link }
     {
         self.link.waiter(self.alloc)
     }
@@ -428,19 +405,9 @@ impl<L: Link> Lane<L> {
         ensures not_spent { OnOk result (self.old.spent ≡ false) }
         ensures spent { OnErr result (IsSpent self.old self.new) }
         ensures not_down { OnErr result ((self.old.spent ≡ true) ⊎ (self.old.down ≡ false)) }
-        ensures down { IfOk result (λ _. self.new.down ≡ true → (self.old.down ≡ true)
-            ⊎ Rose (L.faults self.old.link) (L.faults self.new.link)) }
-        ensures up { IfSome (L.telling self.old.link) (λ _.
-            self.new.down ≡ false → L.faults self.new.link ≡ L.faults self.old.link) }
-        ensures faults { L.faults self.old.link ≤ L.faults self.new.link }
-        ensures quiets { IfOk result (λ pumped.
-            L.quiets self.new.link ≡ quiets_of pumped (L.quiets self.old.link)) }
-        ensures quiets_rise { L.quiets self.old.link ≤ L.quiets self.new.link }
-        ensures gots { IfOk result (λ pumped. L.gots self.new.link ≡ gots_of pumped (L.gots self.old.link)) }
-        ensures gots_rise { L.gots self.old.link ≤ L.gots self.new.link }
-        ensures receives_grow { IsPrefix (L.receives self.old.link) (L.receives self.new.link) }
-        ensures held { L.held self.old.link ≤ L.held self.new.link }
-        ensures board { board_of (L.telling self.new.link) ≡ board_of (L.telling self.old.link) }
+        ensures down { IsDownByFault L.Link self.old self.new }
+        ensures counts { KeepsCounting L.Link self.old.link self.new.link }
+        ensures counted { IfOk result (λ pumped. CountsPump L.Link pumped self.old.link self.new.link) }
         ensures link { IfOk result (λ pumped. IfTelling (L.telling self.old.link) (L.telling self.new.link)
             (Pumping pumped self.old.hub self.new.hub)) }
         ensures round { IfOk result (λ pumped. LaneRound L.telling L.held (Pumps pumped) self.old self.new) }

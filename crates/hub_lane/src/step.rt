@@ -1,9 +1,9 @@
 //! One step of a client, and one look.
 
 ghost use Rattle.std.specs.Prelude.{◌≡◌, ◌≤◌, IfOk, IfSome, IfNone, OnErr};
-ghost use Rattle.ipb_base.specs.Lists.{IsPrefix};
 ghost use Rattle.hub_lane.specs.Calls.{IsSameRecord, WasAsked};
 ghost use Rattle.hub_lane.specs.Lanes.{opening_of};
+ghost use Rattle.hub_lane.specs.Links.{KeepsCounting};
 ghost use Rattle.hub_lane.specs.Step.{LooksAs, RoseInVain, StepsAs, StepsOnce};
 ghost use Rattle.lane_tables.specs.Taken.{HasTakenAll, IsOldest};
 
@@ -68,13 +68,8 @@ impl<L: Link> Lane<L> {
         ensures once { IfOk result (λ stepped.
             StepsOnce L.telling L.receives self.old client self.new stepped) }
         ensures same { OnErr result (IsSameRecord self.old self.new) }
-        ensures received { IfOk result (λ stepped. RoseInVain stepped (L.quiets self.old.link)
-            (L.quiets self.new.link) (L.gots self.old.link) (L.gots self.new.link)) }
-        ensures faults { L.faults self.old.link ≤ L.faults self.new.link }
-        ensures quiets { L.quiets self.old.link ≤ L.quiets self.new.link }
-        ensures gots { L.gots self.old.link ≤ L.gots self.new.link }
-        ensures receives_grow { IsPrefix (L.receives self.old.link) (L.receives self.new.link) }
-        ensures held { L.held self.old.link ≤ L.held self.new.link }
+        ensures received { IfOk result (λ stepped. RoseInVain L.Link stepped self.old.link self.new.link) }
+        ensures counts { KeepsCounting L.Link self.old.link self.new.link }
         ensures opening { opening_of (L.telling self.new.link) ≡ opening_of (L.telling self.old.link) }
     {
         let Some(seq) = self.oldest(client) else {

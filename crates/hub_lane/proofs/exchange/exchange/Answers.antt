@@ -1,5 +1,6 @@
 use Rattle.std.proofs.Common.{◌∙◌, sym, arith}
 use Rattle.hub_lane.proofs.Carrying.{carried}
+use Rattle.hub_lane.proofs.Links.{keeps_then, nothing_keeps}
 use Rattle.hub_lane.proofs.Ready.{exchanged, exchanged_unanswered, ready_sent, same_sent}
 use Rattle.hub_lane.proofs.Rounds.{exchanged_pays}
 use Rattle.hub_lane.proofs.InRounds.{round_exchanged}
@@ -48,19 +49,6 @@ returns-clause-running g c =
     c.settle.ensures.hub c.settle.ensures.outcomes c.settle.ensures.lates c.in_ok-send_all.ensures.running
     c.receive.ensures.running
 
-pub returns-clause-unanswered : goal.returns-clause-unanswered
-returns-clause-unanswered g c =
-    exchanged_unanswered c.args.hub.now c.send_all.new.hub c.receive.new.hub c.settle.new.hub
-    (g.L.Link.telling c.args.link.now) (g.L.Link.telling c.send_all.new.link) (g.L.Link.telling c.receive.new.link)
-    c.settle.ensures.hub c.in_ok-send_all.ensures.running c.send_all.ensures.unanswered
-    c.in_ok-pumped.ensures.unanswered
-
-pub returns-clause-carries : goal.returns-clause-carries
-returns-clause-carries g c =
-    carried c.in_ok-pumped.pumped c.receive.new.buffer.items c.args.hub.now c.send_all.new.hub
-    (g.L.Link.telling c.args.link.now) (g.L.Link.telling c.send_all.new.link) (g.L.Link.telling c.receive.new.link)
-    c.in_ok-send_all.ensures.all c.in_ok-send_all.ensures.put c.in_ok-pumped.ensures.brings
-
 pub returns-clause-pays : goal.returns-clause-pays
 returns-clause-pays g c = λ limits mtu start paid.
     exchanged_pays c.in_ok-pumped.pumped c.args.hub.now c.send_all.new.hub c.receive.new.hub c.settle.new.hub
@@ -70,12 +58,36 @@ returns-clause-pays g c = λ limits mtu start paid.
     (g.L.Link.held c.receive.new.link) c.args.give_ups.now c.settle.new.give_ups
     (same_sent c.args.hub.now c.send_all.new.hub c.send_all.ensures.some).rounds c.settle.ensures.hub
     c.settle.ensures.give_ups c.in_ok-send_all.ensures.running c.in_ok-send_all.ensures.pays
-    c.in_ok-pumped.ensures.pays limits mtu start paid
+    c.in_ok-pumped.ensures.told.pays limits mtu start paid
 
-pub returns-clause-round : goal.returns-clause-round
-returns-clause-round g c =
-    round_exchanged c.in_ok-pumped.pumped c.args.hub.now c.send_all.new.hub c.receive.new.hub c.settle.new.hub
-    (g.L.Link.telling c.args.link.now) (g.L.Link.telling c.send_all.new.link) (g.L.Link.telling c.receive.new.link)
-    (g.L.Link.held c.args.link.now) (g.L.Link.held c.send_all.new.link) (g.L.Link.held c.receive.new.link)
-    c.settle.ensures.hub c.send_all.ensures.held c.receive.ensures.held c.in_ok-send_all.ensures.running
-    c.in_ok-send_all.ensures.pays c.in_ok-send_all.ensures.round c.in_ok-pumped.ensures.round
+pub returns-clause-told : goal.returns-clause-told
+returns-clause-told g c = record {
+  received = c.in_ok-pumped.ensures.told.received;
+  carries = carried c.in_ok-pumped.pumped c.receive.new.buffer.items c.args.hub.now c.send_all.new.hub
+      (g.L.Link.telling c.args.link.now) (g.L.Link.telling c.send_all.new.link) (g.L.Link.telling c.receive.new.link)
+      c.in_ok-send_all.ensures.all c.in_ok-send_all.ensures.put c.in_ok-pumped.ensures.told.brings;
+  unanswered = exchanged_unanswered c.args.hub.now c.send_all.new.hub c.receive.new.hub c.settle.new.hub
+      (g.L.Link.telling c.args.link.now) (g.L.Link.telling c.send_all.new.link) (g.L.Link.telling c.receive.new.link)
+      c.settle.ensures.hub c.in_ok-send_all.ensures.running c.send_all.ensures.unanswered
+      c.in_ok-pumped.ensures.told.unanswered;
+  round = round_exchanged c.in_ok-pumped.pumped c.args.hub.now c.send_all.new.hub c.receive.new.hub c.settle.new.hub
+      (g.L.Link.telling c.args.link.now) (g.L.Link.telling c.send_all.new.link) (g.L.Link.telling c.receive.new.link)
+      (g.L.Link.held c.args.link.now) (g.L.Link.held c.send_all.new.link) (g.L.Link.held c.receive.new.link)
+      c.settle.ensures.hub c.send_all.ensures.unreceived.held c.receive.ensures.counts.held
+      c.in_ok-send_all.ensures.running
+      c.in_ok-send_all.ensures.pays c.in_ok-send_all.ensures.round c.in_ok-pumped.ensures.told.round;
+}
+
+pub returns-in_err-send_all-clause-counts : goal.returns-in_err-send_all-clause-counts
+returns-in_err-send_all-clause-counts g c =
+    nothing_keeps g.L.Link c.args.link.now c.send_all.new.link c.send_all.ensures.unreceived
+
+pub returns-in_err-pumped-clause-counts : goal.returns-in_err-pumped-clause-counts
+returns-in_err-pumped-clause-counts g c =
+    keeps_then g.L.Link c.args.link.now c.send_all.new.link c.receive.new.link c.send_all.ensures.unreceived
+    c.receive.ensures.counts
+
+pub returns-clause-counts : goal.returns-clause-counts
+returns-clause-counts g c =
+    keeps_then g.L.Link c.args.link.now c.send_all.new.link c.receive.new.link c.send_all.ensures.unreceived
+    c.receive.ensures.counts

@@ -8,8 +8,8 @@ use Rattle.hub_lane.specs.declared.answers.Pumped.TheVariants.{Quiet}
 use Rattle.hub_lane.specs.Rounds.{PaysFor, Pumps, RoundFor}
 use Rattle.hub_lane.specs.Standing.{GoesOn, StaysUnanswered}
 use Rattle.hub_lane.proofs.Carrying.{got_brings, quiet_brings}
-use Rattle.hub_lane.proofs.Linked.{fault_on, got_on, got_stays, quiet_on, quiet_stays, received_board, unheard_on}
-use Rattle.hub_lane.proofs.Linked.{was_received}
+use Rattle.hub_lane.proofs.Linked.{fault_on, got_on, got_stays, quiet_on, quiet_stays, unheard_on, was_received}
+use Rattle.hub_lane.proofs.Links.{received_keeps, was_quiet}
 use Rattle.hub_lane.proofs.Rounds.{got_for, quiet_for}
 use Rattle.hub_lane.proofs.InRounds.{round_got, round_quiet}
 use Rattle.hub_lane.proofs.exchange.receive.Goals as goal
@@ -35,19 +35,6 @@ returns-in_err-hear-in-Got-clause-running g c =
     c.a_link_forgets_nothing.ensures.board c.args.hub.now bytes
     (held c.args.link.now) (held c.receive.new.self) (telling c.args.link.now)
     (telling c.receive.new.self) c.requires.none c.requires.drained got)
-
-pub returns-in_ok-hear-in-Got-clause-received : goal.returns-in_ok-hear-in-Got-clause-received
-returns-in_ok-hear-in-Got-clause-received g c =
-    let telling = g.L.Link.telling in
-    let held = g.L.Link.held in
-    let bytes = c.receive.new.into.items in
-    let got = subst (λ (r : Received). IfTelling (telling c.args.link.now) (telling c.receive.new.self)
-    (Receives (Ok r) bytes (held c.args.link.now) (held c.receive.new.self))) c.in-Got.is
-    c.in_ok-receive.ensures.received in
-    was_received bytes c.in_ok-hear-in-Got.field-0 c.args.hub.now (held c.args.link.now) (held c.receive.new.self)
-    (telling c.args.link.now) (telling c.receive.new.self)
-    (subst (λ (heard : List ℕ). IsHeardAs c.args.hub.now (to_hub heard) c.in_ok-hear-in-Got.field-0)
-    c.deref.ensures.value c.in_ok-hear-in-Got.ensures.heard) got
 
 pub returns-in_ok-hear-in-Got-clause-running : goal.returns-in_ok-hear-in-Got-clause-running
 returns-in_ok-hear-in-Got-clause-running g c =
@@ -80,28 +67,8 @@ returns-in-Quiet-clause-running g c =
     (held c.args.link.now) (held c.receive.new.self) (telling c.args.link.now)
     (telling c.receive.new.self) c.requires.none c.requires.drained c.requires.waits quiet)
 
-pub returns-in_err-receive-clause-board : goal.returns-in_err-receive-clause-board
-returns-in_err-receive-clause-board g c = received_board c.a_link_forgets_nothing.ensures.board c.receive.result
-    c.receive.new.into.items (g.L.Link.held c.args.link.now) (g.L.Link.held c.receive.new.self)
-    (g.L.Link.telling c.args.link.now) (g.L.Link.telling c.receive.new.self) c.receive.ensures.received
-
-pub returns-in_err-hear-in-Got-clause-board : goal.returns-in_err-hear-in-Got-clause-board
-returns-in_err-hear-in-Got-clause-board g c = received_board c.a_link_forgets_nothing.ensures.board c.receive.result
-    c.receive.new.into.items (g.L.Link.held c.args.link.now) (g.L.Link.held c.receive.new.self)
-    (g.L.Link.telling c.args.link.now) (g.L.Link.telling c.receive.new.self) c.receive.ensures.received
-
-pub returns-in_ok-hear-in-Got-clause-board : goal.returns-in_ok-hear-in-Got-clause-board
-returns-in_ok-hear-in-Got-clause-board g c = received_board c.a_link_forgets_nothing.ensures.board c.receive.result
-    c.receive.new.into.items (g.L.Link.held c.args.link.now) (g.L.Link.held c.receive.new.self)
-    (g.L.Link.telling c.args.link.now) (g.L.Link.telling c.receive.new.self) c.receive.ensures.received
-
-pub returns-in-Quiet-clause-board : goal.returns-in-Quiet-clause-board
-returns-in-Quiet-clause-board g c = received_board c.a_link_forgets_nothing.ensures.board c.receive.result
-    c.receive.new.into.items (g.L.Link.held c.args.link.now) (g.L.Link.held c.receive.new.self)
-    (g.L.Link.telling c.args.link.now) (g.L.Link.telling c.receive.new.self) c.receive.ensures.received
-
-pub returns-in_ok-hear-in-Got-clause-pays : goal.returns-in_ok-hear-in-Got-clause-pays
-returns-in_ok-hear-in-Got-clause-pays g c =
+pub returns-in_ok-hear-in-Got-clause-told : goal.returns-in_ok-hear-in-Got-clause-told
+returns-in_ok-hear-in-Got-clause-told g c =
     let telling = g.L.Link.telling in
     let held = g.L.Link.held in
     let bytes = c.receive.new.into.items in
@@ -109,110 +76,88 @@ returns-in_ok-hear-in-Got-clause-pays g c =
     let got = subst (λ (r : Received). IfTelling (telling c.args.link.now) (telling c.receive.new.self)
     (Receives (Ok r) bytes (held c.args.link.now) (held c.receive.new.self))) c.in-Got.is
     c.in_ok-receive.ensures.received in
-    subst (λ (h : Hub). PaysFor pumped (telling c.args.link.now) c.args.hub.now (held c.args.link.now)
-    (telling c.receive.new.self) h (held c.receive.new.self))
-    (sym (c.in_ok-hear-in-Got.ensures.hub
-    ∙ ap (λ (heard : List ℕ). take_message c.args.hub.now (to_hub heard)) c.deref.ensures.value))
-    (got_for c.laws_of_rounds.ensures c.a_link_forgets_nothing.ensures.board pumped c.args.hub.now bytes
-    (held c.args.link.now) (held c.receive.new.self) (telling c.args.link.now) (telling c.receive.new.self)
-    c.receive.ensures.held (subst (λ (heard : List ℕ). IsHeardAs c.args.hub.now (to_hub heard) pumped)
-    c.deref.ensures.value c.in_ok-hear-in-Got.ensures.heard) got)
+    let heard = subst (λ (heard : List ℕ). IsHeardAs c.args.hub.now (to_hub heard) pumped)
+    c.deref.ensures.value c.in_ok-hear-in-Got.ensures.heard in
+    let hub = sym (c.in_ok-hear-in-Got.ensures.hub
+    ∙ ap (λ (heard : List ℕ). take_message c.args.hub.now (to_hub heard)) c.deref.ensures.value) in
+    record {
+      received = was_received bytes pumped c.args.hub.now (held c.args.link.now) (held c.receive.new.self)
+          (telling c.args.link.now) (telling c.receive.new.self)
+          heard got;
+      brings = got_brings bytes c.args.hub.now pumped (held c.args.link.now) (held c.receive.new.self)
+          (telling c.args.link.now) (telling c.receive.new.self)
+          heard got;
+      unanswered = subst (λ (h : Hub). StaysUnanswered (telling c.args.link.now) c.args.hub.now
+          (telling c.receive.new.self) h)
+          hub
+          (got_stays c.each_event_leads_to_a_state_of_a_run.ensures.heard c.a_link_forgets_nothing.ensures.air
+          c.a_link_forgets_nothing.ensures.board c.args.hub.now bytes
+          (held c.args.link.now) (held c.receive.new.self) (telling c.args.link.now)
+          (telling c.receive.new.self) c.requires.none c.requires.drained got);
+      pays = subst (λ (h : Hub). PaysFor pumped (telling c.args.link.now) c.args.hub.now (held c.args.link.now)
+          (telling c.receive.new.self) h (held c.receive.new.self))
+          hub
+          (got_for c.laws_of_rounds.ensures c.a_link_forgets_nothing.ensures.board pumped c.args.hub.now bytes
+          (held c.args.link.now) (held c.receive.new.self) (telling c.args.link.now) (telling c.receive.new.self)
+          c.receive.ensures.held heard got);
+      round = subst (λ (h : Hub). RoundFor (Pumps pumped) (telling c.args.link.now) c.args.hub.now
+          (held c.args.link.now)
+          (telling c.receive.new.self) h (held c.receive.new.self))
+          hub
+          (round_got c.laws_of_ways.ensures pumped c.args.hub.now bytes
+          (held c.args.link.now) (held c.receive.new.self) (telling c.args.link.now) (telling c.receive.new.self)
+          heard got);
+    }
 
-pub returns-in-Quiet-clause-pays : goal.returns-in-Quiet-clause-pays
-returns-in-Quiet-clause-pays g c =
+pub returns-in-Quiet-clause-told : goal.returns-in-Quiet-clause-told
+returns-in-Quiet-clause-told g c =
     let telling = g.L.Link.telling in
     let held = g.L.Link.held in
     let bytes = c.receive.new.into.items in
     let quiet = subst (λ (r : Received). IfTelling (telling c.args.link.now) (telling c.receive.new.self)
     (Receives (Ok r) bytes (held c.args.link.now) (held c.receive.new.self))) c.in-Quiet.is
     c.in_ok-receive.ensures.received in
-    subst (λ (h : Hub). PaysFor Quiet (telling c.args.link.now) c.args.hub.now (held c.args.link.now)
-    (telling c.receive.new.self) h (held c.receive.new.self)) (sym c.on_quiet.ensures.hub)
-    (quiet_for c.laws_of_rounds.ensures c.a_link_forgets_nothing.ensures.board c.args.hub.now
-    (held c.args.link.now) (held c.receive.new.self) (telling c.args.link.now) (telling c.receive.new.self)
-    c.receive.ensures.held c.requires.none c.requires.waits quiet)
+    record {
+      received = was_quiet bytes (held c.args.link.now) (held c.receive.new.self) (telling c.args.link.now)
+          (telling c.receive.new.self) quiet;
+      brings = quiet_brings bytes (held c.args.link.now) (held c.receive.new.self) (telling c.args.link.now)
+          (telling c.receive.new.self) quiet;
+      unanswered = subst (λ (h : Hub). StaysUnanswered (telling c.args.link.now) c.args.hub.now
+          (telling c.receive.new.self) h)
+          (sym c.on_quiet.ensures.hub)
+          (quiet_stays c.each_event_leads_to_a_state_of_a_run.ensures.heard c.a_link_forgets_nothing.ensures.air
+          c.a_link_forgets_nothing.ensures.board c.args.hub.now (held c.args.link.now) (held c.receive.new.self)
+          (telling c.args.link.now) (telling c.receive.new.self) quiet);
+      pays = subst (λ (h : Hub). PaysFor Quiet (telling c.args.link.now) c.args.hub.now (held c.args.link.now)
+          (telling c.receive.new.self) h (held c.receive.new.self)) (sym c.on_quiet.ensures.hub)
+          (quiet_for c.laws_of_rounds.ensures c.a_link_forgets_nothing.ensures.board c.args.hub.now
+          (held c.args.link.now) (held c.receive.new.self) (telling c.args.link.now) (telling c.receive.new.self)
+          c.receive.ensures.held c.requires.none c.requires.waits quiet);
+      round = subst (λ (h : Hub). RoundFor (Pumps Quiet) (telling c.args.link.now) c.args.hub.now (held c.args.link.now)
+          (telling c.receive.new.self) h (held c.receive.new.self)) (sym c.on_quiet.ensures.hub)
+          (round_quiet c.laws_of_ways.ensures c.args.hub.now (held c.args.link.now) (held c.receive.new.self)
+          (telling c.args.link.now) (telling c.receive.new.self) c.requires.none quiet);
+    }
 
-pub returns-in_ok-hear-in-Got-clause-brings : goal.returns-in_ok-hear-in-Got-clause-brings
-returns-in_ok-hear-in-Got-clause-brings g c =
-    let telling = g.L.Link.telling in
-    let held = g.L.Link.held in
-    let bytes = c.receive.new.into.items in
-    let got = subst (λ (r : Received). IfTelling (telling c.args.link.now) (telling c.receive.new.self)
-    (Receives (Ok r) bytes (held c.args.link.now) (held c.receive.new.self))) c.in-Got.is
-    c.in_ok-receive.ensures.received in
-    got_brings bytes c.args.hub.now c.in_ok-hear-in-Got.field-0 (held c.args.link.now) (held c.receive.new.self)
-    (telling c.args.link.now) (telling c.receive.new.self)
-    (subst (λ (heard : List ℕ). IsHeardAs c.args.hub.now (to_hub heard) c.in_ok-hear-in-Got.field-0)
-    c.deref.ensures.value c.in_ok-hear-in-Got.ensures.heard) got
+pub returns-in_err-receive-clause-counts : goal.returns-in_err-receive-clause-counts
+returns-in_err-receive-clause-counts g c = received_keeps g.L.Link c.a_link_forgets_nothing.ensures.board
+    c.receive.result
+    c.receive.new.into.items c.args.link.now c.receive.new.self c.receive.ensures.faults c.receive.ensures.quiets_rise
+    c.receive.ensures.gots_rise c.receive.ensures.receives c.receive.ensures.held c.receive.ensures.received
 
-pub returns-in-Quiet-clause-brings : goal.returns-in-Quiet-clause-brings
-returns-in-Quiet-clause-brings g c =
-    let telling = g.L.Link.telling in
-    let held = g.L.Link.held in
-    let bytes = c.receive.new.into.items in
-    let quiet = subst (λ (r : Received). IfTelling (telling c.args.link.now) (telling c.receive.new.self)
-    (Receives (Ok r) bytes (held c.args.link.now) (held c.receive.new.self))) c.in-Quiet.is
-    c.in_ok-receive.ensures.received in
-    quiet_brings bytes (held c.args.link.now) (held c.receive.new.self) (telling c.args.link.now)
-    (telling c.receive.new.self) quiet
+pub returns-in_err-hear-in-Got-clause-counts : goal.returns-in_err-hear-in-Got-clause-counts
+returns-in_err-hear-in-Got-clause-counts g c = received_keeps g.L.Link c.a_link_forgets_nothing.ensures.board
+    c.receive.result
+    c.receive.new.into.items c.args.link.now c.receive.new.self c.receive.ensures.faults c.receive.ensures.quiets_rise
+    c.receive.ensures.gots_rise c.receive.ensures.receives c.receive.ensures.held c.receive.ensures.received
 
-pub returns-in_ok-hear-in-Got-clause-round : goal.returns-in_ok-hear-in-Got-clause-round
-returns-in_ok-hear-in-Got-clause-round g c =
-    let telling = g.L.Link.telling in
-    let held = g.L.Link.held in
-    let bytes = c.receive.new.into.items in
-    let pumped = c.in_ok-hear-in-Got.field-0 in
-    let got = subst (λ (r : Received). IfTelling (telling c.args.link.now) (telling c.receive.new.self)
-    (Receives (Ok r) bytes (held c.args.link.now) (held c.receive.new.self))) c.in-Got.is
-    c.in_ok-receive.ensures.received in
-    subst (λ (h : Hub). RoundFor (Pumps pumped) (telling c.args.link.now) c.args.hub.now (held c.args.link.now)
-    (telling c.receive.new.self) h (held c.receive.new.self))
-    (sym (c.in_ok-hear-in-Got.ensures.hub
-    ∙ ap (λ (heard : List ℕ). take_message c.args.hub.now (to_hub heard)) c.deref.ensures.value))
-    (round_got c.laws_of_ways.ensures pumped c.args.hub.now bytes
-    (held c.args.link.now) (held c.receive.new.self) (telling c.args.link.now) (telling c.receive.new.self)
-    (subst (λ (heard : List ℕ). IsHeardAs c.args.hub.now (to_hub heard) pumped)
-    c.deref.ensures.value c.in_ok-hear-in-Got.ensures.heard) got)
+pub returns-in_ok-hear-in-Got-clause-counts : goal.returns-in_ok-hear-in-Got-clause-counts
+returns-in_ok-hear-in-Got-clause-counts g c = received_keeps g.L.Link c.a_link_forgets_nothing.ensures.board
+    c.receive.result
+    c.receive.new.into.items c.args.link.now c.receive.new.self c.receive.ensures.faults c.receive.ensures.quiets_rise
+    c.receive.ensures.gots_rise c.receive.ensures.receives c.receive.ensures.held c.receive.ensures.received
 
-pub returns-in-Quiet-clause-round : goal.returns-in-Quiet-clause-round
-returns-in-Quiet-clause-round g c =
-    let telling = g.L.Link.telling in
-    let held = g.L.Link.held in
-    let bytes = c.receive.new.into.items in
-    let quiet = subst (λ (r : Received). IfTelling (telling c.args.link.now) (telling c.receive.new.self)
-    (Receives (Ok r) bytes (held c.args.link.now) (held c.receive.new.self))) c.in-Quiet.is
-    c.in_ok-receive.ensures.received in
-    subst (λ (h : Hub). RoundFor (Pumps Quiet) (telling c.args.link.now) c.args.hub.now (held c.args.link.now)
-    (telling c.receive.new.self) h (held c.receive.new.self)) (sym c.on_quiet.ensures.hub)
-    (round_quiet c.laws_of_ways.ensures c.args.hub.now (held c.args.link.now) (held c.receive.new.self)
-    (telling c.args.link.now) (telling c.receive.new.self) c.requires.none quiet)
-
-pub returns-in_ok-hear-in-Got-clause-unanswered : goal.returns-in_ok-hear-in-Got-clause-unanswered
-returns-in_ok-hear-in-Got-clause-unanswered g c =
-    let telling = g.L.Link.telling in
-    let held = g.L.Link.held in
-    let bytes = c.receive.new.into.items in
-    let got = subst (λ (r : Received). IfTelling (telling c.args.link.now) (telling c.receive.new.self)
-    (Receives (Ok r) bytes (held c.args.link.now) (held c.receive.new.self))) c.in-Got.is
-    c.in_ok-receive.ensures.received in
-    subst (λ (h : Hub). StaysUnanswered (telling c.args.link.now) c.args.hub.now (telling c.receive.new.self) h)
-    (sym (c.in_ok-hear-in-Got.ensures.hub
-    ∙ ap (λ (heard : List ℕ). take_message c.args.hub.now (to_hub heard)) c.deref.ensures.value))
-    (got_stays c.each_event_leads_to_a_state_of_a_run.ensures.heard c.a_link_forgets_nothing.ensures.air
-    c.a_link_forgets_nothing.ensures.board c.args.hub.now bytes
-    (held c.args.link.now) (held c.receive.new.self) (telling c.args.link.now)
-    (telling c.receive.new.self) c.requires.none c.requires.drained got)
-
-pub returns-in-Quiet-clause-unanswered : goal.returns-in-Quiet-clause-unanswered
-returns-in-Quiet-clause-unanswered g c =
-    let telling = g.L.Link.telling in
-    let held = g.L.Link.held in
-    let bytes = c.receive.new.into.items in
-    let quiet = subst (λ (r : Received). IfTelling (telling c.args.link.now) (telling c.receive.new.self)
-    (Receives (Ok r) bytes (held c.args.link.now) (held c.receive.new.self))) c.in-Quiet.is
-    c.in_ok-receive.ensures.received in
-    subst (λ (h : Hub). StaysUnanswered (telling c.args.link.now) c.args.hub.now (telling c.receive.new.self) h)
-    (sym c.on_quiet.ensures.hub)
-    (quiet_stays c.each_event_leads_to_a_state_of_a_run.ensures.heard c.a_link_forgets_nothing.ensures.air
-    c.a_link_forgets_nothing.ensures.board c.args.hub.now (held c.args.link.now) (held c.receive.new.self)
-    (telling c.args.link.now) (telling c.receive.new.self) quiet)
+pub returns-in-Quiet-clause-counts : goal.returns-in-Quiet-clause-counts
+returns-in-Quiet-clause-counts g c = received_keeps g.L.Link c.a_link_forgets_nothing.ensures.board c.receive.result
+    c.receive.new.into.items c.args.link.now c.receive.new.self c.receive.ensures.faults c.receive.ensures.quiets_rise
+    c.receive.ensures.gots_rise c.receive.ensures.receives c.receive.ensures.held c.receive.ensures.received

@@ -23,11 +23,11 @@ returns-in-Asked-clause-link g c =
     asked_put telling c.args.self.now c.offer_next.new.self c.send_wanted.new.self c.args.client c.in-Asked.seq offers
     c.send_wanted.ensures.sends c.offer_next.ensures.link
     (subst (λ link. board_of (telling c.send_wanted.new.self.link) ≡ board_of (telling link)) c.offer_next.ensures.link
-    c.send_wanted.ensures.board) c.send_wanted.ensures.link
+    c.send_wanted.ensures.unreceived.board) c.send_wanted.ensures.link
 
 pub returns-in-Asked-clause-round : goal.returns-in-Asked-clause-round
 returns-in-Asked-clause-round g c =
     let held = g.L.Link.held in
     asked_round g.L.Link.telling held c.args.self.now c.offer_next.new.self c.send_wanted.new.self
-    (let same = ap held c.offer_next.ensures.link in omega (arith, same)) c.send_wanted.ensures.held
+    (let same = ap held c.offer_next.ensures.link in omega (arith, same)) c.send_wanted.ensures.unreceived.held
     c.send_wanted.ensures.sends c.offer_next.ensures.round c.send_wanted.ensures.round

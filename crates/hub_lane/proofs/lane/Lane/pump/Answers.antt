@@ -47,10 +47,11 @@ invariant_of-self g c =
           c.exchange.new.hub c.exchange.new.buffer.items c.in-Ok.pumped c.exchange.new.outcomes.items
           c.exchange.new.outcomes.lates c.exchange.new.give_ups
           (telling c.exchange.new.link) (faults c.exchange.new.link) (quiets c.exchange.new.link)
-          (sym c.waiting.ensures ∙ c.if-not-waiting.false) c.in-Ok.ensures.event c.in-Ok.ensures.hub
-          c.in-Ok.ensures.outcomes c.in-Ok.ensures.lates
-          c.in-Ok.ensures.give_ups c.in-Ok.ensures.quiets c.in-Ok.ensures.running c.in-Ok.ensures.unanswered
-          c.exchange.ensures.board).lane,
+          (sym c.waiting.ensures ∙ c.if-not-waiting.false) c.in-Ok.ensures.settled.event c.in-Ok.ensures.settled.hub
+          c.in-Ok.ensures.settled.outcomes c.in-Ok.ensures.settled.lates
+          c.in-Ok.ensures.settled.give_ups c.in-Ok.ensures.received.counts.quiets c.in-Ok.ensures.running
+          c.in-Ok.ensures.told.unanswered
+          c.exchange.ensures.counts.board).lane,
       pays_pumped l.down l.spent l.mtu l.settings.rounds l.give_ups c.exchange.new.give_ups l.engine c.exchange.new.hub
           (g.L.Link.held l.link) (g.L.Link.held c.exchange.new.link) (telling l.link) (telling c.exchange.new.link)
           c.if-self-2.false c.if-self.false c.self.invariant.0.knows.rounds (c.in-Ok.ensures.pays l.settings l.mtu
@@ -62,17 +63,19 @@ invariant_of-self g c =
           l.spent
           (telling l.link) (faults l.link) (quiets l.link) c.if-self-2.false c.if-self.false c.self.invariant.0
           c.exchange.new.buffer.items c.in-Ok.pumped c.exchange.new.outcomes.items (g.L.Link.gots l.link)
-          (g.L.Link.gots c.exchange.new.link) c.in-Ok.ensures.event c.in-Ok.ensures.outcomes c.in-Ok.ensures.gots
+          (g.L.Link.gots c.exchange.new.link) c.in-Ok.ensures.settled.event c.in-Ok.ensures.settled.outcomes
+          c.in-Ok.ensures.received.counts.gots
           c.self.invariant.2,
-      c.exchange.ensures.bodies ∙ c.self.invariant.3,
+      c.in-Ok.ensures.settled.bodies ∙ c.self.invariant.3,
       pump_listened laws l.settings status l.engine l.book.items l.outcomes.items l.outcomes.lates l.give_ups l.down
           l.spent
           (telling l.link) (faults l.link) (quiets l.link) c.if-self-2.false c.if-self.false c.self.invariant.0
           c.exchange.new.buffer.items c.in-Ok.pumped c.exchange.new.hub c.exchange.new.outcomes.items
           c.exchange.new.outcomes.lates c.exchange.new.give_ups (g.L.Link.receives l.link)
           (g.L.Link.receives c.exchange.new.link) (sym c.waiting.ensures ∙ c.if-not-waiting.false)
-          c.in-Ok.ensures.event c.in-Ok.ensures.hub c.in-Ok.ensures.outcomes c.in-Ok.ensures.lates
-          c.in-Ok.ensures.give_ups c.in-Ok.ensures.receives c.self.invariant.4,
+          c.in-Ok.ensures.settled.event c.in-Ok.ensures.settled.hub c.in-Ok.ensures.settled.outcomes
+          c.in-Ok.ensures.settled.lates
+          c.in-Ok.ensures.settled.give_ups c.in-Ok.ensures.received.receives c.self.invariant.4,
     )
 
 pub invariant_of-self-in-Err-Failed : goal.invariant_of-self-in-Err-Failed
@@ -106,30 +109,32 @@ invariant_of-self-in-Err-Failed g c =
           c.exchange.new.hub c.exchange.new.outcomes.items c.lose_all.new.outcomes.items c.lose_all.new.outcomes.lates
           c.exchange.new.give_ups c.sent.result
           (telling c.exchange.new.link) (faults c.exchange.new.link) (quiets c.exchange.new.link)
-          c.in-Err-Failed.ensures.sent c.in-Err-Failed.ensures.stopped (c.exchange.ensures.failed_unanswered (cc))
-          (c.exchange.ensures.failed (cc))
-          (c.exchange.ensures.failed_quiets (cc))
-          c.in-Err-Failed.ensures.same_give_ups c.in-Err-Failed.ensures.same_outcomes
-          (c.lose_all.ensures.lates ∙ c.in-Err-Failed.ensures.same_lates) c.sent.ensures
+          c.in-Err-Failed.ensures.unsettled.sent c.in-Err-Failed.ensures.stopped (c.exchange.ensures.failed
+          (cc)).unanswered
+          (c.exchange.ensures.faults.failed (cc))
+          (c.exchange.ensures.failed (cc)).receives.quiets
+          c.in-Err-Failed.ensures.unsettled.give_ups c.in-Err-Failed.ensures.unsettled.outcomes
+          (c.lose_all.ensures.lates ∙ c.in-Err-Failed.ensures.unsettled.lates) c.sent.ensures
           c.lose_all.ensures.outcomes
-          c.exchange.ensures.board,
+          c.exchange.ensures.counts.board,
       pays_stopped c.laws_of_rounds.ensures (l.down || l.spent) l.mtu l.settings.rounds l.give_ups
           c.exchange.new.give_ups
           l.engine c.exchange.new.hub (g.L.Link.held l.link) (g.L.Link.held c.exchange.new.link) (telling l.link)
-          (telling c.exchange.new.link) c.exchange.ensures.board c.in-Err-Failed.ensures.same_give_ups
-          c.exchange.ensures.held
+          (telling c.exchange.new.link) c.exchange.ensures.counts.board c.in-Err-Failed.ensures.unsettled.give_ups
+          c.exchange.ensures.counts.held
           c.self.invariant.1,
       heard_down c.sent.result l.outcomes.items c.exchange.new.outcomes.items c.lose_all.new.outcomes.items
-          (g.L.Link.gots l.link) (g.L.Link.gots c.exchange.new.link) (c.exchange.ensures.failed_gots (cc))
-          c.in-Err-Failed.ensures.same_outcomes c.lose_all.ensures.outcomes c.self.invariant.2,
-      c.lose_all.ensures.bodies ∙ (c.exchange.ensures.bodies ∙ c.self.invariant.3),
+          (g.L.Link.gots l.link) (g.L.Link.gots c.exchange.new.link) (c.exchange.ensures.failed (cc)).receives.gots
+          c.in-Err-Failed.ensures.unsettled.outcomes c.lose_all.ensures.outcomes c.self.invariant.2,
+      c.lose_all.ensures.bodies ∙ (c.in-Err-Failed.ensures.unsettled.bodies ∙ c.self.invariant.3),
       listened_sent status l.engine c.exchange.new.hub l.outcomes.items c.lose_all.new.outcomes.items
           l.outcomes.lates c.lose_all.new.outcomes.lates l.give_ups c.exchange.new.give_ups (g.L.Link.receives l.link)
-          (g.L.Link.receives c.exchange.new.link) c.in-Err-Failed.ensures.sent c.in-Err-Failed.ensures.same_give_ups
+          (g.L.Link.receives c.exchange.new.link) c.in-Err-Failed.ensures.unsettled.sent
+          c.in-Err-Failed.ensures.unsettled.give_ups
           (lost_answers c.a_failed_link_loses_what_waits.ensures.adds c.sent.result l.outcomes.items
           c.exchange.new.outcomes.items c.lose_all.new.outcomes.items l.outcomes.lates c.lose_all.new.outcomes.lates
-          c.in-Err-Failed.ensures.same_outcomes c.lose_all.ensures.outcomes
-          (c.lose_all.ensures.lates ∙ c.in-Err-Failed.ensures.same_lates)) c.exchange.ensures.receives_grow
+          c.in-Err-Failed.ensures.unsettled.outcomes c.lose_all.ensures.outcomes
+          (c.lose_all.ensures.lates ∙ c.in-Err-Failed.ensures.unsettled.lates)) c.exchange.ensures.counts.receives
           c.self.invariant.4,
     )
 
@@ -164,28 +169,29 @@ invariant_of-self-in-Err-NoMemory g c =
           (telling l.link) (faults l.link) (quiets l.link) c.if-self-2.false c.if-self.false c.self.invariant.0
           c.exchange.new.hub c.exchange.new.outcomes.items c.exchange.new.outcomes.lates c.exchange.new.give_ups
           (telling c.exchange.new.link) (faults c.exchange.new.link) (quiets c.exchange.new.link)
-          c.in-Err-NoMemory.ensures.sent c.in-Err-NoMemory.ensures.stopped
-          (inr (sym c.waiting.ensures ∙ c.if-not-waiting.false)) c.exchange.ensures.quiets_rise
-          c.in-Err-NoMemory.ensures.same_give_ups c.in-Err-NoMemory.ensures.same_outcomes
-          c.in-Err-NoMemory.ensures.same_lates c.exchange.ensures.board,
+          c.in-Err-NoMemory.ensures.unsettled.sent c.in-Err-NoMemory.ensures.stopped
+          (inr (sym c.waiting.ensures ∙ c.if-not-waiting.false)) c.exchange.ensures.counts.quiets
+          c.in-Err-NoMemory.ensures.unsettled.give_ups c.in-Err-NoMemory.ensures.unsettled.outcomes
+          c.in-Err-NoMemory.ensures.unsettled.lates c.exchange.ensures.counts.board,
       subst (λ (b : Bool). IfSome (telling c.exchange.new.link) (HasPaid (b || true) l.mtu l.settings.rounds
           c.exchange.new.give_ups c.exchange.new.hub (g.L.Link.held c.exchange.new.link))) (sym c.if-self-2.false)
           (pays_stopped c.laws_of_rounds.ensures (l.down || l.spent) l.mtu l.settings.rounds l.give_ups
           c.exchange.new.give_ups l.engine c.exchange.new.hub (g.L.Link.held l.link) (g.L.Link.held c.exchange.new.link)
-          (telling l.link) (telling c.exchange.new.link) c.exchange.ensures.board
-          c.in-Err-NoMemory.ensures.same_give_ups
-          c.exchange.ensures.held c.self.invariant.1),
+          (telling l.link) (telling c.exchange.new.link) c.exchange.ensures.counts.board
+          c.in-Err-NoMemory.ensures.unsettled.give_ups
+          c.exchange.ensures.counts.held c.self.invariant.1),
       heard_still l.outcomes.items c.exchange.new.outcomes.items (g.L.Link.gots l.link)
-          (g.L.Link.gots c.exchange.new.link) c.exchange.ensures.gots_rise c.in-Err-NoMemory.ensures.same_outcomes
+          (g.L.Link.gots c.exchange.new.link) c.exchange.ensures.counts.gots
+          c.in-Err-NoMemory.ensures.unsettled.outcomes
           c.self.invariant.2,
-      c.exchange.ensures.bodies ∙ c.self.invariant.3,
+      c.in-Err-NoMemory.ensures.unsettled.bodies ∙ c.self.invariant.3,
       listened_sent status l.engine c.exchange.new.hub l.outcomes.items c.exchange.new.outcomes.items
           l.outcomes.lates c.exchange.new.outcomes.lates l.give_ups c.exchange.new.give_ups (g.L.Link.receives l.link)
-          (g.L.Link.receives c.exchange.new.link) c.in-Err-NoMemory.ensures.sent
-          c.in-Err-NoMemory.ensures.same_give_ups
+          (g.L.Link.receives c.exchange.new.link) c.in-Err-NoMemory.ensures.unsettled.sent
+          c.in-Err-NoMemory.ensures.unsettled.give_ups
           (same_answers l.outcomes.items c.exchange.new.outcomes.items l.outcomes.lates c.exchange.new.outcomes.lates
-          c.in-Err-NoMemory.ensures.same_outcomes c.in-Err-NoMemory.ensures.same_lates)
-          c.exchange.ensures.receives_grow c.self.invariant.4,
+          c.in-Err-NoMemory.ensures.unsettled.outcomes c.in-Err-NoMemory.ensures.unsettled.lates)
+          c.exchange.ensures.counts.receives c.self.invariant.4,
     )
 
 pub returns-in-Ok-clause-same : goal.returns-in-Ok-clause-same
@@ -220,9 +226,11 @@ returns-in-Ok-clause-same g c =
     c.exchange.new.hub c.exchange.new.buffer.items c.in-Ok.pumped c.exchange.new.outcomes.items
     c.exchange.new.outcomes.lates c.exchange.new.give_ups
     (telling c.exchange.new.link) (faults c.exchange.new.link) (quiets c.exchange.new.link)
-    (sym c.waiting.ensures ∙ c.if-not-waiting.false) c.in-Ok.ensures.event c.in-Ok.ensures.hub c.in-Ok.ensures.outcomes
-    c.in-Ok.ensures.lates c.in-Ok.ensures.give_ups c.in-Ok.ensures.quiets c.in-Ok.ensures.running
-    c.in-Ok.ensures.unanswered c.exchange.ensures.board in
+    (sym c.waiting.ensures ∙ c.if-not-waiting.false) c.in-Ok.ensures.settled.event c.in-Ok.ensures.settled.hub
+    c.in-Ok.ensures.settled.outcomes
+    c.in-Ok.ensures.settled.lates c.in-Ok.ensures.settled.give_ups c.in-Ok.ensures.received.counts.quiets
+    c.in-Ok.ensures.running
+    c.in-Ok.ensures.told.unanswered c.exchange.ensures.counts.board in
     subst (λ (v : LaneState _). IsSameRecord v (record {
       link = c.exchange.new.link;
       settings = l.settings;
@@ -251,7 +259,8 @@ returns-in-Ok-clause-link g c =
     subst (λ (v : LaneState _). IfTelling (telling v.link) (telling c.exchange.new.link)
     (Pumping c.in-Ok.pumped v.hub c.exchange.new.hub)) c.self.view_is
     (pumping c.in-Ok.pumped c.exchange.new.buffer.items l.engine c.exchange.new.hub (telling l.link)
-    (telling c.exchange.new.link) c.in-Ok.ensures.event c.in-Ok.ensures.hub c.in-Ok.ensures.carries)
+    (telling c.exchange.new.link) c.in-Ok.ensures.settled.event c.in-Ok.ensures.settled.hub
+    c.in-Ok.ensures.told.carries)
 
 pub returns-in-Ok-clause-round : goal.returns-in-Ok-clause-round
 returns-in-Ok-clause-round g c =
@@ -268,7 +277,7 @@ returns-in-Ok-clause-round g c =
     (lane_round (Pumps c.in-Ok.pumped) l.down l.spent l.settings l.outcomes.items l.outcomes.lates l.mtu l.give_ups
     l.engine
     c.exchange.new.hub (held l.link) (held c.exchange.new.link) (telling l.link) (telling c.exchange.new.link)
-    c.if-self-2.false c.if-self.false c.in-Ok.ensures.round c.self.invariant.0.standing c.self.invariant.1)
+    c.if-self-2.false c.if-self.false c.in-Ok.ensures.told.round c.self.invariant.0.standing c.self.invariant.1)
 
 pub returns-then-not-waiting-clause-round : goal.returns-then-not-waiting-clause-round
 returns-then-not-waiting-clause-round g c =
@@ -277,7 +286,7 @@ returns-then-not-waiting-clause-round g c =
 pub returns-in-Err-Failed-clause-same : goal.returns-in-Err-Failed-clause-same
 returns-in-Err-Failed-clause-same g c =
     let l = c.self.inside in
-    let same_give_ups = c.in-Err-Failed.ensures.same_give_ups in
+    let same_give_ups = c.in-Err-Failed.ensures.unsettled.give_ups in
     subst (λ (v : LaneState _). IsSameRecord v (record {
       link = c.exchange.new.link;
       settings = l.settings;
@@ -294,9 +303,9 @@ returns-in-Err-Failed-clause-same g c =
       status = refl;
       items = refl;
       outcomes = lost_keeps c.a_failed_link_loses_what_waits.ensures.keeps c.sent.result l.outcomes.items
-          c.exchange.new.outcomes.items c.lose_all.new.outcomes.items c.in-Err-Failed.ensures.same_outcomes
+          c.exchange.new.outcomes.items c.lose_all.new.outcomes.items c.in-Err-Failed.ensures.unsettled.outcomes
           c.lose_all.ensures.outcomes;
       lates = λ place words there. ap (λ (ls : List (Option (List ℕ))). late_in ls place)
-          (c.lose_all.ensures.lates ∙ c.in-Err-Failed.ensures.same_lates) ∙ there;
+          (c.lose_all.ensures.lates ∙ c.in-Err-Failed.ensures.unsettled.lates) ∙ there;
       give_ups = omega (arith, same_give_ups);
     })

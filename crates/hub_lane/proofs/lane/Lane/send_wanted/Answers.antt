@@ -3,6 +3,7 @@ use Rattle.lane_record.specs.Lates.{late_in}
 use Rattle.std.specs.Prelude.{IfSome}
 use Rattle.hub_lane.specs.Calls.{IsSameRecord}
 use Rattle.hub_lane.specs.Lanes.{BoardStatus, LaneState}
+use Rattle.hub_lane.specs.Links.{IsDownByFault}
 use Rattle.world_core.specs.Telling.{IfTelling}
 use Rattle.hub_lane.specs.Rounds.{HasPaid, RoundAfter, Sends, round_of}
 use Rattle.hub_lane.proofs.Datagrams.{heard_down, heard_still}
@@ -10,6 +11,7 @@ use Rattle.hub_lane.proofs.Listened.{listened_sent, lost_answers, same_answers, 
 use Rattle.hub_lane.proofs.Pumps.{PumpLaws, lost_keeps, pump_down, pump_sent, pump_spent}
 use Rattle.hub_lane.proofs.Rounds.{pays_pumped, pays_stopped, still_up}
 use Rattle.hub_lane.proofs.InRounds.{lane_round}
+use Rattle.hub_lane.proofs.Links.{did_not_go_down, went_down}
 use Rattle.hub_lane.proofs.lane.Lane.send_wanted.Goals as goal
 
 pub invariant_of-self : goal.invariant_of-self
@@ -43,7 +45,7 @@ invariant_of-self g c =
       pump_sent laws l.settings status l.engine l.book.items l.outcomes.items l.outcomes.lates l.give_ups l.down l.spent
           (telling l.link) (faults l.link) (quiets l.link) c.if-self-2.false up c.self.invariant.0
           c.send_all.new.hub (telling c.send_all.new.link) (faults c.send_all.new.link) (quiets c.send_all.new.link)
-          sent.some c.in-Ok.ensures.running sent.unanswered sent.quiets sent.board,
+          sent.some c.in-Ok.ensures.running sent.unanswered sent.unreceived.quiets sent.unreceived.board,
       pays_pumped l.down l.spent l.mtu l.settings.rounds l.give_ups l.give_ups l.engine c.send_all.new.hub
           (g.L.Link.held l.link) (g.L.Link.held c.send_all.new.link) (telling l.link) (telling c.send_all.new.link)
           c.if-self-2.false up c.self.invariant.0.knows.rounds
@@ -52,12 +54,12 @@ invariant_of-self g c =
           c.if-self-2.false
           up c.self.invariant.0.standing)) c.self.invariant.1,
       heard_still l.outcomes.items l.outcomes.items (g.L.Link.gots l.link) (g.L.Link.gots c.send_all.new.link)
-          (let same = sent.gots in omega (arith, same)) refl c.self.invariant.2,
+          (let same = sent.unreceived.gots in omega (arith, same)) refl c.self.invariant.2,
       c.self.invariant.3,
       listened_sent status l.engine c.send_all.new.hub l.outcomes.items l.outcomes.items l.outcomes.lates
           l.outcomes.lates l.give_ups l.give_ups (g.L.Link.receives l.link) (g.L.Link.receives c.send_all.new.link)
           sent.some refl (same_answers l.outcomes.items l.outcomes.items l.outcomes.lates l.outcomes.lates refl refl)
-          (same_prefix (g.L.Link.receives l.link) (g.L.Link.receives c.send_all.new.link) sent.receives)
+          (same_prefix (g.L.Link.receives l.link) (g.L.Link.receives c.send_all.new.link) sent.unreceived.receives)
           c.self.invariant.4,
     )
 
@@ -94,13 +96,15 @@ invariant_of-self-in-Err-Failed g c =
           c.send_all.new.hub l.outcomes.items c.lose_all.new.outcomes.items c.lose_all.new.outcomes.lates l.give_ups
           c.sent.result
           (telling c.send_all.new.link) (faults c.send_all.new.link) (quiets c.send_all.new.link)
-          sent.some c.in-Err-Failed.ensures.stopped sent.unanswered (sent.failed (cc)) sent.quiets refl refl
-          c.lose_all.ensures.lates c.sent.ensures c.lose_all.ensures.outcomes sent.board,
+          sent.some c.in-Err-Failed.ensures.stopped sent.unanswered (sent.faults.failed (cc)) sent.unreceived.quiets
+          refl refl
+          c.lose_all.ensures.lates c.sent.ensures c.lose_all.ensures.outcomes sent.unreceived.board,
       pays_stopped c.laws_of_rounds.ensures (l.down || l.spent) l.mtu l.settings.rounds l.give_ups l.give_ups
           l.engine c.send_all.new.hub (g.L.Link.held l.link) (g.L.Link.held c.send_all.new.link) (telling l.link)
-          (telling c.send_all.new.link) sent.board refl sent.held c.self.invariant.1,
+          (telling c.send_all.new.link) sent.unreceived.board refl sent.unreceived.held c.self.invariant.1,
       heard_down c.sent.result l.outcomes.items l.outcomes.items c.lose_all.new.outcomes.items
-          (g.L.Link.gots l.link) (g.L.Link.gots c.send_all.new.link) sent.gots refl c.lose_all.ensures.outcomes
+          (g.L.Link.gots l.link) (g.L.Link.gots c.send_all.new.link) sent.unreceived.gots refl
+          c.lose_all.ensures.outcomes
           c.self.invariant.2,
       c.lose_all.ensures.bodies ∙ c.self.invariant.3,
       listened_sent status l.engine c.send_all.new.hub l.outcomes.items c.lose_all.new.outcomes.items l.outcomes.lates
@@ -109,7 +113,7 @@ invariant_of-self-in-Err-Failed g c =
           (lost_answers c.a_failed_link_loses_what_waits.ensures.adds c.sent.result l.outcomes.items l.outcomes.items
           c.lose_all.new.outcomes.items l.outcomes.lates c.lose_all.new.outcomes.lates refl
           c.lose_all.ensures.outcomes c.lose_all.ensures.lates)
-          (same_prefix (g.L.Link.receives l.link) (g.L.Link.receives c.send_all.new.link) sent.receives)
+          (same_prefix (g.L.Link.receives l.link) (g.L.Link.receives c.send_all.new.link) sent.unreceived.receives)
           c.self.invariant.4,
     )
 
@@ -147,19 +151,19 @@ invariant_of-self-in-Err-NoMemory g c =
           c.send_all.new.hub l.outcomes.items l.outcomes.lates l.give_ups
           (telling c.send_all.new.link) (faults c.send_all.new.link) (quiets c.send_all.new.link)
           sent.some c.in-Err-NoMemory.ensures.stopped (inl sent.unanswered)
-          (let same = sent.quiets in omega (arith, same)) refl refl refl sent.board,
+          (let same = sent.unreceived.quiets in omega (arith, same)) refl refl refl sent.unreceived.board,
       subst (λ (b : Bool). IfSome (telling c.send_all.new.link) (HasPaid (b || true) l.mtu l.settings.rounds
           l.give_ups c.send_all.new.hub (g.L.Link.held c.send_all.new.link))) (sym c.if-self-2.false)
           (pays_stopped c.laws_of_rounds.ensures (l.down || l.spent) l.mtu l.settings.rounds l.give_ups l.give_ups
           l.engine c.send_all.new.hub (g.L.Link.held l.link) (g.L.Link.held c.send_all.new.link) (telling l.link)
-          (telling c.send_all.new.link) sent.board refl sent.held c.self.invariant.1),
+          (telling c.send_all.new.link) sent.unreceived.board refl sent.unreceived.held c.self.invariant.1),
       heard_still l.outcomes.items l.outcomes.items (g.L.Link.gots l.link) (g.L.Link.gots c.send_all.new.link)
-          (let same = sent.gots in omega (arith, same)) refl c.self.invariant.2,
+          (let same = sent.unreceived.gots in omega (arith, same)) refl c.self.invariant.2,
       c.self.invariant.3,
       listened_sent status l.engine c.send_all.new.hub l.outcomes.items l.outcomes.items l.outcomes.lates
           l.outcomes.lates l.give_ups l.give_ups (g.L.Link.receives l.link) (g.L.Link.receives c.send_all.new.link)
           sent.some refl (same_answers l.outcomes.items l.outcomes.items l.outcomes.lates l.outcomes.lates refl refl)
-          (same_prefix (g.L.Link.receives l.link) (g.L.Link.receives c.send_all.new.link) sent.receives)
+          (same_prefix (g.L.Link.receives l.link) (g.L.Link.receives c.send_all.new.link) sent.unreceived.receives)
           c.self.invariant.4,
     )
 
@@ -204,3 +208,35 @@ returns-in-Err-Failed-clause-same g c =
           ∙ there;
       give_ups = omega arith;
     })
+
+pub returns-in-Err-Failed-clause-down : goal.returns-in-Err-Failed-clause-down
+returns-in-Err-Failed-clause-down g c =
+    let l = c.self.inside in
+    subst (λ (v : LaneState _). IsDownByFault g.L.Link v (record {
+      link = c.send_all.new.link;
+      settings = l.settings;
+      status = record { mtu = l.mtu; buffers = l.buffers; next = l.first };
+      hub = c.send_all.new.hub;
+      items = l.book.items;
+      outcomes = c.lose_all.new.outcomes.items;
+      lates = c.lose_all.new.outcomes.lates;
+      give_ups = l.give_ups;
+      down = true;
+      spent = l.spent;
+    })) c.self.view_is (went_down g.L.Link _ _ refl (c.send_all.ensures.faults.failed (cc)))
+
+pub returns-in-Err-NoMemory-clause-down : goal.returns-in-Err-NoMemory-clause-down
+returns-in-Err-NoMemory-clause-down g c =
+    let l = c.self.inside in
+    subst (λ (v : LaneState _). IsDownByFault g.L.Link v (record {
+      link = c.send_all.new.link;
+      settings = l.settings;
+      status = record { mtu = l.mtu; buffers = l.buffers; next = l.first };
+      hub = c.send_all.new.hub;
+      items = l.book.items;
+      outcomes = l.outcomes.items;
+      lates = l.outcomes.lates;
+      give_ups = l.give_ups;
+      down = l.down;
+      spent = true;
+    })) c.self.view_is (did_not_go_down g.L.Link _ _ _ refl c.send_all.ensures.faults.unfaulted (λ e. cc))

@@ -39,7 +39,7 @@ returns-in-NotYet-2-clause-received g c =
     let pumped = c.in_ok-pump.ensures in
     let rose = pumped_in_vain c.take.new.self c.pump.new.self _ _ _ c.in_ok-pump.field-0 last.number
     (link.quiets c.take.new.self.link) _ (link.gots c.take.new.self.link) _ pumped.pumped c.is_sound.ensures.agrees
-    last.none_yet pumped.quiets pumped.gots in
+    last.none_yet pumped.counted.quiets pumped.counted.gots in
     subst (λ (old : LaneState g.row.L.Denot). Rose (link.quiets old.link) (link.quiets c.take-2.new.self.link)
     ⊎ Rose (link.gots old.link) (link.gots c.take-2.new.self.link)) first.same
     (subst (λ (new : LaneState g.row.L.Denot). Rose (link.quiets c.take.new.self.link) (link.quiets new.link)

@@ -1,0 +1,101 @@
+-- What calls leave of a link, one after another.
+use Rattle.std.proofs.Common.{◌≡◌, ◌∙◌, ap, sym, inl, inr, Bool, true, false, ℕ, ◌≤◌}
+use Rattle.std.proofs.Common.{List, [], ◌∷◌, ◌++◌, Option, Some, None, arith}
+use Rattle.std.specs.Prelude.{Result, Ok, Err, IfSome}
+use Rattle.ipb_base.specs.Faults.{Rose}
+use Rattle.ipb_base.specs.Lists.{IsPrefix}
+use Rattle.world_core.specs.declared.link.Link.{Ghosts}
+use Rattle.world_core.specs.declared.link.LinkFault.{LinkFault}
+use Rattle.world_core.specs.declared.link.Received.{Received}
+use Rattle.world_core.specs.declared.link.Received.TheVariants.{Got, Quiet as received_quiet}
+use Rattle.world_core.specs.Receives.{receives_after}
+use Rattle.world_core.specs.Telling.{IfTelling, IsQuiet, Receives, Telling}
+use Rattle.hub_lane.specs.declared.answers.Pumped.TheVariants.{Quiet}
+use Rattle.hub_lane.specs.Hearing.{WasReceived}
+use Rattle.hub_lane.specs.Lanes.{LaneState}
+use Rattle.hub_lane.specs.Links.{IsDownByFault, KeepsCounting, ReceivesNothing}
+use Rattle.hub_lane.proofs.Linked.{received_board}
+use Rattle.hub_lane.proofs.Listened.{same_prefix}
+use Rattle.hub_lane.proofs.Standing.{SameBoard}
+
+pub nothing_keeps : {L : Type 0} (seen : Ghosts L) (old new : L) → ReceivesNothing seen old new
+    → KeepsCounting seen old new
+nothing_keeps seen old new is = record {
+  faults = is.faults;
+  quiets = (let same = is.quiets in omega (arith, same));
+  gots = (let same = is.gots in omega (arith, same));
+  receives = same_prefix (seen.receives old) (seen.receives new) is.receives;
+  held = is.held;
+  board = is.board;
+}
+
+-- all was sent, and then came a receive
+pub keeps_then : {L : Type 0} (seen : Ghosts L) (old between new : L) → ReceivesNothing seen old between
+    → KeepsCounting seen between new → KeepsCounting seen old new
+keeps_then seen old between new sent is = record {
+  faults = (let first = sent.faults in let last = is.faults in omega (arith, first, last));
+  quiets = (let same = sent.quiets in let last = is.quiets in omega (arith, same, last));
+  gots = (let same = sent.gots in let last = is.gots in omega (arith, same, last));
+  receives = (
+    is.receives.0,
+    is.receives.1 ∙ ap (λ (front : List (Option (List ℕ))). front ++ is.receives.0) sent.receives,
+  );
+  held = (let first = sent.held in let last = is.held in omega (arith, first, last));
+  board = is.board ∙ sent.board;
+}
+
+grows : (result : Result Received LinkFault) (bytes : List ℕ) (old new : List (Option (List ℕ)))
+    → new ≡ receives_after result bytes old → IsPrefix old new
+grows (Ok Got) bytes old new is = (Some bytes ∷ [], is)
+grows (Ok received_quiet) bytes old new is = (None ∷ [], is)
+grows (Err fault) bytes old new is = same_prefix old new is
+
+pub received_keeps : {L : Type 0} (seen : Ghosts L) → SameBoard → (result : Result Received LinkFault)
+    (bytes : List ℕ) (old new : L) → seen.faults old ≤ seen.faults new → seen.quiets old ≤ seen.quiets new
+    → seen.gots old ≤ seen.gots new → seen.receives new ≡ receives_after result bytes (seen.receives old)
+    → seen.held old ≤ seen.held new
+    → IfTelling (seen.telling old) (seen.telling new) (Receives result bytes (seen.held old) (seen.held new))
+    → KeepsCounting seen old new
+received_keeps seen law result bytes old new faults quiets gots receives held call = record {
+  faults = faults;
+  quiets = quiets;
+  gots = gots;
+  receives = grows result bytes (seen.receives old) (seen.receives new) receives;
+  held = held;
+  board = received_board law result bytes (seen.held old) (seen.held new) (seen.telling old) (seen.telling new) call;
+}
+
+pub was_quiet : (bytes : List ℕ) (held now : ℕ) (old new : Option Telling) → IfTelling old new (IsQuiet held now)
+    → IfSome new (WasReceived Quiet bytes)
+was_quiet bytes held now None None quiet = tt
+was_quiet bytes held now None (Some u) quiet = absurd quiet
+was_quiet bytes held now (Some t) None quiet = absurd quiet
+was_quiet bytes held now (Some t) (Some u) quiet = quiet.none_due
+
+-- ---- a lane that is down
+
+not_up : (t : Option Telling) (down : Bool) (P : Type 0) → down ≡ true → IfSome t (λ _. down ≡ false → P)
+not_up None down P is = tt
+not_up (Some t) down P is = λ up. absurd (let clash : true ≡ false = sym is ∙ up in cc)
+
+still_up : (t : Option Telling) (down : Bool) (P Q : Type 0) → IfSome t (λ _. P → Q) → P
+    → IfSome t (λ _. down ≡ false → Q)
+still_up None down P Q leads holds = tt
+still_up (Some t) down P Q leads holds = λ _. leads holds
+
+-- the network failed
+pub went_down : {L : Type 0} (seen : Ghosts L) (old new : LaneState L) → new.down ≡ true
+    → Rose (seen.faults old.link) (seen.faults new.link) → IsDownByFault seen old new
+went_down seen old new down rose = record {
+  down = λ _. inr rose;
+  up = not_up (seen.telling old.link) new.down (seen.faults new.link ≡ seen.faults old.link) down;
+}
+
+-- it did not
+pub did_not_go_down : {L : Type 0} (seen : Ghosts L) (old new : LaneState L) (P : Type 0) → new.down ≡ old.down
+    → IfSome (seen.telling old.link) (λ _. P → seen.faults new.link ≡ seen.faults old.link) → P
+    → IsDownByFault seen old new
+did_not_go_down seen old new P same leads holds = record {
+  down = λ down. inl (sym same ∙ down);
+  up = still_up (seen.telling old.link) new.down P (seen.faults new.link ≡ seen.faults old.link) leads holds;
+}
