@@ -26,3 +26,4 @@ mod Steps
 mod Records
 mod AskedBodies
 mod LostWithLink
+pub mod Crosses
