@@ -27,3 +27,4 @@ mod Steps
 mod Records
 mod AskedBodies
 mod LostWithLink
+pub mod Crosses

@@ -2,3 +2,4 @@ pub mod Planned
 pub mod Taken
 pub mod Books
 pub mod OutcomeTable
+pub mod Notes

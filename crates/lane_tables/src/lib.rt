@@ -4,6 +4,7 @@
 
 mod book;
 pub mod laws;
+mod note;
 mod outcome_table;
 mod rows;
 
