@@ -36,12 +36,7 @@ fn hub_of(alloc: Global, lane: Lane<SimLink>) -> Result<(Hub<SimLink>, Master, S
 }
 
 /// Joins the last seat, and takes the lanes.
-fn finish<R: Wait, L: Link + Send>(
-    rt: &R,
-    hub: Hub<L>,
-    mut master: Master,
-    seat: Seat,
-) -> Vec<Lane<L>>
+fn finish<R: Wait>(rt: &R, hub: Hub<SimLink>, mut master: Master, seat: Seat) -> Vec<Lane<SimLink>>
     requires master { IsMasterOf hub master }
     requires seat { IsSeatOf hub seat × (seat.client ≡ master.seats) }
     requires joined { HasTakenIn seat.client master }
@@ -321,13 +316,13 @@ fn read_all<R: Threads + Wait + Sync, L: Link + Send>(
 }
 
 /// Joins the seats of clients 1 to 4, and takes the lanes.
-fn finish_four<R: Wait, L: Link + Send>(
+fn finish_four<R: Wait>(
     rt: &R,
-    hub: Hub<L>,
+    hub: Hub<SimLink>,
     mut master: Master,
     first: (Seat, Seat),
     second: (Seat, Seat),
-) -> Vec<Lane<L>>
+) -> Vec<Lane<SimLink>>
     requires master { IsMasterOf hub master × (master.seats ≡ 4) }
     requires taken_in { HasTakenIn 1 master }
     requires one { IsSeatOf hub first.0 × (first.0.client ≡ 1) }
