@@ -27,4 +27,3 @@ mod Steps
 mod Records
 mod AskedBodies
 mod LostWithLink
-pub mod Crosses

@@ -14,6 +14,7 @@ use Rattle.transaction_codec.specs.Answer.{reply_room}
 use Rattle.turn_pass.specs.declared.chronicle.Entry.{Entry}
 use Rattle.lane_record.specs.declared.outcome.Outcome.{Outcome}
 use Rattle.lane_record.specs.declared.item.Item.{Item}
+use Rattle.lane_record.specs.declared.item.What.TheVariants.{Plan}
 use Rattle.lane_record.specs.Items.{ask_in, asked, found, is_sealed, plan_in, planned}
 use Rattle.lane_record.specs.NextEntry.{ask_of, plan_of, the_seal, took_of}
 use Rattle.lane_record.proofs.Asks.{get_split}
@@ -449,6 +450,11 @@ book_reserved items more entries longer rows bodies words closed room after i e 
     subst (λ (xs : List Item). IsBook xs longer rows bodies words closed after) (sym i)
     (subst (λ (es : List Entry). IsBook items es rows bodies words closed after) (sym e)
     (book_room items entries rows bodies words closed room after fits is))
+
+pub not_a_plan : (item : Item) (client seq : ℕ) (body : List ℕ) → Some item ≡ Some (plan_of client seq body)
+    → ((b : List ℕ) → item.what ≡ Plan b → ⊥) → ⊥
+not_a_plan item client seq body same other =
+    (let is : item ≡ plan_of client seq body = cc in other body (ap (λ (x : Item). x.what) is))
 
 pub book_asked : (items more : List Item) (entries longer : List Entry) (rows changed : List Row)
     (bodies words : ℕ) (closed : Bool) (room after client seq g : ℕ)

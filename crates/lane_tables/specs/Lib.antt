@@ -2,4 +2,3 @@ pub mod Planned
 pub mod Taken
 pub mod Books
 pub mod OutcomeTable
-pub mod Notes

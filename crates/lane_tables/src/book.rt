@@ -10,10 +10,9 @@ ghost use Rattle.lane_record.specs.NextEntry.{ask_of, plan_of, the_seal, took_of
 ghost use Rattle.lane_record.specs.Coding.{entry_of};
 ghost use Rattle.lane_tables.specs.Planned.{IsFull};
 
-use crate::note::Note;
 use crate::rows::{ClientRow, add_ask, add_plan, add_took, next_place, row_at};
 use ipb_base::{NoMemory, Words};
-use lane_record::Outcome;
+use lane_record::{Item, Outcome, What};
 use std::alloc::Global;
 use std::marker::Model;
 use turn_pass::Entry;
@@ -29,7 +28,7 @@ pub const MAX_WORDS: u64 = 33_554_432;
 pub struct Book {
     alloc: Global,
     entries: Vec<Entry>,
-    items: Vec<Note>,
+    items: Vec<Item>,
     rows: Vec<ClientRow>,
     bodies: u64,
     words: u64,
@@ -124,9 +123,10 @@ impl Book {
         ensures none { IfNone result (asked client self.now.items ≡ planned client self.now.items) }
     {
         let place = next_place(&self.rows, client)?;
-        match self.items[place].body() {
-            Some(body) => Some(body),
-            None => unreachable!(),
+        let item = &self.items[place];
+        match &item.what {
+            What::Plan { body } => Some(body),
+            _ => unreachable!(),
         }
     }
 
@@ -169,7 +169,11 @@ impl Book {
         put(
             &mut self.entries,
             &mut self.items,
-            Note::plan(client, seq, body),
+            Item {
+                client,
+                seq,
+                what: What::Plan { body },
+            },
         );
         Ok(seq)
     }
@@ -180,7 +184,15 @@ impl Book {
         ensures { self.new.items ≡ self.old.items ++ the_seal ∷ [] }
     {
         self.sealed = true;
-        put(&mut self.entries, &mut self.items, Note::seal());
+        put(
+            &mut self.entries,
+            &mut self.items,
+            Item {
+                client: 0,
+                seq: 0,
+                what: What::Seal,
+            },
+        );
     }
 
     /// Adds an Ask of the client's next body, which has this number.
@@ -194,27 +206,55 @@ impl Book {
         put(
             &mut self.entries,
             &mut self.items,
-            Note::ask(client, seq, give_ups),
+            Item {
+                client,
+                seq,
+                what: What::Ask { give_ups },
+            },
         );
     }
 
-    /// Adds a Took of a body that was asked. What became of it is kept for contracts alone.
-    pub fn take(&mut self, client: u32, seq: u64, outcome: &Outcome, give_ups: u64)
+    /// Adds a Took of a body that was asked.
+    pub fn take(&mut self, client: u32, seq: u64, outcome: Outcome, give_ups: u64)
         requires room { 2 ≤ self.old.room }
         requires asked { seq < asked client self.old.items }
-        ensures { self.new.items ≡ self.old.items ++ took_of client seq outcome.now give_ups ∷ [] }
+        ensures { self.new.items ≡ self.old.items ++ took_of client seq outcome give_ups ∷ [] }
     {
         add_took(&mut self.rows, client, seq);
         put(
             &mut self.entries,
             &mut self.items,
-            Note::took(client, seq, outcome, give_ups),
+            Item {
+                client,
+                seq,
+                what: What::Took { outcome, give_ups },
+            },
         );
     }
 }
 
+/// The entry of an item.
+fn entry_of(item: &Item) -> Entry
+    ensures { result ≡ entry_of item.now }
+{
+    let kind = match &item.what {
+        What::Plan { body: _ } => 1,
+        What::Seal => 2,
+        What::Ask { give_ups: _ } => 3,
+        What::Took {
+            outcome: _,
+            give_ups: _,
+        } => 4,
+    };
+    Entry {
+        maker: item.client,
+        kind,
+        seq: item.seq,
+    }
+}
+
 /// Puts an entry at the end, for which there is room.
-fn put(entries: &mut Vec<Entry>, items: &mut Vec<Note>, item: Note)
+fn put(entries: &mut Vec<Entry>, items: &mut Vec<Item>, item: Item)
     requires entries { vec_len entries.old < vec_capacity entries.old }
     requires items { vec_len items.old < vec_capacity items.old }
     ensures entries { entries.new.items ≡ entries.old.items ++ entry_of item ∷ [] }
@@ -224,6 +264,6 @@ fn put(entries: &mut Vec<Entry>, items: &mut Vec<Note>, item: Note)
     ensures entries_capacity { vec_capacity entries.old ≤ vec_capacity entries.new }
     ensures items_capacity { vec_capacity items.old ≤ vec_capacity items.new }
 {
-    entries.push_reserved(item.entry());
+    entries.push_reserved(entry_of(&item));
     items.push_reserved(item);
 }

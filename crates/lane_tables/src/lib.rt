@@ -4,7 +4,6 @@
 
 mod book;
 pub mod laws;
-mod note;
 mod outcome_table;
 mod rows;
 

@@ -63,7 +63,7 @@ invariant_of-self-2 g c =
     let status : BoardStatus = record { mtu = l.mtu; buffers = l.buffers; next = l.first } in
     let items = l.book.items in
     let outcomes = l.outcomes.items in
-    let kept_is = c.in_ok-answer.answer in
+    let kept_is = c.in_ok-kept.kept in
     let x = took_of c.args.client c.args.seq kept_is l.give_ups in
     let was = subst (λ (v : LaneState _). WasAsked v.items c.args.client c.args.seq) (sym c.self.view_is)
     c.requires.asked in
@@ -72,7 +72,7 @@ invariant_of-self-2 g c =
     c.of_client.ensures at (asked_there items l.outcomes.bodies c.args.client c.args.seq at was.untaken.claim
     c.self.invariant.3 was.untaken.ask) in
     let became : slice_get outcomes at ≡ Some (Some kept_is) = there ∙ ap (λ (o : Option Outcome). Some o)
-    (c.in-Some.is ∙ ap (λ (o : Outcome). Some o) (sym c.in_ok-answer.ensures)) in
+    (c.in-Some.is ∙ ap (λ (o : Outcome). Some o) (sym c.in_ok-kept.ensures)) in
     let entry : c.take.new.self.items ≡ items ++ x ∷ [] =
     c.take.ensures ∙ ap (λ (xs : List Item). xs ++ x ∷ []) c.in_ok-reserve.ensures.items in (
       subst (λ (xs : List Item). IsLane l.settings status l.engine xs outcomes l.outcomes.lates l.give_ups l.down
@@ -112,8 +112,11 @@ returns-clause-taken g c =
     c.self.invariant.3 was.untaken.ask) in
     let became : slice_get outcomes at ≡ Some (Some answer) = there ∙ ap (λ (o : Option Outcome). Some o)
     (c.in-Some.is ∙ ap (λ (o : Outcome). Some o) (sym c.in_ok-answer.ensures)) in
+    let same : c.in_ok-kept.kept ≡ answer = c.in_ok-kept.ensures ∙ sym c.in_ok-answer.ensures in
     let entry : c.take.new.self.items ≡ items ++ x ∷ [] =
-    c.take.ensures ∙ ap (λ (xs : List Item). xs ++ x ∷ []) c.in_ok-reserve.ensures.items in
+    c.take.ensures ∙ (ap (λ (o : Outcome). c.reserve.new.self.items ++ took_of c.args.client c.args.seq o l.give_ups ∷
+    [])
+    same ∙ ap (λ (xs : List Item). xs ++ x ∷ []) c.in_ok-reserve.ensures.items) in
     subst (λ (v : LaneState _). Takes v c.args.client c.args.seq (record {
       link = l.link;
       settings = l.settings;

@@ -1,7 +1,4 @@
-use denote.Param.Send.{sendable}
 use Rattle.std.proofs.Common.{◌+◌, sym, subst}
-use Rattle.std.proofs.Crossing.{crosses}
-use Rattle.hub_lane.proofs.Crosses.{lane_send}
 use Rattle.hub_multiplexer.specs.Ends.{HasTakenIn}
 use Rattle.hub_multiplexer.specs.Seats.{MasterState}
 use Rattle.hub_multiplexer.proofs.Everyone.{all_taken_in}
@@ -14,6 +11,3 @@ close_all-requires-clause-last g c κs within =
     last_of (c.master.inside.seats + 1) c.master.inside.passes.items master.firsts master.no_entries
     (all_taken_in c.master.inside.seats c.master.inside.passes.items master.firsts
     (subst (λ (m : MasterState). HasTakenIn (m.seats + 1) m) (sym c.master.view_is) c.requires.joined))
-
-pub close_all-requires-send-V : goal.close_all-requires-send-V
-close_all-requires-send-V g c κs within = search (lane_send, sendable, crosses)

@@ -1,8 +1,5 @@
-use denote.Param.Send.{sendable}
 use Rattle.std.proofs.Common.{rules, ◌≡◌, length, map, vec_len, ap, sym, ◌∙◌}
-use Rattle.std.proofs.Crossing.{crosses}
 use Rattle.std.proofs.lemmas.List.{length-map}
-use Rattle.hub_lane.proofs.Crosses.{lane_send}
 use Rattle.turn_pass.specs.Pass.{first_knowledge}
 use Rattle.hub_multiplexer.specs.Lanes.{shown}
 use Rattle.hub_multiplexer.specs.Seats.{MasterState}
@@ -30,9 +27,3 @@ invariant_of-hub g c =
     c.in-Ok-bells_of.ensures.bells
     ∙ sym (turns_opened _ _ _ c.in-Ok-open_all.ensures.opened
     ∙ (ap length c.bells_of.ensures.shown ∙ length-map c.args.lanes.items (shown g.L.Link.telling)))
-
-pub room_for-requires-send-T : goal.room_for-requires-send-T
-room_for-requires-send-T g c κs within = search (lane_send, sendable, crosses)
-
-pub open_all-requires-send-V : goal.open_all-requires-send-V
-open_all-requires-send-V g c κs within = search (lane_send, sendable, crosses)

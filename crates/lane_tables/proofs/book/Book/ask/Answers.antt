@@ -1,6 +1,4 @@
-use Rattle.std.proofs.Common.{◌≡◌, ◌≤◌, ◌++◌, ◌∷◌, [], sym, subst, arith, ap, ◌∙◌}
-use Rattle.lane_record.specs.declared.item.Item.{Item}
-use Rattle.lane_record.specs.Coding.{entry_of}
+use Rattle.std.proofs.Common.{◌≡◌, ◌≤◌, sym, subst, arith, ap, ◌∙◌}
 use Rattle.lane_record.specs.Items.{asked}
 use Rattle.lane_tables.specs.Books.{BookState, HasMorePlans, room_of}
 use Rattle.lane_tables.proofs.Books.{book_asked, has_next}
@@ -31,7 +29,5 @@ invariant_of-self c =
     ) in
     book_asked b.items.items c.put.new.items.items b.entries.items c.put.new.entries.items b.rows.items
     c.add_ask.new.rows.items b.bodies b.words b.sealed _ after
-    c.args.client c.args.seq c.args.give_ups c.self.invariant seq more
-    (c.put.ensures.items ∙ ap (λ (i : Item). b.items.items ++ i ∷ []) c.ask.ensures)
-    (c.put.ensures.entries ∙ ap (λ (i : Item). b.entries.items ++ entry_of i ∷ []) c.ask.ensures)
+    c.args.client c.args.seq c.args.give_ups c.self.invariant seq more c.put.ensures.items c.put.ensures.entries
     c.add_ask.ensures enough

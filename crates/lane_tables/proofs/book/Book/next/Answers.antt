@@ -1,11 +1,11 @@
-use Rattle.std.proofs.Common.{◌≡◌, ◌∙◌, sym, ap, arith, subst, Some, None, IfNone}
+use Rattle.std.proofs.Common.{◌≡◌, ◌∙◌, sym, ap, arith, subst, Some, None}
 use Rattle.std.specs.List.{slice_get}
 use Rattle.std.proofs.lemmas.Option.{slice_get-get_or}
 use Rattle.world_model.proofs.Lists.{get_within}
 use Rattle.lane_record.specs.declared.item.Item.{Item}
 use Rattle.lane_record.specs.Items.{asked, found, plan_in, planned}
 use Rattle.lane_tables.specs.Books.{BookState, next_of, row_of}
-use Rattle.lane_tables.proofs.Books.{next_none, next_some, plan_same}
+use Rattle.lane_tables.proofs.Books.{next_none, next_some, not_a_plan, plan_same}
 use Rattle.lane_tables.proofs.book.Book.next.Goals as goal
 
 pub returns-in_err-place-clause-none : goal.returns-in_err-place-clause-none
@@ -18,8 +18,8 @@ returns-in_err-place-clause-none c =
     rw c.from_residual.ensures (subst (λ (v : BookState). asked c.args.client v.items ≡ planned c.args.client v.items)
     c.self.view_is same)
 
-pub index-requires : goal.index-requires
-index-requires c =
+pub index-item-requires : goal.index-item-requires
+index-item-requires c =
     let there = sym c.next_place.ensures ∙ c.in_ok-place.was in
     let at = next_some c.self.inside.items.items c.args.client c.in_ok-place.place
     (row_of c.args.client c.self.inside.rows.items) (c.self.invariant.rows_are c.args.client) there in
@@ -33,13 +33,11 @@ unreachable-requires c =
     let there = sym c.next_place.ensures ∙ c.in_ok-place.was in
     let at = next_some items c.args.client place
     (row_of c.args.client c.self.inside.rows.items) (c.self.invariant.rows_are c.args.client) there in
-    let item = c.index.result.now in
+    let item = c.index-item.result.now in
     let here : slice_get items place ≡ Some item =
     slice_get-get_or items place item (get_within items place _ at.there)
-    ∙ ap (λ (x : Item). Some x) (sym c.index.ensures) in
-    let plan = plan_same item c.args.client (asked c.args.client items) at.body (sym here ∙ at.there) in
-    let none : plan_in item.what ≡ None = subst (λ o. IfNone o (plan_in item.what ≡ None)) c.in-None.is c.body.ensures.none in
-    absurd (cc)
+    ∙ ap (λ (x : Item). Some x) (sym c.index-item.ensures) in
+    not_a_plan item c.args.client (asked c.args.client items) at.body (sym here ∙ at.there) c.in_default.not-Plan
 
 pub returns-clause-some : goal.returns-clause-some
 returns-clause-some c =
@@ -48,10 +46,11 @@ returns-clause-some c =
     let there = sym c.next_place.ensures ∙ c.in_ok-place.was in
     let at = next_some items c.args.client place
     (row_of c.args.client c.self.inside.rows.items) (c.self.invariant.rows_are c.args.client) there in
-    let item = c.index.result.now in
+    let item = c.index-item.result.now in
     let here : slice_get items place ≡ Some item =
     slice_get-get_or items place item (get_within items place _ at.there)
-    ∙ ap (λ (x : Item). Some x) (sym c.index.ensures) in
+    ∙ ap (λ (x : Item). Some x) (sym c.index-item.ensures) in
     let plan = plan_same item c.args.client (asked c.args.client items) at.body (sym here ∙ at.there) in
-    subst (λ (v : BookState). found plan_in c.args.client (asked c.args.client v.items) v.items
-    ≡ Some c.in-Some.body.now) c.self.view_is (at.first ∙ (sym plan ∙ c.in-Some.ensures.some))
+    let body : Some at.body ≡ Some c.in-Plan.body = sym plan ∙ ap plan_in c.in-Plan.is in
+    subst (λ (v : BookState). found plan_in c.args.client (asked c.args.client v.items) v.items ≡ Some c.in-Plan.body)
+    c.self.view_is (at.first ∙ body)

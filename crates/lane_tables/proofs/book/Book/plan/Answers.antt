@@ -1,9 +1,7 @@
-use Rattle.std.proofs.Common.{◌≡◌, ◌≤◌, sym, subst, arith, ap, ◌∙◌, refl, ◌+◌, ◌++◌, ◌∷◌, []}
+use Rattle.std.proofs.Common.{◌≡◌, ◌≤◌, sym, subst, arith, ap, ◌∙◌, refl, ◌+◌}
 use Rattle.std.proofs.Common.{length}
 use Rattle.transaction_codec.specs.Answer.{reply_room}
 use Rattle.lane_tables.specs.Planned.{IsFull}
-use Rattle.lane_record.specs.declared.item.Item.{Item}
-use Rattle.lane_record.specs.Coding.{entry_of}
 use Rattle.lane_record.specs.Items.{planned}
 use Rattle.lane_tables.specs.Books.{BookState, room_of}
 use Rattle.lane_tables.proofs.Books.{book_planned}
@@ -32,7 +30,5 @@ invariant_of-self-2 c =
     book_planned b.items.items c.put.new.items.items b.entries.items c.put.new.entries.items b.rows.items
     c.add_plan.new.rows.items b.bodies b.words (b.bodies + 1) (b.words + (c.len.result + c.from.result))
     b.sealed _ after c.args.client c.planned-seq.result c.len-2.result c.args.body c.self.invariant seq few
-    (c.put.ensures.items ∙ ap (λ (i : Item). b.items.items ++ i ∷ []) c.plan.ensures)
-    (c.put.ensures.entries ∙ ap (λ (i : Item). b.entries.items ++ entry_of i ∷ []) c.plan.ensures)
-    (omega (arith, c.len-2.ensures)) c.in_ok-add_plan.ensures.ok refl
+    c.put.ensures.items c.put.ensures.entries (omega (arith, c.len-2.ensures)) c.in_ok-add_plan.ensures.ok refl
     (omega (arith, c.len.ensures, c.from.ensures, c.requires.reply)) enough

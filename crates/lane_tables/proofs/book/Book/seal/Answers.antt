@@ -1,6 +1,5 @@
-use Rattle.std.proofs.Common.{List, true, sym, subst, ap, ◌∙◌, ◌++◌, ◌∷◌, []}
+use Rattle.std.proofs.Common.{List, true, sym, subst}
 use Rattle.lane_record.specs.declared.item.Item.{Item}
-use Rattle.lane_record.specs.Coding.{entry_of}
 use Rattle.lane_tables.specs.Books.{IsBook, room_of}
 use Rattle.lane_tables.proofs.Books.{book_seal}
 use Rattle.lane_tables.proofs.book.Book.seal.Goals as goal
@@ -11,7 +10,6 @@ invariant_of-self c =
     let after = room_of c.put.new.items.cap c.put.new.items.len c.put.new.entries.cap c.put.new.entries.len
     in
     subst (λ (items : List Item). IsBook items c.put.new.entries.items b.rows.items b.bodies b.words true
-    after) (sym (c.put.ensures.items ∙ ap (λ (i : Item). b.items.items ++ i ∷ []) c.seal.ensures))
+    after) (sym c.put.ensures.items)
     (book_seal b.items.items b.entries.items b.rows.items b.bodies b.words b.sealed _ c.self.invariant
-    c.put.new.entries.items after
-    (c.put.ensures.entries ∙ ap (λ (i : Item). b.entries.items ++ entry_of i ∷ []) c.seal.ensures))
+    c.put.new.entries.items after c.put.ensures.entries)

@@ -1,6 +1,5 @@
-use Rattle.std.proofs.Common.{◌≡◌, ◌≤◌, ◌<◌, ◌∙◌, ◌++◌, ◌∷◌, [], List, sym, subst, arith, ap}
+use Rattle.std.proofs.Common.{◌≤◌, ◌<◌, ◌++◌, ◌∷◌, [], List, sym, subst, arith, ap}
 use Rattle.lane_record.specs.declared.item.Item.{Item}
-use Rattle.lane_record.specs.Coding.{entry_of}
 use Rattle.lane_record.specs.Items.{asked}
 use Rattle.lane_record.specs.NextEntry.{took_of}
 use Rattle.lane_tables.specs.Books.{BookState, IsBook, Row, room_of}
@@ -17,13 +16,9 @@ invariant_of-self c =
     let b = c.self.inside in
     let below = subst (λ (v : BookState). c.args.seq < asked c.args.client v.items) (sym c.self.view_is)
     c.requires.asked in
-    let x = took_of c.args.client c.args.seq c.args.outcome.now c.args.give_ups in
+    let x = took_of c.args.client c.args.seq c.args.outcome c.args.give_ups in
     let after = room_of c.put.new.items.cap c.put.new.items.len c.put.new.entries.cap c.put.new.entries.len
     in
-    let items_are : c.put.new.items.items ≡ b.items.items ++ x ∷ [] =
-    c.put.ensures.items ∙ ap (λ (i : Item). b.items.items ++ i ∷ []) c.took.ensures in
-    let entries_are : c.put.new.entries.items ≡ b.entries.items ++ entry_of x ∷ [] =
-    c.put.ensures.entries ∙ ap (λ (i : Item). b.entries.items ++ entry_of i ∷ []) c.took.ensures in
     let room = ap (λ (v : BookState). v.room) c.self.view_is in
     let enough : 1 ≤ after = omega (
       arith,
@@ -35,10 +30,10 @@ invariant_of-self c =
       c.put.ensures.entries_capacity,
     ) in
     subst (λ (items : List Item). IsBook items c.put.new.entries.items c.add_took.new.rows.items b.bodies
-    b.words b.sealed after) (sym items_are)
+    b.words b.sealed after) (sym c.put.ensures.items)
     (subst (λ (rows : List Row). IsBook (b.items.items ++ x ∷ []) c.put.new.entries.items rows b.bodies
     b.words b.sealed after)
     (sym c.add_took.ensures)
     (book_took b.items.items b.entries.items b.rows.items b.bodies b.words b.sealed _ c.self.invariant
-    c.args.client c.args.seq c.args.outcome.now c.args.give_ups c.put.new.entries.items after below entries_are
+    c.args.client c.args.seq c.args.outcome c.args.give_ups c.put.new.entries.items after below c.put.ensures.entries
     enough))
