@@ -12,7 +12,7 @@ use Rattle.script_plans.specs.declared.board_run.BoardRun.{BoardRun}
 use Rattle.script_plans.specs.declared.board_run.ClientPart.{ClientPart}
 use Rattle.lane_history.specs.Links.{IsUntouched, LinkReport}
 use Rattle.lane_history.specs.Runs.{AreRunsOver, IsRunOver}
-use Rattle.board_greeting.specs.Boards.{AreFreshLinks, HasRoom, IsFreshLink}
+use Rattle.board_greeting.specs.Boards.{AreFreshLinks, LeavesRoom, IsFreshLink}
 use Rattle.session_run.specs.Boards.{OnRun}
 use Rattle.session_run.specs.Places.{AreCameOf, IsCameOf}
 use Rattle.board_greeting.specs.declared.rejoined.Board.{Board}
@@ -110,7 +110,7 @@ some_left shows settings scripts k specs (b ∷ boards) came within = omega arit
 
 pub room_for_one : {L : Type 0} (shows : L → LinkReport) (settings : Limits) (k : ℕ) (specs : List BoardSpec)
     (scripts : List (List Step)) (runs : List BoardRun) (is_whole : Bool) (kept now : List L) (made : ℕ)
-    → RanBoards shows settings k specs scripts runs is_whole kept now → HasRoom (length kept) made (length specs)
+    → RanBoards shows settings k specs scripts runs is_whole kept now → LeavesRoom (length kept) made (length specs)
     → k < length specs → length now < made
 room_for_one shows settings k specs scripts runs is_whole kept now made so_far (inl none) within =
     absurd (omega (arith, none, within))

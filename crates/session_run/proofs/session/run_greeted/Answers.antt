@@ -2,7 +2,7 @@ use Rattle.std.proofs.Common.{◌≡◌, ◌∙◌, ℕ, List, Vec, ap, length, 
 use Rattle.std.proofs.lemmas.List.{length-map}
 use Rattle.hub_lane.specs.declared.greeting.Greeted.{Greeted}
 use Rattle.hub_lane.specs.Greeting.{link_of}
-use Rattle.board_greeting.specs.Boards.{AreReached, HasRoom}
+use Rattle.board_greeting.specs.Boards.{AreReached, LeavesRoom}
 use Rattle.board_greeting.specs.Reports.{shown_by}
 use Rattle.board_greeting.proofs.Boards.{fresh_links}
 use Rattle.session_run.proofs.Sessions.{fresh_are_left}
@@ -19,7 +19,7 @@ run_split-requires-clause-reached g c κs within = record {
 
 pub keep_all-requires-clause-room : goal.keep_all-requires-clause-room
 keep_all-requires-clause-room g c κs within =
-    subst (λ (n : ℕ). HasRoom (length (g.R.Rack.kept c.args.rack.now)) (length (g.R.Rack.made c.args.rack.now)) n)
+    subst (λ (n : ℕ). LeavesRoom (length (g.R.Rack.kept c.args.rack.now)) (length (g.R.Rack.made c.args.rack.now)) n)
     (sym (ap (λ (v : Vec (Greeted _) _). length v.items) c.in-Err.ensures.given_back ∙ c.requires.all)) c.requires.room
 
 pub returns-in-Err-clause-left : goal.returns-in-Err-clause-left

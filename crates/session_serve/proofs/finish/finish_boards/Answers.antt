@@ -1,7 +1,7 @@
 use Rattle.std.proofs.Common.{rules, ◌≡◌, ◌∙◌, ◌+◌, ◌++◌, ◌∷◌, [], ℕ, List, ap, length, length-append, refl, subst}
 use Rattle.std.proofs.Common.{arith}
 use Rattle.std.specs.Vec.Iter.{into_iter_items}
-use Rattle.board_greeting.specs.Boards.{HasRoom}
+use Rattle.board_greeting.specs.Boards.{LeavesRoom}
 use Rattle.board_greeting.proofs.Boards.{room_for_less, room_for_one}
 use Rattle.session_serve.specs.Finish.{link_in}
 use Rattle.session_serve.proofs.Finishing.{all_finished, none_finished, one_finished, some_left}
@@ -39,7 +39,7 @@ keep-requires g c =
     let kept = length (g.R.Rack.kept c.loop-name.rack) in
     let made = length (g.R.Rack.made c.loop-name.rack) in
     let one = room_for_one kept made (length c.next-board.new.self)
-    (subst (λ (n : ℕ). HasRoom kept made n) (ap (λ l. length l) c.next-board.ensures) c.loop-name.invariant.room) in
+    (subst (λ (n : ℕ). LeavesRoom kept made n) (ap (λ l. length l) c.next-board.ensures) c.loop-name.invariant.room) in
     omega (arith, one)
 
 pub loop-name-preserved : goal.loop-name-preserved
@@ -63,7 +63,7 @@ loop-name-preserved g c =
       room = room_for_less (length kept) (length (g.R.Rack.kept c.keep.new.self)) made
           (length (g.R.Rack.made c.keep.new.self)) (length c.next-board.new.self) one
           (ap (λ l. length l) c.keep.ensures.made)
-          (subst (λ (n : ℕ). HasRoom (length kept) made n) (ap (λ l. length l) c.next-board.ensures)
+          (subst (λ (n : ℕ). LeavesRoom (length kept) made n) (ap (λ l. length l) c.next-board.ensures)
           c.loop-name.invariant.room);
       place = (let len = c.push_reserved.ensures.len in let cap = c.push_reserved.ensures.capacity in
           let before = c.loop-name.invariant.place in omega (arith, len, cap, before, steps));

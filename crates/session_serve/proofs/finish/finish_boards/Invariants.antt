@@ -1,6 +1,6 @@
 use Rattle.std.proofs.Common.{◌≡◌, ◌≤◌, ◌+◌, length, vec_len, vec_capacity}
 use Rattle.std.specs.Vec.Iter.{into_iter_items}
-use Rattle.board_greeting.specs.Boards.{HasRoom}
+use Rattle.board_greeting.specs.Boards.{LeavesRoom}
 use Rattle.session_serve.proofs.Finishing.{FinishedSoFar}
 use Rattle.session_serve.proofs.finish.finish_boards.Given as goal
 
@@ -11,7 +11,7 @@ invariant-loop-name g l =
     record {
       so_far : FinishedSoFar link l.fn.names.items l.fn.boards (into_iter_items l.name-iterator) l.boards l.lines.items
           (g.R.Rack.kept l.fn.rack) (g.R.Rack.kept l.rack);
-      room : HasRoom (length (g.R.Rack.kept l.rack)) (length (g.R.Rack.made l.rack)) (length l.boards);
+      room : LeavesRoom (length (g.R.Rack.kept l.rack)) (length (g.R.Rack.made l.rack)) (length l.boards);
       place : vec_len l.lines + length (into_iter_items l.name-iterator) ≤ vec_capacity l.lines;
       made : g.R.Rack.made l.rack ≡ g.R.Rack.made l.fn.rack;
       faults : g.R.Rack.faults l.rack ≡ g.R.Rack.faults l.fn.rack;

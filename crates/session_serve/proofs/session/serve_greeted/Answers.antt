@@ -2,7 +2,7 @@ use Rattle.std.proofs.Common.{◌≡◌, ◌∙◌, [], ℕ, List, Vec, ap, leng
 use Rattle.std.proofs.lemmas.List.{length-map}
 use Rattle.hub_lane.specs.declared.greeting.Greeted.{Greeted}
 use Rattle.hub_lane.specs.Greeting.{link_of}
-use Rattle.board_greeting.specs.Boards.{AreReached, HasRoom}
+use Rattle.board_greeting.specs.Boards.{AreReached, LeavesRoom}
 use Rattle.board_greeting.specs.Reports.{shown_by}
 use Rattle.session_serve.specs.Prepared.{IsPrepared, told_by}
 use Rattle.session_serve.proofs.Executing.{greeted_untouched, none_executed}
@@ -12,7 +12,7 @@ use Rattle.session_serve.proofs.session.serve_greeted.Goals as goal
 
 pub keep_all-requires-clause-room : goal.keep_all-requires-clause-room
 keep_all-requires-clause-room g c κs within =
-    subst (λ (n : ℕ). HasRoom (length (g.R.Rack.kept c.args.rack.now)) (length (g.R.Rack.made c.args.rack.now)) n)
+    subst (λ (n : ℕ). LeavesRoom (length (g.R.Rack.kept c.args.rack.now)) (length (g.R.Rack.made c.args.rack.now)) n)
     (sym c.requires.all) c.requires.room
 
 pub returns-in_default-clause-links : goal.returns-in_default-clause-links
@@ -52,7 +52,7 @@ serve_split-requires-clause-ready g c κs within = record {
 
 pub keep_all-requires-in-Err-clause-room : goal.keep_all-requires-in-Err-clause-room
 keep_all-requires-in-Err-clause-room g c κs within =
-    subst (λ (n : ℕ). HasRoom (length (g.R.Rack.kept c.args.rack.now)) (length (g.R.Rack.made c.args.rack.now)) n)
+    subst (λ (n : ℕ). LeavesRoom (length (g.R.Rack.kept c.args.rack.now)) (length (g.R.Rack.made c.args.rack.now)) n)
     (sym (ap (λ (v : Vec (Greeted _) _). length v.items) c.in-Err.ensures.given_back ∙ c.requires.all)) c.requires.room
 
 pub returns-in-Err-clause-links : goal.returns-in-Err-clause-links

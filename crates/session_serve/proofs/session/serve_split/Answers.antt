@@ -6,7 +6,7 @@ use Rattle.ipb_outside.specs.Pairs.{GivesBack}
 use Rattle.hub_session.specs.declared.served.Served.{Served}
 use Rattle.hub_session.specs.Serving.{IsLaneBelow}
 use Rattle.client_threads.specs.Running.{AtEach}
-use Rattle.board_greeting.specs.Boards.{HasNoEntry, HasRoom}
+use Rattle.board_greeting.specs.Boards.{HasNoEntry, LeavesRoom}
 use Rattle.board_greeting.specs.Reports.{shown_by}
 use Rattle.board_greeting.specs.Places.{HaveLanes, lanes_in, place_of, rejoined}
 use Rattle.board_greeting.proofs.Lanes.{lanes_unused}
@@ -87,7 +87,7 @@ finish_boards-requires-clause-room g c κs within =
     c.serve_at_hub-lanes.ensures.heads in
     let is = c.of-boards.ensures ∙ (ap (λ p. rejoined p news c.new.result.items) apart.apart.places'
     ∙ ap (λ l. rejoined (map place_of boards) news l) c.new.ensures.items) in
-    subst (HasRoom (length (g.R.Rack.kept c.args.rack.now)) (length (g.R.Rack.made c.args.rack.now)))
+    subst (LeavesRoom (length (g.R.Rack.kept c.args.rack.now)) (length (g.R.Rack.made c.args.rack.now)))
     (sym (ap (λ l. length l) is ∙ (rejoined_long _ _ boards news heads.long ∙ apart.all))) c.requires.room
 
 pub returns-in-Err-clause-links : goal.returns-in-Err-clause-links
