@@ -1,5 +1,5 @@
 use Rattle.std.proofs.Common.{◌≡◌, ◌∙◌, ◌++◌, List, [], ap, arith, length, map}
-use Rattle.std.proofs.Common.{IfOk-weaker}
+use Rattle.std.proofs.lemmas.Result.{IfOk-weaker}
 use Rattle.board_greeting.specs.Reports.{shown_by}
 use Rattle.board_greeting.proofs.Boards.{made_still}
 use Rattle.session_serve.proofs.Executing.{none_executed}
@@ -8,8 +8,8 @@ use Rattle.session_serve.proofs.Reporting.{untouched_links}
 use Rattle.session_serve.proofs.session.serve_session.Goals as goal
 
 -- what stands behind a list stands behind what the list was before
-since_then : {L : Type 0} {before old new links : List L} → new ≡ old ++ links → old ≡ before → new ≡ before ++ links
-since_then {L} {before} {old} {new} {links} behind same = behind ∙ ap (λ (l : List L). l ++ links) same
+since_then : {L : Type 0} (before old new links : List L) → new ≡ old ++ links → old ≡ before → new ≡ before ++ links
+since_then {L} before old new links behind same = behind ∙ ap (λ (l : List L). l ++ links) same
 
 pub returns-in_err-boards-clause-links : goal.returns-in_err-boards-clause-links
 returns-in_err-boards-clause-links g c =
@@ -34,7 +34,7 @@ returns-in_err-boards-clause-untouched g c =
 
 pub returns-clause-served : goal.returns-clause-served
 returns-clause-served g c =
-    IfOk-weaker c.serve_greeted.result _ _ (λ report is. (is.0, since_then is.1 c.in_ok-boards.ensures.kept, is.2))
+    IfOk-weaker c.serve_greeted.result _ _ (λ report is. (is.0, since_then _ _ _ is.0 is.1 c.in_ok-boards.ensures.kept, is.2))
     c.serve_greeted.ensures.served
 
 pub returns-clause-links : goal.returns-clause-links
@@ -42,7 +42,7 @@ returns-clause-links g c =
     let shows = shown_by g.R.L.Link in
     let left = c.serve_greeted.ensures.links in (
       left.0,
-      since_then left.1 c.in_ok-boards.ensures.kept,
+      since_then _ _ _ left.0 left.1 c.in_ok-boards.ensures.kept,
       (
         left.2.0,
         made_still c.args.specs.now (length c.args.specs.now) (length (map shows left.0))
@@ -76,4 +76,4 @@ returns-in_err-boards-clause-in_frames g c =
 pub returns-clause-in_frames : goal.returns-clause-in_frames
 returns-clause-in_frames g c =
     let is = c.serve_greeted.ensures.in_frames in
-    (is.0, since_then is.1 c.in_ok-boards.ensures.kept, is.2)
+    (is.0, since_then _ _ _ is.0 is.1 c.in_ok-boards.ensures.kept, is.2)
