@@ -5,8 +5,9 @@ use Rattle.std.proofs.lemmas.Option.{same_Some}
 use Rattle.std.proofs.lemmas.Slice.Eq.{bytes_eq-Decides}
 use Rattle.std.specs.List.{AllByRecursion, list_all}
 use Rattle.std.specs.Str.{bytes_eq}
+use Rattle.ipb_base.specs.Lists.{first_named}
 use Rattle.clap.specs.Walk.{Text, answers_to}
-use Rattle.command_words.specs.Commands.{alone, command_of_one, first_named}
+use Rattle.command_words.specs.Commands.{alone, command_of_one}
 use Rattle.command_words.specs.Forms.{IsAlone, names_alone}
 use Rattle.command_words.specs.declared.command.Command.{Command}
 

@@ -3,6 +3,7 @@ use Rattle.std.specs.Prelude.{ℕ, Bool, false, not, ◌&&◌, ◌==◌, if◌th
 use Rattle.std.specs.Prelude.{option_and_then}
 use Rattle.std.specs.Str.{bytes_eq}
 use Rattle.ipb_base.specs.Digits.{digits_number, is_between}
+use Rattle.ipb_base.specs.Lists.{first_named}
 use Rattle.command_words.specs.declared.command.Command.{Command}
 use Rattle.command_words.specs.declared.command.Command.TheVariants.{Run, Check, Serve, Load, Audit}
 use Rattle.command_words.specs.declared.command.Command.TheVariants.{Record, Describe, Undescribe, Save, Apply}
@@ -32,11 +33,6 @@ alone =
     ∷ (codes "save", Save)
     ∷ (codes "apply", Apply)
     ∷ []
-
--- the first command that has this name
-abbrev pub first_named : List (List ℕ × Command) → List ℕ → Option Command
-first_named [] word = None
-first_named (one ∷ others) word = if bytes_eq one.0 word then Some one.1 else first_named others word
 
 abbrev pub command_of_one : List ℕ → Option Command
 command_of_one word = first_named alone word

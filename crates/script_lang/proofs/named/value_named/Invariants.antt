@@ -1,5 +1,5 @@
 use Rattle.std.proofs.Common.{◌≡◌, drop, map}
-use Rattle.script_lang.specs.Named.{first_named}
+use Rattle.ipb_base.specs.Lists.{first_named}
 use Rattle.script_lang.proofs.named.value_named.Given as goal
 
 -- it stands under one of the names that are left
