@@ -15,15 +15,16 @@ use Rattle.world_model.proofs.OpenPlaces.{named, none_named}
 use Rattle.reliable_engine.specs.Answers.{IsOpen}
 use Rattle.reliable_engine.specs.Events.{IsAtRest}
 use Rattle.world_model.specs.Settings.{Limits}
+use Rattle.world_core.specs.declared.link.Link.{Ghosts}
 use Rattle.world_core.specs.Telling.{IfTelling, IsGot, IsQuiet, IsSent, Telling}
 use Rattle.lane_record.specs.declared.outcome.Outcome.{Outcome}
 use Rattle.recovery_laws.specs.UnderWay.{CanRecover, IsUnderWay}
 use Rattle.hub_lane.specs.declared.answers.Pumped.{Pumped}
 use Rattle.hub_lane.specs.declared.answers.Pumped.TheVariants.{Reply, Status, Stray, Quiet, Idle, LinkDown}
 use Rattle.hub_lane.specs.Below.{WayLaws}
-use Rattle.hub_lane.specs.Calls.{SendsAs, has_stopped}
+use Rattle.hub_lane.specs.Calls.{SendsAs}
 use Rattle.hub_lane.specs.Hearing.{EndsRound, IsHeardAs, IsStray, SettlesPlace}
-use Rattle.hub_lane.specs.Lanes.{LaneState, board_of}
+use Rattle.hub_lane.specs.Lanes.{LaneState}
 use Rattle.hub_lane.specs.Rounds.{AreCalls, EndsInSilence, HasPaid, IsCall, KeepsRound, LaneCall, LaneRound, PaysOn}
 use Rattle.hub_lane.specs.Rounds.{PaysRounds, Pumps, RoundAfter, RoundFor, RoundState, Sends, SettlesOne, in_round}
 use Rattle.hub_lane.specs.Rounds.{round_of}
@@ -53,13 +54,6 @@ pub same_link : (S : Telling → Telling → Type 0) (telling : Option Telling) 
     → IfTelling telling telling S
 same_link S None leads = tt
 same_link S (Some t) leads = leads t
-
-pub same_board : (S : Telling → Telling → Type 0) (old new : Option Telling) → board_of new ≡ board_of old
-    → ((t u : Telling) → S t u) → IfTelling old new S
-same_board S None None same leads = tt
-same_board S None (Some u) same leads = absurd cc
-same_board S (Some t) None same leads = absurd cc
-same_board S (Some t) (Some u) same leads = leads t u
 
 -- ---- two calls, one after the other
 
@@ -357,46 +351,33 @@ sends_up {L} old new sends up = elim sends [
   | inr went ↦ went.0
 ]
 
-pub asked_round : {L : Type 0} (telling : L → Option Telling) (held : L → ℕ) (old mid new : LaneState L)
-    → held old.link ≤ held mid.link → held mid.link ≤ held new.link → SendsAs mid new
-    → LaneRound telling held Sends old mid → LaneRound telling held Sends mid new
-    → LaneRound telling held Sends old new
-asked_round telling held old mid new le more sends first later =
+pub asked_round : {L : Type 0} (seen : Ghosts L) (old mid new : LaneState L)
+    → seen.held old.link ≤ seen.held mid.link → seen.held mid.link ≤ seen.held new.link → SendsAs mid new
+    → LaneRound seen Sends old mid → LaneRound seen Sends mid new
+    → LaneRound seen Sends old new
+asked_round seen old mid new le more sends first later =
     called_twice
-    (λ s t. RoundAfter Sends (round_of old (held old.link) s) (round_of mid (held mid.link) t))
-    (λ t u. RoundAfter Sends (round_of mid (held mid.link) t) (round_of new (held new.link) u))
-    (λ s u. RoundAfter Sends (round_of old (held old.link) s) (round_of new (held new.link) u))
-    (telling old.link) (telling mid.link) (telling new.link) first later
-    (λ s t u one other up. keeps_after (round_of old (held old.link) s) (round_of mid (held mid.link) t)
-    (round_of new (held new.link) u) le more (one (sends_up mid new sends up)) (other up))
+    (λ s t. RoundAfter Sends (round_of old (seen.held old.link) s) (round_of mid (seen.held mid.link) t))
+    (λ t u. RoundAfter Sends (round_of mid (seen.held mid.link) t) (round_of new (seen.held new.link) u))
+    (λ s u. RoundAfter Sends (round_of old (seen.held old.link) s) (round_of new (seen.held new.link) u))
+    (seen.telling old.link) (seen.telling mid.link) (seen.telling new.link) first later
+    (λ s t u one other up. keeps_after (round_of old (seen.held old.link) s) (round_of mid (seen.held mid.link) t)
+    (round_of new (seen.held new.link) u) le more (one (sends_up mid new sends up)) (other up))
 
 -- a lane that stayed as it was
-pub same_lane_sends : {L : Type 0} (telling : L → Option Telling) (held : L → ℕ) (old new : LaneState L) → new ≡ old
-    → LaneRound telling held Sends old new
-same_lane_sends {L} telling held old new e = subst (λ (lane : LaneState L). LaneRound telling held Sends old lane)
-    (sym e) (same_link (λ t u. RoundAfter Sends (round_of old (held old.link) t) (round_of old (held old.link) u))
-    (telling old.link) (λ t up. same_round (round_of old (held old.link) t)))
+pub same_lane_sends : {L : Type 0} (seen : Ghosts L) (old new : LaneState L) → new ≡ old
+    → LaneRound seen Sends old new
+same_lane_sends {L} seen old new e = subst (λ (lane : LaneState L). LaneRound seen Sends old lane)
+    (sym e) (same_link
+    (λ t u. RoundAfter Sends (round_of old (seen.held old.link) t) (round_of old (seen.held old.link) u))
+    (seen.telling old.link) (λ t up. same_round (round_of old (seen.held old.link) t)))
 
-pub same_lane_idle : {L : Type 0} (telling : L → Option Telling) (held : L → ℕ) (old new : LaneState L) → new ≡ old
-    → LaneRound telling held (Pumps Idle) old new
-same_lane_idle {L} telling held old new e =
-    subst (λ (lane : LaneState L). LaneRound telling held (Pumps Idle) old lane) (sym e)
-    (same_link (λ t u. KeepsRound (round_of old (held old.link) t) (round_of old (held old.link) u))
-    (telling old.link) (λ t. same_round (round_of old (held old.link) t)))
-
--- one that has stopped
-pub stopped_sends : {L : Type 0} (telling : L → Option Telling) (held : L → ℕ) (old new : LaneState L)
-    → board_of (telling new.link) ≡ board_of (telling old.link) → has_stopped new ≡ true
-    → LaneRound telling held Sends old new
-stopped_sends telling held old new same stopped =
-    same_board (λ t u. RoundAfter Sends (round_of old (held old.link) t) (round_of new (held new.link) u))
-    (telling old.link) (telling new.link) same (λ t u up. absurd (let bad : true ≡ false = sym stopped ∙ up in cc))
-
-pub stopped_down : {L : Type 0} (telling : L → Option Telling) (held : L → ℕ) (old new : LaneState L)
-    → board_of (telling new.link) ≡ board_of (telling old.link) → has_stopped new ≡ true
-    → LaneRound telling held (Pumps LinkDown) old new
-stopped_down telling held old new same stopped =
-    same_board (λ t u. has_stopped new ≡ true) (telling old.link) (telling new.link) same (λ t u. stopped)
+pub same_lane_idle : {L : Type 0} (seen : Ghosts L) (old new : LaneState L) → new ≡ old
+    → LaneRound seen (Pumps Idle) old new
+same_lane_idle {L} seen old new e =
+    subst (λ (lane : LaneState L). LaneRound seen (Pumps Idle) old lane) (sym e)
+    (same_link (λ t u. KeepsRound (round_of old (seen.held old.link) t) (round_of old (seen.held old.link) u))
+    (seen.telling old.link) (λ t. same_round (round_of old (seen.held old.link) t)))
 
 -- ---- calls of a lane, one after another
 

@@ -7,6 +7,7 @@ use Rattle.ipb_base.specs.Faults.{Rose}
 use Rattle.world_model.specs.declared.offered.Offered.{Offered}
 use Rattle.world_model.specs.declared.offered.OpenPlace.{OpenPlace}
 use Rattle.world_model.specs.Hub.{Hub, is_waiting, some_queued, some_waited}
+use Rattle.world_core.specs.declared.link.Link.{Ghosts}
 use Rattle.world_core.specs.Telling.{IfTelling, Telling}
 use Rattle.lane_record.specs.declared.outcome.Outcome.{Outcome}
 use Rattle.lane_record.specs.declared.item.Item.{Item}
@@ -156,13 +157,12 @@ same_record {L} old new e = record {
 
 -- ---- one pump
 
-pub one_pump : {L : Type 0} (telling : L → Option Telling) (receives : L → List (Option (List ℕ)))
-    (old before new : LaneState L) (came_to : Pumped) (client seq : ℕ)
+pub one_pump : {L : Type 0} (seen : Ghosts L) (old before new : LaneState L) (came_to : Pumped) (client seq : ℕ)
     → IsOldest old.items client seq → TakesNothing old client seq before
-    → PumpsAs before (telling new.link) (receives before.link) (receives new.link) new came_to
-    → IfTelling (telling before.link) (telling new.link) (Pumping came_to before.hub new.hub)
-    → PumpsOnce telling receives old client new
-one_pump {L} telling receives old before new came_to client seq oldest nothing became carried = record {
+    → PumpsAs before (seen.telling new.link) (seen.receives before.link) (seen.receives new.link) new came_to
+    → IfTelling (seen.telling before.link) (seen.telling new.link) (Pumping came_to before.hub new.hub)
+    → PumpsOnce seen old client new
+one_pump {L} seen old before new came_to client seq oldest nothing became carried = record {
   first = record {
     seq = seq;
     oldest = oldest;
@@ -174,7 +174,7 @@ one_pump {L} telling receives old before new came_to client seq oldest nothing b
     };
   };
   came_to = came_to;
-  pump = subst (λ (lane : LaneState L). IsPump telling receives lane came_to new) nothing.same
+  pump = subst (λ (lane : LaneState L). IsPump seen lane came_to new) nothing.same
       (record { became = became; carried = carried });
 }
 

@@ -5,6 +5,7 @@ use Rattle.std.specs.List.{AllByRecursion, slice_get}
 use Rattle.ipb_base.specs.Faults.{Rose}
 use Rattle.world_model.specs.Hub.{Hub}
 use Rattle.world_model.specs.Settings.{Limits}
+use Rattle.world_core.specs.declared.link.Link.{Ghosts}
 use Rattle.world_core.specs.Telling.{IfTelling, Telling}
 use Rattle.lane_record.specs.declared.outcome.Outcome.{Outcome}
 use Rattle.lane_record.specs.Bounds.{HasReached}
@@ -93,9 +94,9 @@ abbrev pub round_of : {L : Type 0} → LaneState L → ℕ → Telling → Round
 round_of lane held t = record { hub = lane.hub; stopped = has_stopped lane; told = t; held = held }
 
 -- the same of a lane, where its link tells
-abbrev pub LaneRound : {L : Type 0} → (L → Option Telling) → (L → ℕ) → LaneCall → LaneState L → LaneState L → Type 0
-LaneRound telling held call old new = IfTelling (telling old.link) (telling new.link)
-    (λ t u. RoundAfter call (round_of old (held old.link) t) (round_of new (held new.link) u))
+abbrev pub LaneRound : {L : Type 0} → Ghosts L → LaneCall → LaneState L → LaneState L → Type 0
+LaneRound seen call old new = IfTelling (seen.telling old.link) (seen.telling new.link)
+    (λ t u. RoundAfter call (round_of old (seen.held old.link) t) (round_of new (seen.held new.link) u))
 
 -- one call of a lane that has not stopped after it
 pub record IsCall (call : LaneCall) (old new : RoundState) : Type 0 where

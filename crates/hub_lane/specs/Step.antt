@@ -1,12 +1,12 @@
 -- What a step of a client does to a lane, and what a look does. Profile.
-use Rattle.std.specs.Prelude.{◌≡◌, ◌⊎◌, ℕ, List, Option, None, Some}
+use Rattle.std.specs.Prelude.{◌≡◌, ◌⊎◌, ℕ, None, Some}
 use Rattle.std.specs.List.{slice_get}
 use Rattle.ipb_base.specs.Faults.{Rose}
 use Rattle.lane_record.specs.declared.outcome.Outcome.{Outcome}
 use Rattle.lane_record.specs.Claims.{Claim, IsAskOf}
 use Rattle.lane_tables.specs.Taken.{HasTakenAll, IsOldest}
 use Rattle.hub_lane.specs.Lanes.{LaneState}
-use Rattle.world_core.specs.Telling.{IfTelling, Telling}
+use Rattle.world_core.specs.Telling.{IfTelling}
 use Rattle.world_core.specs.declared.link.Link.{Ghosts}
 use Rattle.hub_lane.specs.Calls.{IsSameRecord, PumpsAs, Takes, TakesNothing}
 use Rattle.hub_lane.specs.Carrying.{Pumping}
@@ -71,30 +71,28 @@ LooksAs old client new looks.Nothing = (new ≡ old) × HasTakenAll old.items cl
 -- ---- what a step does to its link
 
 -- one pump that came to this: what the lane became and its link received, and what the link carried
-pub record IsPump {L : Type 0} (telling : L → Option Telling) (receives : L → List (Option (List ℕ)))
-    (old : LaneState L) (came_to : Pumped) (new : LaneState L) : Type 0 where
-  pub became : PumpsAs old (telling new.link) (receives old.link) (receives new.link) new came_to
-  pub carried : IfTelling (telling old.link) (telling new.link) (Pumping came_to old.hub new.hub)
+pub record IsPump {L : Type 0} (seen : Ghosts L) (old : LaneState L) (came_to : Pumped) (new : LaneState L)
+    : Type 0 where
+  pub became : PumpsAs old (seen.telling new.link) (seen.receives old.link) (seen.receives new.link) new came_to
+  pub carried : IfTelling (seen.telling old.link) (seen.telling new.link) (Pumping came_to old.hub new.hub)
 
 -- nothing became of the client's oldest asked and untaken body so far, and then the lane was pumped once
-pub record PumpsOnce {L : Type 0} (telling : L → Option Telling) (receives : L → List (Option (List ℕ)))
-    (old : LaneState L) (client : ℕ) (new : LaneState L) : Type 0 where
+pub record PumpsOnce {L : Type 0} (seen : Ghosts L) (old : LaneState L) (client : ℕ) (new : LaneState L) : Type 0 where
   pub first : LooksInVain old client old
   pub came_to : Pumped
-  pub pump : IsPump telling receives old came_to new
+  pub pump : IsPump seen old came_to new
 
 -- nothing became of it so far, and it was taken after one pump
-pub record TakesAfterPump {L : Type 0} (telling : L → Option Telling) (receives : L → List (Option (List ℕ)))
-    (old : LaneState L) (client : ℕ) (outcome : Outcome) (new : LaneState L) : Type 0 where
+pub record TakesAfterPump {L : Type 0} (seen : Ghosts L) (old : LaneState L) (client : ℕ) (outcome : Outcome) (new : LaneState L)
+    : Type 0 where
   pub pumped : LaneState L
-  pub once : PumpsOnce telling receives old client pumped
+  pub once : PumpsOnce seen old client pumped
   pub looks : LooksAtOutcome pumped client outcome new
 
 -- Where the outcome is there it is taken, and all but the entry of that is as before, the link too. Where it is not,
 -- the lane is pumped once.
-abbrev pub StepsOnce : {L : Type 0} → (L → Option Telling) → (L → List (Option (List ℕ))) → LaneState L → ℕ
-    → LaneState L → Stepped → Type 0
-StepsOnce telling receives old client new (steps.Ready outcome) =
-    LooksAtOutcome old client outcome new ⊎ TakesAfterPump telling receives old client outcome new
-StepsOnce telling receives old client new (steps.NotYet turned) = PumpsOnce telling receives old client new
-StepsOnce telling receives old client new steps.Nothing = Unit {0}
+abbrev pub StepsOnce : {L : Type 0} → Ghosts L → LaneState L → ℕ → LaneState L → Stepped → Type 0
+StepsOnce seen old client new (steps.Ready outcome) =
+    LooksAtOutcome old client outcome new ⊎ TakesAfterPump seen old client outcome new
+StepsOnce seen old client new (steps.NotYet turned) = PumpsOnce seen old client new
+StepsOnce seen old client new steps.Nothing = Unit {0}

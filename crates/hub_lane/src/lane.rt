@@ -295,7 +295,7 @@ impl<L: Link> Lane<L> {
         ensures unreceived { ReceivesNothing L.Link self.old.link self.new.link }
         ensures link { IfOk result (λ asked. IfTelling (L.telling self.old.link) (L.telling self.new.link)
             (Asking self.old client self.new asked)) }
-        ensures round { LaneRound L.telling L.held Sends self.old self.new }
+        ensures round { LaneRound L.Link Sends self.old self.new }
         // So the head of its record stays.
         ensures opening { opening_of (L.telling self.new.link) ≡ opening_of (L.telling self.old.link) }
     {
@@ -315,7 +315,7 @@ impl<L: Link> Lane<L> {
         ensures unchanged { OnErr result (self.new ≡ self.old) }
         ensures not_spent { OnOk result (self.old.spent ≡ false) }
         ensures link { self.new.link ≡ self.old.link }
-        ensures round { LaneRound L.telling L.held Sends self.old self.new }
+        ensures round { LaneRound L.Link Sends self.old self.new }
     {
         an_ask_is_an_offer();
         an_ask_is_of_its_plan();
@@ -350,7 +350,7 @@ impl<L: Link> Lane<L> {
         ensures unreceived { ReceivesNothing L.Link self.old.link self.new.link }
         ensures link { has_stopped self.new ≡ false → IfTelling (L.telling self.old.link) (L.telling self.new.link)
             (HasPut self.old.hub self.new.hub) }
-        ensures round { LaneRound L.telling L.held Sends self.old self.new }
+        ensures round { LaneRound L.Link Sends self.old self.new }
         // So the head of its record stays.
         ensures opening { opening_of (L.telling self.new.link) ≡ opening_of (L.telling self.old.link) }
     {
@@ -410,7 +410,7 @@ impl<L: Link> Lane<L> {
         ensures counted { IfOk result (λ pumped. CountsPump L.Link pumped self.old.link self.new.link) }
         ensures link { IfOk result (λ pumped. IfTelling (L.telling self.old.link) (L.telling self.new.link)
             (Pumping pumped self.old.hub self.new.hub)) }
-        ensures round { IfOk result (λ pumped. LaneRound L.telling L.held (Pumps pumped) self.old self.new) }
+        ensures round { IfOk result (λ pumped. LaneRound L.Link (Pumps pumped) self.old self.new) }
         // So the head of its record stays.
         ensures opening { opening_of (L.telling self.new.link) ≡ opening_of (L.telling self.old.link) }
     {

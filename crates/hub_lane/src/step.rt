@@ -65,8 +65,7 @@ impl<L: Link> Lane<L> {
     pub fn step(&mut self, client: u32) -> Result<Stepped, NoMemory>
         requires client { 1 ≤ client }
         ensures stepped { IfOk result (λ stepped. StepsAs self.old client self.new stepped) }
-        ensures once { IfOk result (λ stepped.
-            StepsOnce L.telling L.receives self.old client self.new stepped) }
+        ensures once { IfOk result (λ stepped. StepsOnce L.Link self.old client self.new stepped) }
         ensures same { OnErr result (IsSameRecord self.old self.new) }
         ensures received { IfOk result (λ stepped. RoseInVain L.Link stepped self.old.link self.new.link) }
         ensures counts { KeepsCounting L.Link self.old.link self.new.link }

@@ -28,6 +28,6 @@ returns-in-Asked-clause-link g c =
 pub returns-in-Asked-clause-round : goal.returns-in-Asked-clause-round
 returns-in-Asked-clause-round g c =
     let held = g.L.Link.held in
-    asked_round g.L.Link.telling held c.args.self.now c.offer_next.new.self c.send_wanted.new.self
+    asked_round g.L.Link c.args.self.now c.offer_next.new.self c.send_wanted.new.self
     (let same = ap held c.offer_next.ensures.link in omega (arith, same)) c.send_wanted.ensures.unreceived.held
     c.send_wanted.ensures.sends c.offer_next.ensures.round c.send_wanted.ensures.round

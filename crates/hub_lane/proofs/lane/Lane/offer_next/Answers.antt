@@ -93,11 +93,11 @@ offer-requires-clause-new g c =
 
 pub returns-in_default-clause-round : goal.returns-in_default-clause-round
 returns-in_default-clause-round g c =
-    same_lane_sends g.L.Link.telling g.L.Link.held c.args.self.now c.args.self.now refl
+    same_lane_sends g.L.Link c.args.self.now c.args.self.now refl
 
 pub returns-in_err-body-clause-round : goal.returns-in_err-body-clause-round
 returns-in_err-body-clause-round g c =
-    same_lane_sends g.L.Link.telling g.L.Link.held c.args.self.now c.args.self.now refl
+    same_lane_sends g.L.Link c.args.self.now c.args.self.now refl
 
 pub returns-clause-round : goal.returns-clause-round
 returns-clause-round g c =
@@ -119,7 +119,7 @@ returns-clause-round g c =
 pub returns-in_err-reserve-clause-round : goal.returns-in_err-reserve-clause-round
 returns-in_err-reserve-clause-round g c =
     let l = c.self.inside in
-    same_lane_sends g.L.Link.telling g.L.Link.held c.args.self.now _ (ap (λ (xs : List Item). record {
+    same_lane_sends g.L.Link c.args.self.now _ (ap (λ (xs : List Item). record {
       link = l.link;
       settings = l.settings;
       status = record { mtu = l.mtu; buffers = l.buffers; next = l.first };
@@ -135,7 +135,7 @@ returns-in_err-reserve-clause-round g c =
 pub returns-in_err-offer-clause-round : goal.returns-in_err-offer-clause-round
 returns-in_err-offer-clause-round g c =
     let l = c.self.inside in
-    same_lane_sends g.L.Link.telling g.L.Link.held c.args.self.now _ (ap (λ (xs : List Item). record {
+    same_lane_sends g.L.Link c.args.self.now _ (ap (λ (xs : List Item). record {
       link = l.link;
       settings = l.settings;
       status = record { mtu = l.mtu; buffers = l.buffers; next = l.first };

@@ -281,7 +281,7 @@ returns-in-Ok-clause-round g c =
 
 pub returns-then-not-waiting-clause-round : goal.returns-then-not-waiting-clause-round
 returns-then-not-waiting-clause-round g c =
-    same_lane_idle g.L.Link.telling g.L.Link.held c.args.self.now c.args.self.now refl
+    same_lane_idle g.L.Link c.args.self.now c.args.self.now refl
 
 pub returns-in-Err-Failed-clause-same : goal.returns-in-Err-Failed-clause-same
 returns-in-Err-Failed-clause-same g c =

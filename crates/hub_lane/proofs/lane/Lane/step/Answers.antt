@@ -61,7 +61,7 @@ returns-in-Ready-2-clause-once g c =
     let pumped = c.in_ok-pump.ensures in
     inr (record {
       pumped = c.pump.new.self;
-      once = one_pump link.telling link.receives c.args.self.now c.take.new.self c.pump.new.self
+      once = one_pump link c.args.self.now c.take.new.self c.pump.new.self
           c.in_ok-pump.field-0 c.args.client c.in-Some.seq c.in-Some.ensures.some first pumped.pumped pumped.link;
       looks = record {
         seq = c.in-Some.seq;
@@ -80,7 +80,7 @@ returns-in-NotYet-2-clause-once g c =
     let last = subst (λ t. TakesAs c.pump.new.self c.args.client c.in-Some.seq c.take-2.new.self t) c.in-NotYet-2.is
     c.in_ok-outcome-2.ensures.taken in
     let pumped = c.in_ok-pump.ensures in
-    subst (λ (new : LaneState g.row.L.Denot). PumpsOnce link.telling link.receives c.args.self.now
+    subst (λ (new : LaneState g.row.L.Denot). PumpsOnce link c.args.self.now
     c.args.client new) (sym last.same)
-    (one_pump link.telling link.receives c.args.self.now c.take.new.self c.pump.new.self
+    (one_pump link c.args.self.now c.take.new.self c.pump.new.self
     c.in_ok-pump.field-0 c.args.client c.in-Some.seq c.in-Some.ensures.some first pumped.pumped pumped.link)
