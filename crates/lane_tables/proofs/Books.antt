@@ -23,10 +23,12 @@ use Rattle.lane_record.proofs.Lookups.{none_next, sealed_append}
 use Rattle.lane_record.specs.Coding.{entry_of}
 use Rattle.lane_tables.specs.Planned.{IsFull, one_with, planned_bodies, planned_words, words_with}
 use Rattle.lane_tables.specs.declared.rows.PlannedBody.{PlannedBody}
-use Rattle.lane_tables.specs.Books.{HasAsked, HasMorePlans, HasNext, IsBook, IsPlanAt, IsRow, IsTakenRow, Row}
-use Rattle.lane_tables.specs.Books.{TellsBodies, after_ask, after_took, as_taken, changed, next_of, plan_of_body}
+use Rattle.lane_tables.specs.Books.{HasAsked, HasMorePlans, HasNext, IsAskedRow, IsBook, IsPlanAt, IsRow, IsTakenRow}
+use Rattle.lane_tables.specs.Books.{Row, TellsBodies, after_ask, after_took, as_asked, as_taken, changed, next_of}
+use Rattle.lane_tables.specs.Books.{plan_of_body}
 use Rattle.lane_tables.specs.Books.{planned_at, replaced, row_of, with_ask, with_plan, with_took}
 use Rattle.lane_tables.proofs.ClientRows.{becomes, grown, row_changed, row_changed_other, row_planned, row_planned_other}
+use Rattle.lane_tables.proofs.AskedRows.{asked_ask, asked_plan, asked_stay, asked_took, one_more_claim, same_count}
 use Rattle.lane_tables.proofs.OneMore.{one_number, same_number}
 use Rattle.lane_tables.proofs.PlannedBodies.{length-replaced, was_body}
 use Rattle.lane_tables.proofs.TakenRows.{taken_ask, taken_plan, taken_seal, taken_took}
@@ -137,6 +139,26 @@ ask_for : (client seq other g : ℕ) (items : List Item)
 ask_for client seq other g items = one_number ask_in other items (ask_of client seq g)
     ∙ ap (λ (b : Bool). asked other items + cond b 1 0) (and-true (client == other))
 
+-- a change of one body that leaves its Plan where it is
+tells_changed : (items : List Item) (client k : ℕ) (change : PlannedBody → PlannedBody)
+    → ((b : PlannedBody) → (change b).plan ≡ b.plan) → (bodies : List PlannedBody) (asks : ℕ)
+    → TellsBodies items client bodies asks → TellsBodies items client (replaced k change bodies) asks
+tells_changed items client k change keeps bodies asks is =
+    let same = length-replaced k change bodies in
+    let most = is.no_more in
+    record {
+      planned_are = same ∙ is.planned_are;
+      asked_are = is.asked_are;
+      no_more = omega (arith, most, same);
+      plans_are = λ n b there. (
+          let w = was_body k change bodies n b there in
+          let plan : w.old.plan ≡ b.plan = elim w.is [
+            | inl here ↦ sym (ap (λ (y : PlannedBody). y.plan) here.1 ∙ keeps w.old)
+            | inr apart ↦ sym (ap (λ (y : PlannedBody). y.plan) apart.1)
+          ] in
+          subst (IsPlanAt items client n) plan (is.plans_are n w.old w.there));
+    }
+
 tells_ask : (items : List Item) (client g : ℕ) (bodies : List PlannedBody) (asks : ℕ) → asks < length bodies
     → TellsBodies items client bodies asks
     → TellsBodies (items ++ ask_of client (asked client items) g ∷ []) client bodies (asks + 1)
@@ -167,33 +189,36 @@ has_next items rows client count are more =
     let row = next_in items client (row_of client rows) (are client) left in
     record { row = row.0; there = row.1; left = row.2 }
 
-tells_asked : (items : List Item) (client g : ℕ) (row : Option Row) (r : Row) → row ≡ Some r
+tells_asked : (items : List Item) (client g ask : ℕ) (row : Option Row) (r : Row) → row ≡ Some r
     → r.asked < length r.bodies → IsRow items client row
     → IsRow (items ++ ask_of client (asked client items) g ∷ []) client
-    (becomes after_ask row)
-tells_asked items client g None r e left is = absurd cc
-tells_asked items client g (Some q) r e left is = (let same : q ≡ r = cc in tells_ask items client g q.bodies q.asked
-    (subst (λ (x : Row). x.asked < length x.bodies) (sym same) left) is)
+    (becomes (after_ask ask) row)
+tells_asked items client g ask None r e left is = absurd cc
+tells_asked items client g ask (Some q) r e left is =
+    (let same : q ≡ r = cc in
+    tells_changed (items ++ ask_of client (asked client items) g ∷ []) client q.asked (as_asked ask) (λ b. refl)
+    q.bodies (q.asked + 1) (tells_ask items client g q.bodies q.asked
+    (subst (λ (x : Row). x.asked < length x.bodies) (sym same) left) is))
 
-rows_ask : (items : List Item) (rows : List Row) (client g : ℕ) → HasNext client rows
+rows_ask : (items : List Item) (rows : List Row) (client g ask : ℕ) → HasNext client rows
     → ((c : ℕ) → IsRow items c (row_of c rows))
     → (other : ℕ) → IsRow (items ++ ask_of client (asked client items) g ∷ []) other
-    (row_of other (with_ask client rows))
-rows_ask items rows client g next are other =
+    (row_of other (with_ask client ask rows))
+rows_ask items rows client g ask next are other =
     elim (eqb_tells client other) [
       | inl same ↦ subst (λ (c : ℕ). IsRow (items ++ ask_of client (asked client items) g ∷ []) c
-          (row_of c (with_ask client rows))) same.1
+          (row_of c (with_ask client ask rows))) same.1
           (subst (IsRow (items ++ ask_of client (asked client items) g ∷ []) client)
-          (sym (row_changed client after_ask rows (λ r. refl)))
-          (tells_asked items client g (row_of client rows) next.row next.there next.left (are client)))
+          (sym (row_changed client (after_ask ask) rows (λ r. refl)))
+          (tells_asked items client g ask (row_of client rows) next.row next.there next.left (are client)))
       | inr apart ↦
           let x = ask_of client (asked client items) g in
           let one = ask_for client (asked client items) other g items in
           let off : ◌≡◌ {A = ℕ} (cond (client == other) 1 0) 0 = rw apart.0 refl in
-          let ask : asked other (items ++ x ∷ []) ≡ asked other items = omega (arith, one, off) in
+          let same : asked other (items ++ x ∷ []) ≡ asked other items = omega (arith, one, off) in
           subst (IsRow (items ++ x ∷ []) other)
-          (sym (row_changed_other client after_ask other rows (λ r. refl) apart.0))
-          (row_other items x other (row_of other rows) (same_number plan_in other items x refl) ask (are other))
+          (sym (row_changed_other client (after_ask ask) other rows (λ r. refl) apart.0))
+          (row_other items x other (row_of other rows) (same_number plan_in other items x refl) same (are other))
     ]
 
 -- ---- one more Took
@@ -225,28 +250,11 @@ asked_there items rows client seq are below =
     let less = h.is_asked in
     omega (arith, few, less)
 
-tells_marked : (items : List Item) (client seq : ℕ) (bodies : List PlannedBody) (asks : ℕ)
-    → TellsBodies items client bodies asks → TellsBodies items client (replaced seq as_taken bodies) asks
-tells_marked items client seq bodies asks is =
-    let same = length-replaced seq as_taken bodies in
-    let most = is.no_more in
-    record {
-      planned_are = same ∙ is.planned_are;
-      asked_are = is.asked_are;
-      no_more = omega (arith, most, same);
-      plans_are = λ n b there. (
-          let w = was_body seq as_taken bodies n b there in
-          let plan : w.old.plan ≡ b.plan = elim w.is [
-            | inl here ↦ sym (ap (λ (y : PlannedBody). y.plan) here.1)
-            | inr apart ↦ sym (ap (λ (y : PlannedBody). y.plan) apart.1)
-          ] in
-          subst (IsPlanAt items client n) plan (is.plans_are n w.old w.there));
-    }
-
 row_marked : (items : List Item) (client seq : ℕ) (row : Option Row) → IsRow items client row
     → IsRow items client (becomes (after_took seq) row)
 row_marked items client seq None is = is
-row_marked items client seq (Some r) is = tells_marked items client seq r.bodies r.asked is
+row_marked items client seq (Some r) is =
+    tells_changed items client seq as_taken (λ b. refl) r.bodies r.asked is
 
 rows_took : (items : List Item) (rows : List Row) (client seq : ℕ) (x : Item) → plan_in x.what ≡ None
     → ask_in x.what ≡ None → ((c : ℕ) → IsRow items c (row_of c rows))
@@ -261,6 +269,13 @@ rows_took items rows client seq x plan ask are other =
       | inr apart ↦ subst (IsRow items other)
           (sym (row_changed_other client (after_took seq) other rows (λ r. refl) apart.0)) (are other)
     ])
+
+-- the row of a client with a next body has as many asked as the entries tell
+next_asks : (items : List Item) (client : ℕ) (row : Option Row) (r : Row) → row ≡ Some r → IsRow items client row
+    → r.asked ≡ asked client items
+next_asks items client None r e is = absurd cc
+next_asks items client (Some q) r e is =
+    (let same : q ≡ r = cc in subst (λ (x : Row). x.asked ≡ asked client items) same is.asked_are)
 
 -- ---- the other tables
 
@@ -294,21 +309,24 @@ or_false : (b : Bool) → (b || false) ≡ b
 or_false true = refl
 or_false false = refl
 
-module _ (items : List Item) (entries : List Entry) (rows : List Row) (bodies words : ℕ)
-    (closed : Bool) (room : ℕ) (is : IsBook items entries rows bodies words closed room) where
+module _ (items : List Item) (entries : List Entry) (rows : List Row) (asks bodies words : ℕ)
+    (closed : Bool) (room : ℕ) (is : IsBook items entries rows asks bodies words closed room) where
   -- an entry that is no Plan and no Ask
   book_other : (x : Item) (new : List Entry) (changed : List Row) (after : ℕ) → plan_in x.what ≡ None
       → ask_in x.what ≡ None → new ≡ entries ++ entry_of x ∷ [] → (sealed : Bool)
       → sealed ≡ is_sealed (items ++ x ∷ []) → (is_sealed (items ++ x ∷ []) ≡ false → 1 ≤ after)
       → ((c : ℕ) → IsRow (items ++ x ∷ []) c (row_of c changed))
+      → ((c : ℕ) → IsAskedRow (items ++ x ∷ []) c (row_of c changed))
       → ((c : ℕ) → IsTakenRow (items ++ x ∷ []) c (row_of c changed))
-      → IsBook (items ++ x ∷ []) new changed bodies words sealed after
-  book_other x new changed after plan ask entry sealed sealed_is fits told taken = record {
+      → IsBook (items ++ x ∷ []) new changed asks bodies words sealed after
+  book_other x new changed after plan ask entry sealed sealed_is fits told numbered taken = record {
     entries_are = entries_push items x new entries is.entries_are entry;
     plans_count = count_push plan_in items x is.plans_count
         (λ some. (let off : is_some (plan_in x.what) ≡ false = ap is_some plan in absurd cc));
     rows_are = told;
+    asked_are = numbered;
     taken_are = taken;
+    asks_are = is.asks_are ∙ sym (same_count items x ask);
     bodies_are = (let h = bodies_push items x in let none : one_with (plan_in x.what) 0 ≡ 0 =
         ap (λ (o : Option (List ℕ)). one_with o 0) plan in let b = is.bodies_are in omega (arith, h, none, b));
     words_are = (let h = words_push items x in let none : words_with (plan_in x.what) 0 ≡ 0 =
@@ -321,38 +339,43 @@ module _ (items : List Item) (entries : List Entry) (rows : List Row) (bodies wo
 
   pub book_took : (client seq : ℕ) (outcome : Outcome) (g : ℕ) (new : List Entry) (after : ℕ)
       → seq < asked client items → new ≡ entries ++ entry_of (took_of client seq outcome g) ∷ [] → 1 ≤ after
-      → IsBook (items ++ took_of client seq outcome g ∷ []) new (with_took client seq rows) bodies words closed
+      → IsBook (items ++ took_of client seq outcome g ∷ []) new (with_took client seq rows) asks bodies words closed
       after
   book_took client seq outcome g new after below entry one =
       let x = took_of client seq outcome g in
       book_other x new (with_took client seq rows) after refl refl entry
       closed (is.closed_is ∙ sym (sealed_append items (x ∷ []) ∙ or_false (is_sealed items)))
       (λ _. one) (rows_took items rows client seq x refl refl is.rows_are)
+      (asked_took items rows client seq x is.asked_are)
       (taken_took items rows client seq g outcome (has_asked items rows client seq is.rows_are below)
       (asked_there items rows client seq is.rows_are below) is.taken_are)
 
   pub book_seal : (new : List Entry) (after : ℕ) → new ≡ entries ++ entry_of the_seal ∷ []
-      → IsBook (items ++ the_seal ∷ []) new rows bodies words true after
+      → IsBook (items ++ the_seal ∷ []) new rows asks bodies words true after
   book_seal new after entry =
       let sealed : is_sealed (items ++ the_seal ∷ []) ≡ true = sealed_append items (the_seal ∷ []) ∙ or-true
       (is_sealed items) in
       book_other the_seal new rows after refl refl entry true (sym sealed) (λ open_still. absurd cc)
       (λ client. row_other items the_seal client (row_of client rows) (same_number plan_in client items the_seal refl)
       (same_number ask_in client items the_seal refl) (is.rows_are client))
-      (taken_seal items rows is.taken_are)
+      (asked_stay items rows the_seal is.asked_are) (taken_seal items rows is.taken_are)
 
   pub book_ask : (client g : ℕ) (new : List Entry) (after : ℕ) → HasMorePlans client items
       → new ≡ entries ++ entry_of (ask_of client (asked client items) g) ∷ [] → 1 ≤ after
-      → IsBook (items ++ ask_of client (asked client items) g ∷ []) new (with_ask client rows) bodies
+      → IsBook (items ++ ask_of client (asked client items) g ∷ []) new (with_ask client asks rows) (asks + 1) bodies
       words closed after
   book_ask client g new after more entry one =
       let x = ask_of client (asked client items) g in
+      let next = has_next items rows client is.plans_count is.rows_are more in
       record {
         entries_are = entries_push items x new entries is.entries_are entry;
         plans_count = count_push plan_in items x is.plans_count (λ some. absurd cc);
-        rows_are = rows_ask items rows client g (has_next items rows client is.plans_count is.rows_are more)
-            is.rows_are;
-        taken_are = taken_ask items rows client (asked client items) g is.taken_are;
+        rows_are = rows_ask items rows client g asks next is.rows_are;
+        asked_are = asked_ask items rows client (asked client items) g asks is.asks_are next
+            (next_asks items client (row_of client rows) next.row next.there (is.rows_are client)) is.asked_are;
+        taken_are = taken_ask items rows client (asked client items) g asks is.taken_are;
+        asks_are = (let h = one_more_claim items client (asked client items) g in let a = is.asks_are in
+            omega (arith, h, a));
         bodies_are = (let h = bodies_push items x in let b = is.bodies_are in omega (arith, h, b));
         words_are = (let h = words_push items x in let b = is.words_are in omega (arith, h, b));
         closed_is = is.closed_is ∙ sym (sealed_append items (x ∷ []) ∙ or_false (is_sealed items));
@@ -366,7 +389,7 @@ module _ (items : List Item) (entries : List Entry) (rows : List Row) (bodies wo
       → new ≡ entries ++ entry_of (plan_of client (planned client items) body) ∷ [] → 1 ≤ after
       → more ≡ bodies + 1 → more_words ≡ words + (length body + reply_room body)
       → IsBook (items ++ plan_of client (planned client items) body ∷ []) new (with_plan client (length items) rows)
-      more more_words closed after
+      asks more more_words closed after
   book_plan client body new more more_words after few entry one more_is words_is =
       let x = plan_of client (planned client items) body in
       let b = is.bodies_are in
@@ -375,7 +398,9 @@ module _ (items : List Item) (entries : List Entry) (rows : List Row) (bodies wo
         entries_are = entries_push items x new entries is.entries_are entry;
         plans_count = count_push plan_in items x is.plans_count (λ _. refl);
         rows_are = rows_plan items rows client body is.plans_count is.rows_are;
+        asked_are = asked_plan items rows client (planned client items) (length items) body is.asked_are;
         taken_are = taken_plan items rows client (planned client items) (length items) body is.taken_are;
+        asks_are = is.asks_are ∙ sym (same_count items x refl);
         bodies_are = (let h = bodies_push items x in omega (arith, h, b, more_is));
         words_are = (let h = words_push items x in omega (arith, h, w, words_is));
         closed_is = is.closed_is ∙ sym (sealed_append items (x ∷ []) ∙ or_false (is_sealed items));
@@ -421,14 +446,16 @@ next_none items client (Some r) is there =
     omega (arith, past, a, p, most)
 
 -- more room
-pub book_room : (items : List Item) (entries : List Entry) (rows : List Row) (bodies words : ℕ)
-    (closed : Bool) (room after : ℕ) → room ≤ after → IsBook items entries rows bodies words closed room
-    → IsBook items entries rows bodies words closed after
-book_room items entries rows bodies words closed room after more is = record {
+pub book_room : (items : List Item) (entries : List Entry) (rows : List Row) (asks bodies words : ℕ)
+    (closed : Bool) (room after : ℕ) → room ≤ after → IsBook items entries rows asks bodies words closed room
+    → IsBook items entries rows asks bodies words closed after
+book_room items entries rows asks bodies words closed room after more is = record {
   entries_are = is.entries_are;
   plans_count = is.plans_count;
   rows_are = is.rows_are;
+  asked_are = is.asked_are;
   taken_are = is.taken_are;
+  asks_are = is.asks_are;
   bodies_are = is.bodies_are;
   words_are = is.words_are;
   closed_is = is.closed_is;
@@ -442,14 +469,14 @@ pub plan_same : (item : Item) (client seq : ℕ) (body : List ℕ) → Some item
 plan_same item client seq body same = (let is : item ≡ plan_of client seq body = cc in ap (λ (x : Item). plan_in
     x.what) is)
 
-pub book_reserved : (items more : List Item) (entries longer : List Entry) (rows : List Row) (bodies words : ℕ)
+pub book_reserved : (items more : List Item) (entries longer : List Entry) (rows : List Row) (asks bodies words : ℕ)
     (closed : Bool) (room after : ℕ) → more ≡ items → longer ≡ entries
-    → room ≤ after → IsBook items entries rows bodies words closed room
-    → IsBook more longer rows bodies words closed after
-book_reserved items more entries longer rows bodies words closed room after i e fits is =
-    subst (λ (xs : List Item). IsBook xs longer rows bodies words closed after) (sym i)
-    (subst (λ (es : List Entry). IsBook items es rows bodies words closed after) (sym e)
-    (book_room items entries rows bodies words closed room after fits is))
+    → room ≤ after → IsBook items entries rows asks bodies words closed room
+    → IsBook more longer rows asks bodies words closed after
+book_reserved items more entries longer rows asks bodies words closed room after i e fits is =
+    subst (λ (xs : List Item). IsBook xs longer rows asks bodies words closed after) (sym i)
+    (subst (λ (es : List Entry). IsBook items es rows asks bodies words closed after) (sym e)
+    (book_room items entries rows asks bodies words closed room after fits is))
 
 pub not_a_plan : (item : Item) (client seq : ℕ) (body : List ℕ) → Some item ≡ Some (plan_of client seq body)
     → ((b : List ℕ) → item.what ≡ Plan b → ⊥) → ⊥
@@ -457,39 +484,39 @@ not_a_plan item client seq body same other =
     (let is : item ≡ plan_of client seq body = cc in other body (ap (λ (x : Item). x.what) is))
 
 pub book_asked : (items more : List Item) (entries longer : List Entry) (rows changed : List Row)
-    (bodies words : ℕ) (closed : Bool) (room after client seq g : ℕ)
-    → IsBook items entries rows bodies words closed room → seq ≡ asked client items
+    (asks bodies words : ℕ) (closed : Bool) (room after client seq g : ℕ)
+    → IsBook items entries rows asks bodies words closed room → seq ≡ asked client items
     → HasMorePlans client items → more ≡ items ++ ask_of client seq g ∷ []
-    → longer ≡ entries ++ entry_of (ask_of client seq g) ∷ [] → changed ≡ with_ask client rows
+    → longer ≡ entries ++ entry_of (ask_of client seq g) ∷ [] → changed ≡ with_ask client asks rows
     → 1 ≤ after
-    → IsBook more longer changed bodies words closed after
-book_asked items more entries longer rows changed bodies words closed room after client seq g is number plans
+    → IsBook more longer changed (asks + 1) bodies words closed after
+book_asked items more entries longer rows changed asks bodies words closed room after client seq g is number plans
     i e r fits =
     let seq_item = λ (n : ℕ). items ++ ask_of client n g ∷ [] in
     let entry = e ∙ ap (λ (n : ℕ). entries ++ entry_of (ask_of client n g) ∷ []) number in
-    subst (λ (xs : List Item). IsBook xs longer changed bodies words closed after)
+    subst (λ (xs : List Item). IsBook xs longer changed (asks + 1) bodies words closed after)
     (sym (i ∙ ap seq_item number))
-    (subst (λ (rs : List Row). IsBook (seq_item (asked client items)) longer rs bodies words closed after)
+    (subst (λ (rs : List Row). IsBook (seq_item (asked client items)) longer rs (asks + 1) bodies words closed after)
     (sym r)
-    (book_ask items entries rows bodies words closed room is client g longer after plans entry fits))
+    (book_ask items entries rows asks bodies words closed room is client g longer after plans entry fits))
 
 pub book_planned : (items more : List Item) (entries longer : List Entry) (rows changed : List Row)
-    (bodies words count total : ℕ) (closed : Bool) (room after client seq place : ℕ)
+    (asks bodies words count total : ℕ) (closed : Bool) (room after client seq place : ℕ)
     (body : List ℕ)
-    → IsBook items entries rows bodies words closed room → seq ≡ planned client items
+    → IsBook items entries rows asks bodies words closed room → seq ≡ planned client items
     → ¬ IsFull items (length body) (reply_room body) → more ≡ items ++ plan_of client seq body ∷ []
     → longer ≡ entries ++ entry_of (plan_of client seq body) ∷ [] → place ≡ length items
     → changed ≡ with_plan client place rows → count ≡ bodies + 1
     → total ≡ words + (length body + reply_room body) → 1 ≤ after
-    → IsBook more longer changed count total closed after
-book_planned items more entries longer rows changed bodies words count total closed room after client seq place
+    → IsBook more longer changed asks count total closed after
+book_planned items more entries longer rows changed asks bodies words count total closed room after client seq place
     body
     is number few i e at r c t fits =
     let seq_item = λ (n : ℕ). items ++ plan_of client n body ∷ [] in
     let entry = e ∙ ap (λ (n : ℕ). entries ++ entry_of (plan_of client n body) ∷ []) number in
-    subst (λ (xs : List Item). IsBook xs longer changed count total closed after)
+    subst (λ (xs : List Item). IsBook xs longer changed asks count total closed after)
     (sym (i ∙ ap seq_item number))
-    (subst (λ (rs : List Row). IsBook (seq_item (planned client items)) longer rs count total closed after)
+    (subst (λ (rs : List Row). IsBook (seq_item (planned client items)) longer rs asks count total closed after)
     (sym (r ∙ ap (λ (n : ℕ). with_plan client n rows) at))
-    (book_plan items entries rows bodies words closed room is client body longer count total after few entry fits
+    (book_plan items entries rows asks bodies words closed room is client body longer count total after few entry fits
     c t))

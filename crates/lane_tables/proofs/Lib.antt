@@ -1,9 +1,8 @@
 mod PlannedBodies
 mod ClientRows
 mod OneMore
+mod AskedRows
 mod Books
 pub mod TakenRows
-mod OutcomeRows
-mod OutcomeSpots
 mod Put
 pub mod Results

@@ -5,7 +5,7 @@ use Rattle.std.proofs.Common.{length-append}
 use Rattle.std.specs.List.{slice_get}
 use Rattle.std.proofs.lemmas.Bool.{cases_lt}
 use Rattle.lane_tables.specs.declared.rows.PlannedBody.{PlannedBody}
-use Rattle.lane_tables.specs.Books.{IsFirstUntaken, as_taken, is_marked, planned_at, replaced}
+use Rattle.lane_tables.specs.Books.{IsFirstUntaken, as_asked, as_taken, ask_at, is_marked, planned_at, replaced}
 
 pub length-replaced : (k : ℕ) (change : PlannedBody → PlannedBody) (bodies : List PlannedBody)
     → length (replaced k change bodies) ≡ length bodies
@@ -74,6 +74,15 @@ marked_taken k [] within = absurd (omega arith)
 marked_taken zero (b ∷ bs) within = refl
 marked_taken (suc k) (b ∷ bs) within = marked_taken k bs (omega arith)
 
+-- a change that takes nothing changes no mark
+pub marked_kept : (k : ℕ) (change : PlannedBody → PlannedBody) → ((b : PlannedBody) → (change b).is_taken ≡ b.is_taken)
+    → (bodies : List PlannedBody) (n : ℕ) → is_marked (replaced k change bodies) n ≡ is_marked bodies n
+marked_kept k change keeps [] n = refl
+marked_kept zero change keeps (b ∷ bs) zero = keeps b
+marked_kept zero change keeps (b ∷ bs) (suc n) = refl
+marked_kept (suc k) change keeps (b ∷ bs) zero = refl
+marked_kept (suc k) change keeps (b ∷ bs) (suc n) = marked_kept k change keeps bs n
+
 -- a mark stays
 pub still_marked : (k : ℕ) (bodies : List PlannedBody) (n : ℕ) → is_marked bodies n ≡ true
     → is_marked (replaced k as_taken bodies) n ≡ true
@@ -82,6 +91,37 @@ still_marked zero (b ∷ bs) zero is = refl
 still_marked zero (b ∷ bs) (suc n) is = is
 still_marked (suc k) (b ∷ bs) zero is = is
 still_marked (suc k) (b ∷ bs) (suc n) is = still_marked k bs n is
+
+-- ---- the numbers of Asks
+
+pub ask_push : (bodies : List PlannedBody) (place n : ℕ)
+    → ask_at (bodies ++ planned_at place ∷ []) n ≡ ask_at bodies n
+ask_push [] place zero = refl
+ask_push [] place (suc n) = refl
+ask_push (b ∷ bs) place zero = refl
+ask_push (b ∷ bs) place (suc n) = ask_push bs place n
+
+pub ask_taken : (k : ℕ) (bodies : List PlannedBody) (n : ℕ)
+    → ask_at (replaced k as_taken bodies) n ≡ ask_at bodies n
+ask_taken k [] n = refl
+ask_taken zero (b ∷ bs) zero = refl
+ask_taken zero (b ∷ bs) (suc n) = refl
+ask_taken (suc k) (b ∷ bs) zero = refl
+ask_taken (suc k) (b ∷ bs) (suc n) = ask_taken k bs n
+
+pub ask_here : (k ask : ℕ) (bodies : List PlannedBody) → k < length bodies
+    → ask_at (replaced k (as_asked ask) bodies) k ≡ Some ask
+ask_here k ask [] within = absurd (omega arith)
+ask_here zero ask (b ∷ bs) within = refl
+ask_here (suc k) ask (b ∷ bs) within = ask_here k ask bs (omega arith)
+
+pub ask_other : (k ask : ℕ) (bodies : List PlannedBody) (n : ℕ) → (n ≡ k → ⊥)
+    → ask_at (replaced k (as_asked ask) bodies) n ≡ ask_at bodies n
+ask_other k ask [] n apart = refl
+ask_other zero ask (b ∷ bs) zero apart = absurd (apart refl)
+ask_other zero ask (b ∷ bs) (suc n) apart = refl
+ask_other (suc k) ask (b ∷ bs) zero apart = refl
+ask_other (suc k) ask (b ∷ bs) (suc n) apart = ask_other k ask bs n (λ e. apart (ap suc e))
 
 -- ---- the first one that was not taken
 
@@ -95,18 +135,21 @@ first_planned bodies asked taken place is = record {
   later = λ n most. marked_push bodies place n ∙ is.later n most;
 }
 
-pub first_asked : (bodies : List PlannedBody) (asked taken : ℕ) → asked < length bodies
-    → IsFirstUntaken bodies asked taken → IsFirstUntaken bodies (asked + 1) taken
-first_asked bodies asked taken left is = record {
-  few = omega (arith, left);
-  within = (let w = is.within in omega (arith, w));
-  below = is.below;
-  stops = λ less. elim (cases_lt taken asked) [
-    | inl lower ↦ is.stops lower
-    | inr most ↦ is.later taken most
-  ];
-  later = λ n most. is.later n (omega (arith, most));
-}
+pub first_asked : (bodies : List PlannedBody) (asked taken ask : ℕ) → asked < length bodies
+    → IsFirstUntaken bodies asked taken
+    → IsFirstUntaken (replaced asked (as_asked ask) bodies) (asked + 1) taken
+first_asked bodies asked taken ask left is =
+    let same = marked_kept asked (as_asked ask) (λ b. refl) bodies in
+    record {
+      few = (let long = length-replaced asked (as_asked ask) bodies in omega (arith, left, long));
+      within = (let w = is.within in omega (arith, w));
+      below = λ n less. same n ∙ is.below n less;
+      stops = λ less. same taken ∙ elim (cases_lt taken asked) [
+        | inl lower ↦ is.stops lower
+        | inr most ↦ is.later taken most
+      ];
+      later = λ n most. same n ∙ is.later n (omega (arith, most));
+    }
 
 pub first_taken : (bodies : List PlannedBody) (asked taken seq after : ℕ) → seq < asked
     → IsFirstUntaken bodies asked taken → taken ≤ after → after ≤ asked

@@ -15,11 +15,11 @@ use Rattle.lane_record.specs.Items.{asked, found, is_of, took_in}
 use Rattle.lane_record.specs.NextEntry.{ask_of, plan_of, the_seal, took_of}
 use Rattle.lane_record.proofs.Lookups.{found_append, found_other}
 use Rattle.lane_tables.specs.declared.rows.PlannedBody.{PlannedBody}
-use Rattle.lane_tables.specs.Books.{HasAsked, IsTakenRow, Row, TellsTaken, after_ask, after_took, as_taken}
-use Rattle.lane_tables.specs.Books.{is_marked, planned_at, replaced, row_of, with_ask, with_plan, with_took}
+use Rattle.lane_tables.specs.Books.{HasAsked, IsTakenRow, Row, TellsTaken, after_ask, after_took, as_asked}
+use Rattle.lane_tables.specs.Books.{as_taken, is_marked, planned_at, replaced, row_of, with_ask, with_plan, with_took}
 use Rattle.lane_tables.specs.Taken.{HasTakenAll, IsOldest, IsTakenIn}
 use Rattle.lane_tables.proofs.ClientRows.{becomes, grown, row_changed, row_changed_other, row_planned, row_planned_other}
-use Rattle.lane_tables.proofs.PlannedBodies.{marked_other, marked_push, marked_taken}
+use Rattle.lane_tables.proofs.PlannedBodies.{marked_kept, marked_other, marked_push, marked_taken}
 
 -- ---- an entry that takes nothing from the client
 
@@ -69,31 +69,32 @@ taken_plan items rows client seq place body are other =
       | inr apart ↦ subst (IsTakenRow items other) (sym (row_planned_other client place other rows apart.0)) (are other)
     ])
 
-tells_asked : (items : List Item) (client : ℕ) (bodies : List PlannedBody) (asks : ℕ)
-    → TellsTaken items client bodies asks → TellsTaken items client bodies (asks + 1)
-tells_asked items client bodies asks is = record {
-  marks = is.marks;
+tells_asked : (items : List Item) (client ask : ℕ) (bodies : List PlannedBody) (asks : ℕ)
+    → TellsTaken items client bodies asks
+    → TellsTaken items client (replaced asks (as_asked ask) bodies) (asks + 1)
+tells_asked items client ask bodies asks is = record {
+  marks = λ n. is.marks n ∙ sym (marked_kept asks (as_asked ask) (λ b. refl) bodies n);
   later = λ n most. is.later n (omega (arith, most));
 }
 
-row_asked : (items : List Item) (client : ℕ) (row : Option Row) → IsTakenRow items client row
-    → IsTakenRow items client (becomes after_ask row)
-row_asked items client None is = is
-row_asked items client (Some r) is = tells_asked items client r.bodies r.asked is
+row_asked : (items : List Item) (client ask : ℕ) (row : Option Row) → IsTakenRow items client row
+    → IsTakenRow items client (becomes (after_ask ask) row)
+row_asked items client ask None is = is
+row_asked items client ask (Some r) is = tells_asked items client ask r.bodies r.asked is
 
-pub taken_ask : (items : List Item) (rows : List Row) (client seq g : ℕ)
+pub taken_ask : (items : List Item) (rows : List Row) (client seq g ask : ℕ)
     → ((c : ℕ) → IsTakenRow items c (row_of c rows))
-    → (other : ℕ) → IsTakenRow (items ++ ask_of client seq g ∷ []) other (row_of other (with_ask client rows))
-taken_ask items rows client seq g are other =
+    → (other : ℕ) → IsTakenRow (items ++ ask_of client seq g ∷ []) other (row_of other (with_ask client ask rows))
+taken_ask items rows client seq g ask are other =
     let x = ask_of client seq g in
-    row_same items (items ++ x ∷ []) other (row_of other (with_ask client rows))
+    row_same items (items ++ x ∷ []) other (row_of other (with_ask client ask rows))
     (λ n. found_other took_in other n items x refl)
     (elim (eqb_tells client other) [
-      | inl same ↦ subst (λ (c : ℕ). IsTakenRow items c (row_of c (with_ask client rows))) same.1
-          (subst (IsTakenRow items client) (sym (row_changed client after_ask rows (λ r. refl)))
-          (row_asked items client (row_of client rows) (are client)))
+      | inl same ↦ subst (λ (c : ℕ). IsTakenRow items c (row_of c (with_ask client ask rows))) same.1
+          (subst (IsTakenRow items client) (sym (row_changed client (after_ask ask) rows (λ r. refl)))
+          (row_asked items client ask (row_of client rows) (are client)))
       | inr apart ↦ subst (IsTakenRow items other)
-          (sym (row_changed_other client after_ask other rows (λ r. refl) apart.0)) (are other)
+          (sym (row_changed_other client (after_ask ask) other rows (λ r. refl) apart.0)) (are other)
     ])
 
 -- ---- the oldest body that was not taken

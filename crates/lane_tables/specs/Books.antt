@@ -7,11 +7,13 @@ use Rattle.std.specs.Prelude.{Option, Some, None, is_some}
 use Rattle.std.specs.List.{slice_get}
 use Rattle.turn_pass.specs.declared.chronicle.Entry.{Entry}
 use Rattle.lane_record.specs.declared.item.Item.{Item}
+use Rattle.lane_record.specs.Claims.{claims}
 use Rattle.lane_record.specs.Items.{asked, found, is_sealed, numbers, plan_in, planned, took_in}
 use Rattle.lane_record.specs.Lists.{CountsFrom}
 use Rattle.lane_record.specs.Coding.{entry_of}
 use Rattle.lane_record.specs.NextEntry.{plan_of}
 use Rattle.lane_tables.specs.declared.rows.PlannedBody.{PlannedBody}
+use Rattle.lane_tables.specs.Taken.{IsAskAt}
 use Rattle.lane_tables.specs.Planned.{most_bodies, most_words, planned_bodies, planned_words}
 
 -- the entries of a record, and how many more there is room for
@@ -21,18 +23,29 @@ pub record BookState : Type 0 where
 
 -- ---- the bodies of a client
 
--- a body whose Plan stands there among the entries; the same once what became of it was taken
+-- a body whose Plan stands there among the entries; the same once it was asked, and once what became of it was taken
 abbrev pub planned_at : ℕ → PlannedBody
-planned_at place = record { plan = place; is_taken = false }
+planned_at place = record { plan = place; ask = None; is_taken = false }
+
+abbrev pub as_asked : ℕ → PlannedBody → PlannedBody
+as_asked ask body = record { plan = body.plan; ask = Some ask; is_taken = body.is_taken }
 
 abbrev pub as_taken : PlannedBody → PlannedBody
-as_taken body = record { plan = body.plan; is_taken = true }
+as_taken body = record { plan = body.plan; ask = body.ask; is_taken = true }
 
 -- the body of this number becomes another
 abbrev pub replaced : ℕ → (PlannedBody → PlannedBody) → List PlannedBody → List PlannedBody
 replaced k change [] = []
 replaced zero change (b ∷ bs) = change b ∷ bs
 replaced (suc k) change (b ∷ bs) = b ∷ replaced k change bs
+
+-- the number of its Ask
+abbrev pub ask_of_body : Option PlannedBody → Option ℕ
+ask_of_body None = None
+ask_of_body (Some body) = body.ask
+
+abbrev pub ask_at : List PlannedBody → ℕ → Option ℕ
+ask_at bodies n = ask_of_body (slice_get bodies n)
 
 -- whether the body of this number was taken
 abbrev pub is_marked : List PlannedBody → ℕ → Bool
@@ -55,15 +68,19 @@ pub record Row : Type 0 where
   pub bodies : List PlannedBody
   pub asked : ℕ
 
--- a row with one Plan, and with one more Plan, Ask or Took
+-- a row with one Plan, and with one more Plan, the Ask of this number, or a Took
 abbrev pub first_row : ℕ → ℕ → Row
 first_row client place = record { client = client; bodies = planned_at place ∷ []; asked = 0 }
 
 abbrev pub after_plan : ℕ → Row → Row
 after_plan place r = record { client = r.client; bodies = r.bodies ++ planned_at place ∷ []; asked = r.asked }
 
-abbrev pub after_ask : Row → Row
-after_ask r = record { client = r.client; bodies = r.bodies; asked = r.asked + 1 }
+abbrev pub after_ask : ℕ → Row → Row
+after_ask ask r = record {
+  client = r.client;
+  bodies = replaced r.asked (as_asked ask) r.bodies;
+  asked = r.asked + 1;
+}
 
 abbrev pub after_took : ℕ → Row → Row
 after_took seq r = record { client = r.client; bodies = replaced seq as_taken r.bodies; asked = r.asked }
@@ -111,9 +128,9 @@ with_plan client place [] = first_row client place ∷ []
 with_plan client place (r ∷ rs) =
     if r.client == client then after_plan place r ∷ rs else r ∷ with_plan client place rs
 
--- one more Ask of a client
-abbrev pub with_ask : ℕ → List Row → List Row
-with_ask client rows = changed client after_ask rows
+-- one more Ask of a client, under this number
+abbrev pub with_ask : ℕ → ℕ → List Row → List Row
+with_ask client ask rows = changed client (after_ask ask) rows
 
 -- one more Took of a client
 abbrev pub with_took : ℕ → ℕ → List Row → List Row
@@ -151,6 +168,15 @@ abbrev pub IsRow : List Item → ℕ → Option Row → Type 0
 IsRow items client None = TellsBodies items client [] 0
 IsRow items client (Some r) = TellsBodies items client r.bodies r.asked
 
+-- what a row tells of the Asks of its client, and where there is no row there are none
+pub record TellsAsks (items : List Item) (client : ℕ) (bodies : List PlannedBody) (asks : ℕ) : Type 0 where
+  pub right : (seq ask : ℕ) → ask_at bodies seq ≡ Some ask → IsAskAt items client seq ask
+  pub all : (seq : ℕ) → seq < asks → is_some (ask_at bodies seq) ≡ true
+
+abbrev pub IsAskedRow : List Item → ℕ → Option Row → Type 0
+IsAskedRow items client None = TellsAsks items client [] 0
+IsAskedRow items client (Some r) = TellsAsks items client r.bodies r.asked
+
 -- what a row tells of the bodies that its client took, and where there is no row none was taken
 pub record TellsTaken (items : List Item) (client : ℕ) (bodies : List PlannedBody) (asks : ℕ) : Type 0 where
   pub marks : (n : ℕ) → is_some (found took_in client n items) ≡ is_marked bodies n
@@ -170,12 +196,14 @@ abbrev pub room_of : ℕ → ℕ → ℕ → ℕ → ℕ
 room_of items items_len entries entries_len = min (items - items_len) (entries - entries_len)
 
 -- the tables are those of the entries; there is always room for the Seal
-pub record IsBook (items : List Item) (entries : List Entry) (rows : List Row) (bodies words : ℕ) (closed : Bool)
+pub record IsBook (items : List Item) (entries : List Entry) (rows : List Row) (asks bodies words : ℕ) (closed : Bool)
     (room : ℕ) : Type 0 where
   pub entries_are : entries ≡ map entry_of items
   pub plans_count : (client : ℕ) → CountsFrom 0 (numbers plan_in client items)
   pub rows_are : (client : ℕ) → IsRow items client (row_of client rows)
+  pub asked_are : (client : ℕ) → IsAskedRow items client (row_of client rows)
   pub taken_are : (client : ℕ) → IsTakenRow items client (row_of client rows)
+  pub asks_are : asks ≡ length (claims items)
   pub bodies_are : bodies ≡ planned_bodies items
   pub words_are : words ≡ planned_words items
   pub closed_is : closed ≡ is_sealed items

@@ -1,7 +1,13 @@
--- Which bodies of a client were taken. Profile.
+-- Which bodies of a client were asked, and which were taken. Profile.
 use Rattle.std.specs.Prelude.{◌≡◌, ℕ, ◌<◌, true, None, is_some, List}
 use Rattle.lane_record.specs.declared.item.Item.{Item}
+use Rattle.lane_record.specs.Claims.{Claim, IsAskOf}
 use Rattle.lane_record.specs.Items.{asked, found, took_in}
+
+-- the Ask of this number is that of the client's body
+pub record IsAskAt (items : List Item) (client seq ask : ℕ) : Type 0 where
+  pub claim : Claim
+  pub is : IsAskOf items ask client seq claim
 
 -- a body of a client that was taken
 abbrev pub IsTakenIn : List Item → ℕ → ℕ → Type 0

@@ -30,6 +30,7 @@ pub struct Book {
     entries: Vec<Entry>,
     items: Vec<Item>,
     rows: Vec<ClientRow>,
+    asks: usize,
     bodies: u64,
     words: u64,
     sealed: bool,
@@ -47,13 +48,13 @@ impl Model for Book {
       room = room_of b.items.cap b.items.len b.entries.cap b.entries.len;
     } };
 
-    ghost invariant = { λ b. IsBook b.items.items b.entries.items b.rows.items b.bodies b.words b.sealed
+    ghost invariant = { λ b. IsBook b.items.items b.entries.items b.rows.items b.asks b.bodies b.words b.sealed
         (room_of b.items.cap b.items.len b.entries.cap b.entries.len) };
 }
 
 impl Book {
     ghost use Rattle.lane_tables.specs.Books.{HasMorePlans};
-    ghost use Rattle.lane_tables.specs.Taken.{HasTakenAll, IsOldest};
+    ghost use Rattle.lane_tables.specs.Taken.{HasTakenAll, IsAskAt, IsOldest};
 
     /// A record without entries, with room for the Seal.
     pub fn new(alloc: Global) -> Result<Book, NoMemory>
@@ -68,6 +69,7 @@ impl Book {
             entries,
             items,
             rows: Vec::new(alloc),
+            asks: 0,
             bodies: 0,
             words: 0,
             sealed: false,
@@ -141,6 +143,17 @@ impl Book {
         }
     }
 
+    /// The number of the Ask of a client's body, where it was asked.
+    pub fn ask_of(&self, client: u32, seq: u64) -> Option<usize>
+        ensures some { IfSome result (IsAskAt self.now.items client seq) }
+        ensures none { IfNone result (asked client self.now.items ≤ seq) }
+    {
+        match row_at(&self.rows, client) {
+            Some(at) => self.rows[at].ask_of(seq),
+            None => None,
+        }
+    }
+
     /// Takes room for one entry and the Seal.
     pub fn reserve(&mut self) -> Result<(), NoMemory>
         ensures room { OnOk result (2 ≤ self.new.room) }
@@ -202,7 +215,8 @@ impl Book {
         requires number { seq ≡ asked client self.old.items }
         ensures { self.new.items ≡ self.old.items ++ ask_of client seq give_ups ∷ [] }
     {
-        add_ask(&mut self.rows, client);
+        add_ask(&mut self.rows, client, self.asks);
+        self.asks += 1;
         put(
             &mut self.entries,
             &mut self.items,

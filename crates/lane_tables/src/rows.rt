@@ -2,18 +2,35 @@
 //! looked through.
 
 ghost use Rattle.std.specs.Prelude.{◌≡◌, ◌≤◌, ◌<◌, ℕ, length, true, false, OnOk, OnErr};
-ghost use Rattle.lane_tables.specs.Books.{HasAsked, HasNext, as_taken, is_marked, next_of, replaced, row_at};
-ghost use Rattle.lane_tables.specs.Books.{row_of, with_ask, with_plan, with_took};
+ghost use Rattle.lane_tables.specs.Books.{HasAsked, HasNext, as_asked, as_taken, is_marked, next_of, replaced};
+ghost use Rattle.lane_tables.specs.Books.{row_at, row_of, with_ask, with_plan, with_took};
 
 use ipb_base::NoMemory;
 use std::alloc::Global;
 use std::marker::Model;
 
-/// A body of a client: where its Plan stands among the entries, and whether what became of it was taken.
+/// A body of a client: where its Plan stands among the entries, the number of its Ask once it was asked, and whether
+/// what became of it was taken.
 #[derive(Clone, Copy, PartialEq, Eq)]
 pub(crate) struct PlannedBody {
     pub(crate) plan: usize,
+    pub(crate) ask: Option<usize>,
     pub(crate) is_taken: bool,
+}
+
+impl PlannedBody {
+    ghost use Rattle.lane_tables.specs.Books.{planned_at};
+
+    /// A body whose Plan stands at this place.
+    fn new(plan: usize) -> PlannedBody
+        ensures { result ≡ planned_at plan }
+    {
+        PlannedBody {
+            plan,
+            ask: None,
+            is_taken: false,
+        }
+    }
 }
 
 /// The bodies of one client, by number: how many were asked, and the number of the first one that was not taken.
@@ -41,7 +58,7 @@ impl Model for ClientRow {
 
 impl ClientRow {
     ghost use Rattle.std.specs.Prelude.{◌++◌, ◌∷◌, [], ◌+◌, IfOk, IfSome, IfNone, Some};
-    ghost use Rattle.lane_tables.specs.Books.{after_ask, after_took, first_row, next_in, planned_at};
+    ghost use Rattle.lane_tables.specs.Books.{after_ask, after_took, ask_at, first_row, next_in, planned_at};
     ghost use Rattle.lane_tables.specs.declared.rows.PlannedBody.{PlannedBody};
 
     /// The row of a client with one Plan.
@@ -49,10 +66,7 @@ impl ClientRow {
         ensures { IfOk result (λ row. row ≡ first_row client place) }
     {
         let mut bodies = Vec::new(alloc);
-        bodies.push(PlannedBody {
-            plan: place,
-            is_taken: false,
-        })?;
+        bodies.push(PlannedBody::new(place))?;
         Ok(ClientRow {
             client,
             bodies,
@@ -66,18 +80,16 @@ impl ClientRow {
         ensures ok { OnOk result (self.new ≡ record self.old { bodies = self.old.bodies ++ planned_at place ∷ [] }) }
         ensures err { OnErr result (self.new ≡ self.old) }
     {
-        self.bodies.push(PlannedBody {
-            plan: place,
-            is_taken: false,
-        })?;
+        self.bodies.push(PlannedBody::new(place))?;
         Ok(())
     }
 
-    /// Adds an Ask.
-    fn add_ask(&mut self)
+    /// Adds the Ask of this number.
+    fn add_ask(&mut self, ask: usize)
         requires { self.old.asked < length self.old.bodies }
-        ensures { self.new ≡ after_ask self.old }
+        ensures { self.new ≡ after_ask ask self.old }
     {
+        set_asked(&mut self.bodies, self.asked, ask);
         self.asked += 1;
     }
 
@@ -111,6 +123,16 @@ impl ClientRow {
         self.asked
     }
 
+    /// The number of the Ask of a body, where it was asked.
+    pub(crate) fn ask_of(&self, seq: u64) -> Option<usize>
+        ensures { result ≡ ask_at self.now.bodies seq }
+    {
+        match self.bodies.get(seq as usize) {
+            Some(body) => body.ask,
+            None => None,
+        }
+    }
+
     /// The number of the first body that was asked and not taken.
     pub(crate) fn oldest(&self) -> Option<u64>
         ensures below { IfSome result (λ seq. seq < self.now.asked) }
@@ -134,6 +156,15 @@ impl ClientRow {
             None => None,
         }
     }
+}
+
+/// A body was asked under this number.
+fn set_asked(bodies: &mut Vec<PlannedBody>, at: usize, ask: usize)
+    requires { at < length bodies.old.items }
+    ensures { bodies.new.items ≡ replaced at (as_asked ask) bodies.old.items }
+{
+    let body = &mut bodies[at];
+    body.ask = Some(ask);
 }
 
 /// What became of a body was taken.
@@ -209,14 +240,14 @@ pub(crate) fn add_plan(
     }
 }
 
-/// Adds an Ask of a client, which has a Plan that was not asked.
-pub(crate) fn add_ask(rows: &mut Vec<ClientRow>, client: u32)
+/// Adds an Ask of a client, which has a Plan that was not asked; it has this number.
+pub(crate) fn add_ask(rows: &mut Vec<ClientRow>, client: u32, ask: usize)
     requires { HasNext client rows.old.items }
-    ensures { rows.new.items ≡ with_ask client rows.old.items }
+    ensures { rows.new.items ≡ with_ask client ask rows.old.items }
 {
     if let Some(at) = row_at(rows, client) {
         let row = &mut rows[at];
-        row.add_ask();
+        row.add_ask(ask);
     }
 }
 

@@ -33,7 +33,7 @@ returns-in-Some c =
     let found = found_at c.args.client rows at is in
     let row = c.index_mut-row.result.now in
     ap (set rows at) c.add_ask.ensures
-    ∙ set_changed c.args.client after_ask rows at is row
+    ∙ set_changed c.args.client (after_ask c.args.ask) rows at is row
     (slice_get-get_or rows at row found.within ∙ ap (λ (r : Row). Some r) (sym c.index_mut-row.ensures.value))
 
 pub returns-in_default : goal.returns-in_default

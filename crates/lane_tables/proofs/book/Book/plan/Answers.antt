@@ -28,7 +28,7 @@ invariant_of-self-2 c =
       c.put.ensures.entries_capacity,
     ) in
     book_planned b.items.items c.put.new.items.items b.entries.items c.put.new.entries.items b.rows.items
-    c.add_plan.new.rows.items b.bodies b.words (b.bodies + 1) (b.words + (c.len.result + c.from.result))
+    c.add_plan.new.rows.items b.asks b.bodies b.words (b.bodies + 1) (b.words + (c.len.result + c.from.result))
     b.sealed _ after c.args.client c.planned-seq.result c.len-2.result c.args.body c.self.invariant seq few
     c.put.ensures.items c.put.ensures.entries (omega (arith, c.len-2.ensures)) c.in_ok-add_plan.ensures.ok refl
     (omega (arith, c.len.ensures, c.from.ensures, c.requires.reply)) enough

@@ -6,7 +6,7 @@ pub invariant_of-self-in_err-reserve-2 : goal.invariant_of-self-in_err-reserve-2
 invariant_of-self-in_err-reserve-2 c =
     let b = c.self.inside in
     book_reserved b.items.items c.reserve.new.self.items b.entries.items c.reserve-2.new.self.items b.rows.items
-    b.bodies b.words b.sealed _ _ c.reserve.ensures.items c.reserve-2.ensures.items
+    b.asks b.bodies b.words b.sealed _ _ c.reserve.ensures.items c.reserve-2.ensures.items
     (omega (
       arith,
       c.reserve.ensures.capacity,
@@ -19,7 +19,7 @@ pub invariant_of-self-2 : goal.invariant_of-self-2
 invariant_of-self-2 c =
     let b = c.self.inside in
     book_reserved b.items.items c.reserve.new.self.items b.entries.items c.reserve-2.new.self.items b.rows.items
-    b.bodies b.words b.sealed _ _ c.reserve.ensures.items c.reserve-2.ensures.items
+    b.asks b.bodies b.words b.sealed _ _ c.reserve.ensures.items c.reserve-2.ensures.items
     (omega (
       arith,
       c.reserve.ensures.capacity,

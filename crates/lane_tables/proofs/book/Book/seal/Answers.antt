@@ -9,7 +9,7 @@ invariant_of-self c =
     let b = c.self.inside in
     let after = room_of c.put.new.items.cap c.put.new.items.len c.put.new.entries.cap c.put.new.entries.len
     in
-    subst (λ (items : List Item). IsBook items c.put.new.entries.items b.rows.items b.bodies b.words true
+    subst (λ (items : List Item). IsBook items c.put.new.entries.items b.rows.items b.asks b.bodies b.words true
     after) (sym c.put.ensures.items)
-    (book_seal b.items.items b.entries.items b.rows.items b.bodies b.words b.sealed _ c.self.invariant
+    (book_seal b.items.items b.entries.items b.rows.items b.asks b.bodies b.words b.sealed _ c.self.invariant
     c.put.new.entries.items after c.put.ensures.entries)

@@ -29,11 +29,11 @@ invariant_of-self c =
       c.put.ensures.items_capacity,
       c.put.ensures.entries_capacity,
     ) in
-    subst (λ (items : List Item). IsBook items c.put.new.entries.items c.add_took.new.rows.items b.bodies
+    subst (λ (items : List Item). IsBook items c.put.new.entries.items c.add_took.new.rows.items b.asks b.bodies
     b.words b.sealed after) (sym c.put.ensures.items)
-    (subst (λ (rows : List Row). IsBook (b.items.items ++ x ∷ []) c.put.new.entries.items rows b.bodies
+    (subst (λ (rows : List Row). IsBook (b.items.items ++ x ∷ []) c.put.new.entries.items rows b.asks b.bodies
     b.words b.sealed after)
     (sym c.add_took.ensures)
-    (book_took b.items.items b.entries.items b.rows.items b.bodies b.words b.sealed _ c.self.invariant
+    (book_took b.items.items b.entries.items b.rows.items b.asks b.bodies b.words b.sealed _ c.self.invariant
     c.args.client c.args.seq c.args.outcome c.args.give_ups c.put.new.entries.items after below c.put.ensures.entries
     enough))
