@@ -25,5 +25,4 @@ mod Links
 mod Pumps
 mod Steps
 mod Records
-mod AskedBodies
 mod LostWithLink

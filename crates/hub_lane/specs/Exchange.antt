@@ -30,7 +30,6 @@ pub record Settles (pumped : Pumped) (bytes : List ℕ) (old new : Hub) (before 
   pub hub : new ≡ drained (hub_after pumped bytes (all_sent old))
   pub outcomes : after.items ≡ put_all (hub_after pumped bytes (all_sent old)).fates before.items
   pub lates : after.lates ≡ put_lates (hub_after pumped bytes (all_sent old)).lates before.lates
-  pub bodies : after.bodies ≡ before.bodies
   pub give_ups : count_now ≡ give_ups_of pumped (hub_after pumped bytes (all_sent old)) count
 
 -- some sends were taken from the hub, and nothing is settled
@@ -38,7 +37,6 @@ pub record SettlesNothing (old new : Hub) (before after : TableState) (count cou
   pub sent : HasSent old new
   pub outcomes : after.items ≡ before.items
   pub lates : after.lates ≡ before.lates
-  pub bodies : after.bodies ≡ before.bodies
   pub give_ups : count_now ≡ count
 
 -- ---- the hub and its link

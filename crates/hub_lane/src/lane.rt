@@ -70,7 +70,6 @@ impl<L: Link> Model for Lane<L> {
     ghost use Rattle.std.specs.Prelude.{IfSome, ◌||◌};
     ghost use Rattle.hub_lane.specs.Heard.{HasHeard, HasListened};
     ghost use Rattle.hub_lane.specs.Lanes.{IsLane, LaneState};
-    ghost use Rattle.lane_tables.specs.OutcomeTable.{AreAskedIn};
     ghost use Rattle.hub_lane.specs.Rounds.{HasPaid};
 
     ghost Value = { LaneState L };
@@ -95,7 +94,6 @@ impl<L: Link> Model for Lane<L> {
         × IfSome (L.telling l.link)
         (HasPaid (l.down || l.spent) l.mtu l.settings.rounds l.give_ups l.engine (L.held l.link))
         × HasHeard l.outcomes.items (L.gots l.link)
-        × AreAskedIn l.book.items l.outcomes.bodies
         × HasListened (record { mtu = l.mtu; buffers = l.buffers; next = l.first }) l.engine l.outcomes.items
         l.outcomes.lates l.give_ups (L.receives l.link) };
 }
@@ -334,8 +332,7 @@ impl<L: Link> Lane<L> {
         let body = copy_words(self.alloc, body.as_slice())?;
         self.book.reserve()?;
         let seq = self.book.asked(client);
-        self.outcomes
-            .offer(&mut self.engine, self.down, client, seq, body)?;
+        self.outcomes.offer(&mut self.engine, self.down, body)?;
         self.book.ask(client, seq, self.give_ups);
         Ok(Asked::Asked(seq))
     }
@@ -464,7 +461,10 @@ impl<L: Link> Lane<L> {
     {
         an_ask_is_of_its_plan();
         entries_go_into_the_book();
-        let Some(outcome) = self.outcomes.of_client(client, seq) else {
+        let Some(ask) = self.book.ask_of(client, seq) else {
+            unreachable!()
+        };
+        let Some(outcome) = self.outcomes.of_ask(ask) else {
             return Ok(Taken::NotYet);
         };
         let answer = copy_outcome(self.alloc, outcome)?;

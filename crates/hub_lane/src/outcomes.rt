@@ -62,7 +62,6 @@ fn outcome_of(fate: Fate) -> Outcome
 fn settle_all(hub: &mut Engine, outcomes: &mut OutcomeTable)
     ensures hub { hub.new ≡ without_fates hub.old }
     ensures outcomes { outcomes.new.items ≡ put_all hub.old.fates outcomes.old.items }
-    ensures bodies { outcomes.new.bodies ≡ outcomes.old.bodies }
     ensures lates { outcomes.new.lates ≡ outcomes.old.lates }
 {
     while let Some(fate) = hub.settled() {
@@ -75,7 +74,6 @@ fn keep_lates(hub: &mut Engine, outcomes: &mut OutcomeTable)
     ensures hub { hub.new ≡ without_lates hub.old }
     ensures lates { outcomes.new.lates ≡ put_lates hub.old.lates outcomes.old.lates }
     ensures outcomes { outcomes.new.items ≡ outcomes.old.items }
-    ensures bodies { outcomes.new.bodies ≡ outcomes.old.bodies }
 {
     while let Some(late) = hub.late() {
         outcomes.put_late(late.0, late.1);
@@ -85,7 +83,6 @@ fn keep_lates(hub: &mut Engine, outcomes: &mut OutcomeTable)
 /// The link failed: what has no outcome is lost, with its place where it was sent.
 pub(crate) fn lose_all(outcomes: &mut OutcomeTable, sent: u64)
     ensures outcomes { outcomes.new.items ≡ all_lost sent outcomes.old.items }
-    ensures bodies { outcomes.new.bodies ≡ outcomes.old.bodies }
     ensures lates { outcomes.new.lates ≡ outcomes.old.lates }
 {
     let mut place = 0;
@@ -115,7 +112,6 @@ pub(crate) fn settle(
     ensures hub { hub.new ≡ drained hub.old }
     ensures outcomes { outcomes.new.items ≡ put_all hub.old.fates outcomes.old.items }
     ensures lates { outcomes.new.lates ≡ put_lates hub.old.lates outcomes.old.lates }
-    ensures bodies { outcomes.new.bodies ≡ outcomes.old.bodies }
     ensures give_ups { give_ups.new ≡ give_ups_of pumped hub.old give_ups.old }
 {
     if pumped == Pumped::Quiet && !hub.waiting() {

@@ -5,7 +5,7 @@ use Rattle.hub_lane.proofs.outcomes.keep_lates.Given as goal
 
 abbrev pub invariant-loop-late : goal.invariant-loop-late
 invariant-loop-late l = (put_lates l.hub.lates l.outcomes.lates ≡ put_lates l.fn.hub.lates l.fn.outcomes.lates)
-    × (without_lates l.hub ≡ without_lates l.fn.hub) × (l.outcomes.bodies ≡ l.fn.outcomes.bodies)
+    × (without_lates l.hub ≡ without_lates l.fn.hub)
     × (l.outcomes.items ≡ l.fn.outcomes.items)
 
 abbrev pub decreases-loop-late : goal.decreases-loop-late

@@ -26,7 +26,6 @@ loop-ask-preserved c =
             omega (arith, invariant.1),
             invariant.2,
             invariant.3,
-            invariant.4,
           )
       | in-Some+else-is_sent w ↦
           let there = c.of_ask.ensures ∙ ap (λ (o : Option Outcome). Some o) w.in-Some.is in
@@ -37,25 +36,22 @@ loop-ask-preserved c =
             omega (arith, invariant.1),
             invariant.2,
             invariant.3,
-            invariant.4,
           )
       | in_default+then-place-sent w ↦
           let there = c.of_ask.ensures ∙ ap (λ (o : Option Outcome). Some o) w.in_default.is in
-          rw (w.outcomes-is, w.put.ensures.items, w.put.ensures.bodies, w.put.ensures.lates, w.place-is, next) (
+          rw (w.outcomes-is, w.put.ensures.items, w.put.ensures.lates, w.place-is, next) (
             lost_at_place before.items ask place sent there (lt-ltb place sent w.if-place-sent.true) ∙ invariant.0,
             omega (arith, invariant.1),
             length-put ask _ before.items ∙ invariant.2,
             invariant.3,
-            invariant.4,
           )
       | in_default+else-place-sent w ↦
           let there = c.of_ask.ensures ∙ ap (λ (o : Option Outcome). Some o) w.in_default.is in
           let put = w.put-else-place-sent.ensures in
-          rw (w.outcomes-is, put.items, put.bodies, put.lates, w.place-is, next) (
+          rw (w.outcomes-is, put.items, put.lates, w.place-is, next) (
             lost_unsent before.items ask place sent there (le-ltb place sent w.if-place-sent.false) ∙ invariant.0,
             omega (arith, invariant.1),
             length-put ask _ before.items ∙ invariant.2,
             invariant.3,
-            invariant.4,
           )
     ]

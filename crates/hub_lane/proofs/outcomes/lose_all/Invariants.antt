@@ -6,5 +6,5 @@ use Rattle.hub_lane.proofs.outcomes.lose_all.Given as goal
 abbrev pub invariant-loop-ask : goal.invariant-loop-ask
 invariant-loop-ask l = (lost_from l.ask l.place l.sent l.outcomes.items
     ≡ lost_after 0 l.sent l.fn.outcomes.items) × (l.place ≤ l.ask) × (length l.outcomes.items
-    ≡ length l.fn.outcomes.items) × (l.outcomes.bodies ≡ l.fn.outcomes.bodies)
+    ≡ length l.fn.outcomes.items)
     × (l.outcomes.lates ≡ l.fn.outcomes.lates)

@@ -1,8 +1,5 @@
-use Rattle.std.proofs.Common.{◌∙◌, List, map, sym, ap}
+use Rattle.std.proofs.Common.{ap}
 use Rattle.world_model.specs.Hub.{Hub}
-use Rattle.lane_record.specs.declared.item.Item.{Item}
-use Rattle.lane_record.specs.Claims.{claims}
-use Rattle.lane_tables.specs.OutcomeTable.{body_in}
 use Rattle.hub_lane.specs.Lanes.{status_of}
 use Rattle.hub_lane.proofs.Datagrams.{heard_first}
 use Rattle.hub_lane.proofs.Lanes.{lane_begun}
@@ -24,7 +21,6 @@ invariant_of-result g c = (
       c.args.status.buffers_in_range
       c.in-Ok-new.ensures c.requires.greeted,
   heard_first c.new-4.result.items (g.L.Link.gots c.args.link) c.new-4.ensures.items c.requires.heard,
-  c.new-4.ensures.bodies ∙ sym (ap (λ (xs : List Item). map body_in (claims xs)) c.in-Ok.ensures),
   listened_first (status_of c.args.status) c.in-Ok-new.engine c.new-4.result.items c.new-4.result.lates
       (g.L.Link.receives c.args.link) (ap (λ (h : Hub). h.status_requests) c.in-Ok-new.ensures) c.new-4.ensures.items
       c.new-4.ensures.lates c.requires.first,

@@ -15,8 +15,7 @@ use Rattle.hub_lane.proofs.Lanes.{body_sendable, found_fits, lane_asks}
 use Rattle.hub_lane.proofs.Rounds.{pays_asked}
 use Rattle.hub_lane.proofs.Datagrams.{asked_unheard, heard_asked}
 use Rattle.hub_lane.proofs.Listened.{listened_asked}
-use Rattle.lane_tables.specs.OutcomeTable.{AreAskedIn, IsAsked, TableState, asked_body}
-use Rattle.hub_lane.proofs.AskedBodies.{asked_more, not_asked_yet}
+use Rattle.lane_tables.specs.OutcomeTable.{TableState}
 use Rattle.hub_lane.proofs.lane.Lane.offer_next.Goals as goal
 
 pub invariant_of-self-2 : goal.invariant_of-self-2
@@ -71,25 +70,14 @@ invariant_of-self-2 g c =
       heard_asked (if l.down then Some (LinkLost None) else None) l.outcomes.items c.offer.new.self.items
           (g.L.Link.gots l.link) (asked_unheard l.down)
           c.in_ok-offer.ensures.items c.self.invariant.2,
-      subst (λ (xs : List Item). AreAskedIn xs c.offer.new.self.bodies) (sym entry)
-          (asked_more items client seq l.give_ups l.outcomes.bodies c.offer.new.self.bodies c.self.invariant.3
-          (c.in_ok-offer.ensures.bodies ∙ ap (λ (n : ℕ). l.outcomes.bodies ++ asked_body client n ∷ []) number)),
       listened_asked status l.down l.engine c.offer.new.engine
           (record { tag = length l.outcomes.items; body = c.in_ok-body.body }) l.outcomes.items
           c.offer.new.self.items l.outcomes.lates c.offer.new.self.lates l.give_ups (g.L.Link.receives l.link) hub_is
-          c.in_ok-offer.ensures.items c.in_ok-offer.ensures.lates c.self.invariant.4,
+          c.in_ok-offer.ensures.items c.in_ok-offer.ensures.lates c.self.invariant.3,
     )
 
-pub offer-requires-clause-bodies : goal.offer-requires-clause-bodies
-offer-requires-clause-bodies g c = c.self.invariant.0.ready.bodies.few
-
-pub offer-requires-clause-new : goal.offer-requires-clause-new
-offer-requires-clause-new g c =
-    let l = c.self.inside in
-    let seq = c.asked-seq.ensures ∙ ap (asked c.args.client) c.in_ok-reserve.ensures.items in
-    subst (λ (n : ℕ). IsAsked l.outcomes.bodies c.args.client n → ⊥) (sym seq)
-    (not_asked_yet l.book.items l.outcomes.items l.outcomes.bodies c.args.client c.self.invariant.0.kept.legal
-    c.self.invariant.3)
+pub offer-requires : goal.offer-requires
+offer-requires g c = c.self.invariant.0.ready.bodies.few
 
 pub returns-in_default-clause-round : goal.returns-in_default-clause-round
 returns-in_default-clause-round g c =

@@ -5,8 +5,6 @@ use Rattle.lane_record.specs.Items.{planned}
 use Rattle.lane_record.specs.NextEntry.{plan_of}
 use Rattle.hub_lane.specs.Lanes.{BoardStatus, IsLane, LaneState}
 use Rattle.hub_lane.specs.Plans.{CanPlan}
-use Rattle.lane_tables.specs.OutcomeTable.{AreAskedIn}
-use Rattle.hub_lane.proofs.AskedBodies.{asked_entry}
 use Rattle.hub_lane.proofs.Lanes.{lane_entry}
 use Rattle.hub_lane.proofs.lane.Lane.plan.Goals as goal
 
@@ -34,7 +32,5 @@ invariant_of-self-2 g c =
           (record { some_client = c.requires.client; next = refl; unsealed = can.unsealed })) c.self.invariant.0),
       c.self.invariant.1,
       c.self.invariant.2,
-      subst (λ (xs : List Item). AreAskedIn xs l.outcomes.bodies) (sym entry)
-          (asked_entry items x l.outcomes.bodies refl c.self.invariant.3),
-      c.self.invariant.4,
+      c.self.invariant.3,
     )

@@ -66,7 +66,6 @@ invariant_of-self g c =
           (g.L.Link.gots c.exchange.new.link) c.in-Ok.ensures.settled.event c.in-Ok.ensures.settled.outcomes
           c.in-Ok.ensures.received.counts.gots
           c.self.invariant.2,
-      c.in-Ok.ensures.settled.bodies ∙ c.self.invariant.3,
       pump_listened laws l.settings status l.engine l.book.items l.outcomes.items l.outcomes.lates l.give_ups l.down
           l.spent
           (telling l.link) (faults l.link) (quiets l.link) c.if-self-2.false c.if-self.false c.self.invariant.0
@@ -75,7 +74,7 @@ invariant_of-self g c =
           (g.L.Link.receives c.exchange.new.link) (sym c.waiting.ensures ∙ c.if-not-waiting.false)
           c.in-Ok.ensures.settled.event c.in-Ok.ensures.settled.hub c.in-Ok.ensures.settled.outcomes
           c.in-Ok.ensures.settled.lates
-          c.in-Ok.ensures.settled.give_ups c.in-Ok.ensures.received.receives c.self.invariant.4,
+          c.in-Ok.ensures.settled.give_ups c.in-Ok.ensures.received.receives c.self.invariant.3,
     )
 
 pub invariant_of-self-in-Err-Failed : goal.invariant_of-self-in-Err-Failed
@@ -126,7 +125,6 @@ invariant_of-self-in-Err-Failed g c =
       heard_down c.sent.result l.outcomes.items c.exchange.new.outcomes.items c.lose_all.new.outcomes.items
           (g.L.Link.gots l.link) (g.L.Link.gots c.exchange.new.link) (c.exchange.ensures.failed (cc)).receives.gots
           c.in-Err-Failed.ensures.unsettled.outcomes c.lose_all.ensures.outcomes c.self.invariant.2,
-      c.lose_all.ensures.bodies ∙ (c.in-Err-Failed.ensures.unsettled.bodies ∙ c.self.invariant.3),
       listened_sent status l.engine c.exchange.new.hub l.outcomes.items c.lose_all.new.outcomes.items
           l.outcomes.lates c.lose_all.new.outcomes.lates l.give_ups c.exchange.new.give_ups (g.L.Link.receives l.link)
           (g.L.Link.receives c.exchange.new.link) c.in-Err-Failed.ensures.unsettled.sent
@@ -135,7 +133,7 @@ invariant_of-self-in-Err-Failed g c =
           c.exchange.new.outcomes.items c.lose_all.new.outcomes.items l.outcomes.lates c.lose_all.new.outcomes.lates
           c.in-Err-Failed.ensures.unsettled.outcomes c.lose_all.ensures.outcomes
           (c.lose_all.ensures.lates ∙ c.in-Err-Failed.ensures.unsettled.lates)) c.exchange.ensures.counts.receives
-          c.self.invariant.4,
+          c.self.invariant.3,
     )
 
 pub invariant_of-self-in-Err-NoMemory : goal.invariant_of-self-in-Err-NoMemory
@@ -184,14 +182,13 @@ invariant_of-self-in-Err-NoMemory g c =
           (g.L.Link.gots c.exchange.new.link) c.exchange.ensures.counts.gots
           c.in-Err-NoMemory.ensures.unsettled.outcomes
           c.self.invariant.2,
-      c.in-Err-NoMemory.ensures.unsettled.bodies ∙ c.self.invariant.3,
       listened_sent status l.engine c.exchange.new.hub l.outcomes.items c.exchange.new.outcomes.items
           l.outcomes.lates c.exchange.new.outcomes.lates l.give_ups c.exchange.new.give_ups (g.L.Link.receives l.link)
           (g.L.Link.receives c.exchange.new.link) c.in-Err-NoMemory.ensures.unsettled.sent
           c.in-Err-NoMemory.ensures.unsettled.give_ups
           (same_answers l.outcomes.items c.exchange.new.outcomes.items l.outcomes.lates c.exchange.new.outcomes.lates
           c.in-Err-NoMemory.ensures.unsettled.outcomes c.in-Err-NoMemory.ensures.unsettled.lates)
-          c.exchange.ensures.counts.receives c.self.invariant.4,
+          c.exchange.ensures.counts.receives c.self.invariant.3,
     )
 
 pub returns-in-Ok-clause-same : goal.returns-in-Ok-clause-same

@@ -2,8 +2,6 @@ use Rattle.std.proofs.Common.{◌∙◌, List, sym, subst, refl}
 use Rattle.lane_record.specs.declared.item.Item.{Item}
 use Rattle.lane_record.specs.NextEntry.{the_seal}
 use Rattle.hub_lane.specs.Lanes.{BoardStatus, IsLane}
-use Rattle.lane_tables.specs.OutcomeTable.{AreAskedIn}
-use Rattle.hub_lane.proofs.AskedBodies.{asked_entry}
 use Rattle.hub_lane.proofs.Lanes.{lane_entry}
 use Rattle.hub_lane.proofs.lane.Lane.seal.Goals as goal
 
@@ -21,7 +19,5 @@ invariant_of-self g c =
           (sym c.is_sealed.ensures ∙ c.if-not-is_sealed.true)) c.self.invariant.0),
       c.self.invariant.1,
       c.self.invariant.2,
-      subst (λ (xs : List Item). AreAskedIn xs l.outcomes.bodies) (sym c.seal.ensures)
-          (asked_entry l.book.items the_seal l.outcomes.bodies refl c.self.invariant.3),
-      c.self.invariant.4,
+      c.self.invariant.3,
     )

@@ -55,12 +55,11 @@ invariant_of-self g c =
           up c.self.invariant.0.standing)) c.self.invariant.1,
       heard_still l.outcomes.items l.outcomes.items (g.L.Link.gots l.link) (g.L.Link.gots c.send_all.new.link)
           (let same = sent.unreceived.gots in omega (arith, same)) refl c.self.invariant.2,
-      c.self.invariant.3,
       listened_sent status l.engine c.send_all.new.hub l.outcomes.items l.outcomes.items l.outcomes.lates
           l.outcomes.lates l.give_ups l.give_ups (g.L.Link.receives l.link) (g.L.Link.receives c.send_all.new.link)
           sent.some refl (same_answers l.outcomes.items l.outcomes.items l.outcomes.lates l.outcomes.lates refl refl)
           (same_prefix (g.L.Link.receives l.link) (g.L.Link.receives c.send_all.new.link) sent.unreceived.receives)
-          c.self.invariant.4,
+          c.self.invariant.3,
     )
 
 pub invariant_of-self-in-Err-Failed : goal.invariant_of-self-in-Err-Failed
@@ -106,7 +105,6 @@ invariant_of-self-in-Err-Failed g c =
           (g.L.Link.gots l.link) (g.L.Link.gots c.send_all.new.link) sent.unreceived.gots refl
           c.lose_all.ensures.outcomes
           c.self.invariant.2,
-      c.lose_all.ensures.bodies ∙ c.self.invariant.3,
       listened_sent status l.engine c.send_all.new.hub l.outcomes.items c.lose_all.new.outcomes.items l.outcomes.lates
           c.lose_all.new.outcomes.lates l.give_ups l.give_ups (g.L.Link.receives l.link)
           (g.L.Link.receives c.send_all.new.link) sent.some refl
@@ -114,7 +112,7 @@ invariant_of-self-in-Err-Failed g c =
           c.lose_all.new.outcomes.items l.outcomes.lates c.lose_all.new.outcomes.lates refl
           c.lose_all.ensures.outcomes c.lose_all.ensures.lates)
           (same_prefix (g.L.Link.receives l.link) (g.L.Link.receives c.send_all.new.link) sent.unreceived.receives)
-          c.self.invariant.4,
+          c.self.invariant.3,
     )
 
 pub invariant_of-self-in-Err-NoMemory : goal.invariant_of-self-in-Err-NoMemory
@@ -159,12 +157,11 @@ invariant_of-self-in-Err-NoMemory g c =
           (telling c.send_all.new.link) sent.unreceived.board refl sent.unreceived.held c.self.invariant.1),
       heard_still l.outcomes.items l.outcomes.items (g.L.Link.gots l.link) (g.L.Link.gots c.send_all.new.link)
           (let same = sent.unreceived.gots in omega (arith, same)) refl c.self.invariant.2,
-      c.self.invariant.3,
       listened_sent status l.engine c.send_all.new.hub l.outcomes.items l.outcomes.items l.outcomes.lates
           l.outcomes.lates l.give_ups l.give_ups (g.L.Link.receives l.link) (g.L.Link.receives c.send_all.new.link)
           sent.some refl (same_answers l.outcomes.items l.outcomes.items l.outcomes.lates l.outcomes.lates refl refl)
           (same_prefix (g.L.Link.receives l.link) (g.L.Link.receives c.send_all.new.link) sent.unreceived.receives)
-          c.self.invariant.4,
+          c.self.invariant.3,
     )
 
 pub returns-in-Ok-clause-round : goal.returns-in-Ok-clause-round

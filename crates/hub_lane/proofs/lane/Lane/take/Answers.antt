@@ -1,52 +1,50 @@
-use Rattle.std.proofs.Common.{◌≡◌, ◌∙◌, ◌<◌, List, sym, ap, subst, refl, ◌++◌, ◌∷◌, [], Option, Some}
-use Rattle.std.proofs.Common.{None}
+use Rattle.std.proofs.Common.{◌≡◌, ◌∙◌, ◌<◌, List, sym, ap, subst, refl, ◌++◌, ◌∷◌, [], Option, Some, None, arith, length}
 use Rattle.std.specs.List.{slice_get}
+use Rattle.world_model.proofs.Lists.{get_within}
 use Rattle.lane_record.specs.declared.outcome.Outcome.{Outcome}
 use Rattle.lane_record.specs.declared.item.Item.{Item}
+use Rattle.lane_record.specs.Claims.{claims}
 use Rattle.lane_record.specs.Items.{asked}
 use Rattle.lane_record.specs.NextEntry.{took_of}
 use Rattle.lane_record.proofs.Lengths.{short_at}
 use Rattle.hub_lane.specs.Calls.{IsUntaken, Takes, WasAsked}
 use Rattle.hub_lane.specs.Lanes.{BoardStatus, IsLane, LaneState}
-use Rattle.lane_tables.specs.OutcomeTable.{AreAskedIn}
-use Rattle.hub_lane.proofs.AskedBodies.{asked_there, asked_entry}
 use Rattle.hub_lane.proofs.Lanes.{lane_entry}
 use Rattle.hub_lane.proofs.Steps.{asked_below}
 use Rattle.hub_lane.proofs.lane.Lane.take.Goals as goal
 
-no_outcome : (r : Option Outcome) → ((x : Outcome) → r ≡ Some x → ⊥) → r ≡ None
-no_outcome None not_some = refl
-no_outcome (Some x) not_some = absurd (not_some x refl)
-
-pub of_client-requires : goal.of_client-requires
-of_client-requires g c =
-    let l = c.self.inside in
+-- a body that was asked has an Ask
+pub unreachable-requires : goal.unreachable-requires
+unreachable-requires g c =
     let was = subst (λ (v : LaneState _). WasAsked v.items c.args.client c.args.seq) (sym c.self.view_is)
     c.requires.asked in
-    record {
-      ask = was.number;
-      there = asked_there l.book.items l.outcomes.bodies c.args.client c.args.seq was.number was.untaken.claim
-          c.self.invariant.3 was.untaken.ask;
-    }
+    let below = asked_below c.self.inside.book.items _ c.args.client c.args.seq c.self.invariant.0.kept.legal was in
+    let past = c.in_default.ensures.none in
+    omega (arith, below, past)
 
-pub returns-in_default-clause-taken : goal.returns-in_default-clause-taken
-returns-in_default-clause-taken g c =
-    let l = c.self.inside in
-    let items = l.book.items in
-    let outcomes = l.outcomes.items in
+pub of_ask-requires : goal.of_ask-requires
+of_ask-requires g c =
+    let items = c.self.inside.book.items in
+    let at = c.in-Some.ensures.some in
+    let within = get_within (claims items) c.in-Some.ask at.claim at.is.there in
+    let each = c.self.invariant.0.agrees.counts.each in
+    omega (arith, within, each)
+
+pub returns-in_default-of_ask-clause-taken : goal.returns-in_default-of_ask-clause-taken
+returns-in_default-of_ask-clause-taken g c =
+    let items = c.self.inside.book.items in
+    let ask = c.in-Some.ask in
+    let at = c.in-Some.ensures.some in
     let was = subst (λ (v : LaneState _). WasAsked v.items c.args.client c.args.seq) (sym c.self.view_is)
     c.requires.asked in
-    let at = was.number in
-    let none : c.of_client.result.now ≡ None = no_outcome c.of_client.result.now c.in_default.not-Some in
-    let there = asked_there items l.outcomes.bodies c.args.client c.args.seq at was.untaken.claim c.self.invariant.3
-    was.untaken.ask in
-    let yet : slice_get outcomes at ≡ Some None =
-    c.of_client.ensures at there ∙ ap (λ (o : Option Outcome). Some o) none in
-    let asked_there : IsUntaken items c.args.client c.args.seq at = was.untaken in
+    let untaken : IsUntaken items c.args.client c.args.seq ask =
+    record { claim = at.claim; ask = at.is; once = was.untaken.once } in
+    let yet : slice_get c.self.inside.outcomes.items ask ≡ Some None =
+    c.of_ask.ensures ∙ ap (λ (o : Option Outcome). Some o) c.in_default-of_ask.is in
     record {
-      number = at;
-      untaken = subst (λ (v : LaneState _). IsUntaken v.items c.args.client c.args.seq at) c.self.view_is asked_there;
-      none_yet = subst (λ (v : LaneState _). slice_get v.outcomes at ≡ Some None) c.self.view_is yet;
+      number = ask;
+      untaken = subst (λ (v : LaneState _). IsUntaken v.items c.args.client c.args.seq ask) c.self.view_is untaken;
+      none_yet = subst (λ (v : LaneState _). slice_get v.outcomes ask ≡ Some None) c.self.view_is yet;
       same = refl;
     }
 
@@ -65,14 +63,12 @@ invariant_of-self-2 g c =
     let outcomes = l.outcomes.items in
     let kept_is = c.in_ok-kept.kept in
     let x = took_of c.args.client c.args.seq kept_is l.give_ups in
+    let ask = c.in-Some.ask in
+    let at = c.in-Some.ensures.some in
     let was = subst (λ (v : LaneState _). WasAsked v.items c.args.client c.args.seq) (sym c.self.view_is)
     c.requires.asked in
-    let at = was.number in
-    let there : slice_get outcomes at ≡ Some c.of_client.result.now =
-    c.of_client.ensures at (asked_there items l.outcomes.bodies c.args.client c.args.seq at was.untaken.claim
-    c.self.invariant.3 was.untaken.ask) in
-    let became : slice_get outcomes at ≡ Some (Some kept_is) = there ∙ ap (λ (o : Option Outcome). Some o)
-    (c.in-Some.is ∙ ap (λ (o : Outcome). Some o) (sym c.in_ok-kept.ensures)) in
+    let became : slice_get outcomes ask ≡ Some (Some kept_is) = c.of_ask.ensures ∙ ap (λ (o : Option Outcome). Some o)
+    (c.in-Some-of_ask.is ∙ ap (λ (o : Outcome). Some o) (sym c.in_ok-kept.ensures)) in
     let entry : c.take.new.self.items ≡ items ++ x ∷ [] =
     c.take.ensures ∙ ap (λ (xs : List Item). xs ++ x ∷ []) c.in_ok-reserve.ensures.items in (
       subst (λ (xs : List Item). IsLane l.settings status l.engine xs outcomes l.outcomes.lates l.give_ups l.down
@@ -82,18 +78,12 @@ invariant_of-self-2 g c =
           (g.L.Link.telling l.link) (g.L.Link.faults l.link) (g.L.Link.quiets l.link) x refl tt
           (λ kept. c.entries_go_into_the_book.ensures.took items outcomes l.engine.window l.give_ups c.args.client
           c.args.seq
-          kept_is kept (record {
-            k = at;
-            claim = was.untaken.claim;
-            ask = was.untaken.ask;
-            once = was.untaken.once;
-            became = became;
-          })) c.self.invariant.0),
+          kept_is kept
+          (record { k = ask; claim = at.claim; ask = at.is; once = was.untaken.once; became = became }))
+          c.self.invariant.0),
       c.self.invariant.1,
       c.self.invariant.2,
-      subst (λ (xs : List Item). AreAskedIn xs l.outcomes.bodies) (sym entry)
-          (asked_entry items x l.outcomes.bodies refl c.self.invariant.3),
-      c.self.invariant.4,
+      c.self.invariant.3,
     )
 
 pub returns-clause-taken : goal.returns-clause-taken
@@ -104,14 +94,12 @@ returns-clause-taken g c =
     let outcomes = l.outcomes.items in
     let answer = c.in_ok-answer.answer in
     let x = took_of c.args.client c.args.seq answer l.give_ups in
+    let ask = c.in-Some.ask in
+    let at = c.in-Some.ensures.some in
     let was = subst (λ (v : LaneState _). WasAsked v.items c.args.client c.args.seq) (sym c.self.view_is)
     c.requires.asked in
-    let at = was.number in
-    let there : slice_get outcomes at ≡ Some c.of_client.result.now =
-    c.of_client.ensures at (asked_there items l.outcomes.bodies c.args.client c.args.seq at was.untaken.claim
-    c.self.invariant.3 was.untaken.ask) in
-    let became : slice_get outcomes at ≡ Some (Some answer) = there ∙ ap (λ (o : Option Outcome). Some o)
-    (c.in-Some.is ∙ ap (λ (o : Outcome). Some o) (sym c.in_ok-answer.ensures)) in
+    let became : slice_get outcomes ask ≡ Some (Some answer) = c.of_ask.ensures ∙ ap (λ (o : Option Outcome). Some o)
+    (c.in-Some-of_ask.is ∙ ap (λ (o : Outcome). Some o) (sym c.in_ok-answer.ensures)) in
     let same : c.in_ok-kept.kept ≡ answer = c.in_ok-kept.ensures ∙ sym c.in_ok-answer.ensures in
     let entry : c.take.new.self.items ≡ items ++ x ∷ [] =
     c.take.ensures ∙ (ap (λ (o : Outcome). c.reserve.new.self.items ++ took_of c.args.client c.args.seq o l.give_ups ∷
@@ -129,10 +117,10 @@ returns-clause-taken g c =
       down = l.down;
       spent = l.spent;
     }) answer) c.self.view_is (record {
-      number = at;
-      untaken = record { claim = was.untaken.claim; ask = was.untaken.ask; once = was.untaken.once };
+      number = ask;
+      untaken = record { claim = at.claim; ask = at.is; once = was.untaken.once };
       became = became;
-      short = short_at outcomes at answer c.self.invariant.0.short became;
+      short = short_at outcomes ask answer c.self.invariant.0.short became;
       entry = ap (λ (xs : List Item). record {
         link = l.link;
         settings = l.settings;
