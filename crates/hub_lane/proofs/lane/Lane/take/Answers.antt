@@ -1,4 +1,4 @@
-use Rattle.std.proofs.Common.{◌≡◌, ◌∙◌, ◌<◌, List, sym, ap, subst, refl, ◌++◌, ◌∷◌, [], Option, Some, None, arith, length}
+use Rattle.std.proofs.Common.{◌≡◌, ◌∙◌, ◌<◌, List, sym, ap, subst, refl, ◌++◌, ◌∷◌, [], Option, Some, None, arith}
 use Rattle.std.specs.List.{slice_get}
 use Rattle.world_model.proofs.Lists.{get_within}
 use Rattle.lane_record.specs.declared.outcome.Outcome.{Outcome}

@@ -1,7 +1,7 @@
 use Rattle.std.proofs.Common.{◌≡◌, ◌≤◌, ◌∙◌, Some, IfSome, IfNone, sym, ap, arith, subst}
 use Rattle.std.proofs.lemmas.Option.{slice_get-get_or}
 use Rattle.lane_record.specs.Items.{asked}
-use Rattle.lane_tables.specs.Books.{BookState, IsAskedRow, IsRow, Row, TellsAsks, ask_at, row_at}
+use Rattle.lane_tables.specs.Books.{BookState, IsAskedRow, IsRow, Row, TellsAsks, row_at}
 use Rattle.lane_tables.specs.Taken.{IsAskAt}
 use Rattle.lane_tables.proofs.AskedRows.{is_ask, is_not_asked}
 use Rattle.lane_tables.proofs.ClientRows.{found_at, no_row}
