@@ -1,7 +1,6 @@
 -- How boards stand, one more.
 use Rattle.std.proofs.Common.{◌≡◌, ◌∙◌, ℕ, ◌+◌, ◌≤◌, ◌<◌, List, [], ◌∷◌, ◌++◌, map, length, drop, get_or, refl, sym}
-use Rattle.std.proofs.Common.{ap, subst, arith}
-use Rattle.std.proofs.Common.{append_assoc, Option}
+use Rattle.std.proofs.Common.{ap, subst, arith, append_assoc}
 use Rattle.std.specs.List.{AllByRecursion}
 use Rattle.std.proofs.lemmas.List.{drop_more}
 use Rattle.ipb_outside.specs.declared.door.Door.{Ghosts as DoorGhosts}
