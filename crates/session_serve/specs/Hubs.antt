@@ -4,7 +4,10 @@ use Rattle.std.specs.Prelude.{◌≡◌, ℕ, List, [], ◌++◌, map, Option}
 use Rattle.std.specs.List.{AllByRecursion}
 use Rattle.ipb_base.specs.Numbers.{payload_of}
 use Rattle.turn_pass.specs.Pass.{Knowledge, TurnId}
-use Rattle.ipb_outside.specs.Pairs.{Came, PairReport, Went}
+use Rattle.ipb_outside.specs.declared.door.Door.{Ghosts as DoorGhosts}
+use Rattle.ipb_outside.specs.declared.sink.Sink.{Ghosts as SinkGhosts}
+use Rattle.ipb_outside.specs.declared.source.Source.{Ghosts as SourceGhosts}
+use Rattle.ipb_outside.specs.Pairs.{Came, PairReport, Went, pair_shown}
 use Rattle.world_core.specs.Telling.{Telling}
 use Rattle.lane_record.specs.Submissions.{Submission}
 use Rattle.hub_lane.specs.Lanes.{LaneState}
@@ -52,6 +55,13 @@ pub record AllBack {I O : Type 0} (shows : I × O → PairReport) (boards : List
   pub clients : AreOfClientsFrom 1 seats
   pub taken_in : AreTakenIn start end' (seats_of dones ++ others)
 
+-- the same of a door before and after
+abbrev pub GivesAllBack : {D I O : Type 0} → DoorGhosts D I O → SourceGhosts I → SinkGhosts O → List BoardState
+    → List TurnId → List SeatState → MasterState → MasterState → D → D → Type 0
+GivesAllBack {D} {I} {O} seen source sink boards turns seats start end' door door_now =
+    AllBack (pair_shown source sink) boards turns seats start end' (seen.coming door) (seen.coming door_now)
+    (seen.kept door) (seen.kept door_now)
+
 -- At its end these are the lines of all connections, one for each seat.
 pub record HasServedAll {I O : Type 0} (shows : I × O → PairReport) (boards : List BoardState) (turns : List TurnId)
     (seats : List SeatState) (start end' : MasterState) (coming coming_now kept kept_now : Option (List (I × O)))
@@ -59,6 +69,12 @@ pub record HasServedAll {I O : Type 0} (shows : I × O → PairReport) (boards :
   pub all_back : AllBack shows boards turns seats start end' coming coming_now kept kept_now
   pub lines : served ≡ served_of all_back.dones
   pub no_others : all_back.others ≡ []
+
+abbrev pub ServesAll : {D I O : Type 0} → DoorGhosts D I O → SourceGhosts I → SinkGhosts O → List BoardState
+    → List TurnId → List SeatState → MasterState → MasterState → D → D → List Served → Type 0
+ServesAll {D} {I} {O} seen source sink boards turns seats start end' door door_now served =
+    HasServedAll (pair_shown source sink) boards turns seats start end' (seen.coming door) (seen.coming door_now)
+    (seen.kept door) (seen.kept door_now) served
 
 -- ---- lanes
 

@@ -5,13 +5,13 @@ ghost use Rattle.std.specs.List.{AllByRecursion};
 ghost use Rattle.std.specs.Vec.{vec_capacity};
 ghost use Rattle.ipb_outside.specs.Faults.{RisesExactlyIf};
 ghost use Rattle.ipb_outside.specs.Doors.{Listens};
-ghost use Rattle.ipb_outside.specs.Pairs.{GivesBack, Went, pair_shown};
+ghost use Rattle.ipb_outside.specs.Pairs.{GivesBack, Went};
 ghost use Rattle.hub_multiplexer.specs.Ends.{HasTakenIn};
 ghost use Rattle.hub_multiplexer.specs.Seats.{IsMasterOf};
 ghost use Rattle.client_threads.specs.Running.{AtEach};
 ghost use Rattle.hub_session.specs.Serving.{IsLaneBelow};
 ghost use Rattle.board_greeting.specs.Boards.{HasNoEntry};
-ghost use Rattle.session_serve.specs.Hubs.{AllBack, AreServedAt, HasServedAll, KeepsHead, served_of, pairs_of};
+ghost use Rattle.session_serve.specs.Hubs.{AreServedAt, GivesAllBack, KeepsHead, ServesAll, served_of, pairs_of};
 ghost use Rattle.session_serve.specs.Hubs.{seats_of};
 ghost use Rattle.session_serve.specs.Plans.{ArePlannedAt};
 ghost use Rattle.session_serve.specs.Room.{HasSeats};
@@ -125,11 +125,10 @@ fn serve_seats<L: Link + Send, D: Door, T: Threads + Wait + Sync>(
     requires known { length master.old.knows ≡ length hub.now.turns }
     requires lanes { AllByRecursion (IsLaneBelow (length hub.now.turns)) states.now }
     requires seats { HasSeats hub.now.turns room }
-    ensures all_back { AllBack (pair_shown D.Incoming.Source D.Outgoing.Sink) states.now hub.now.turns room.seats.items
-        master.old master.new (D.coming door.old) (D.coming door.new) (D.kept door.old) (D.kept door.new) }
-    ensures served { IfOk result (λ served. HasServedAll (pair_shown D.Incoming.Source D.Outgoing.Sink) states.now
-        hub.now.turns room.seats.items master.old master.new (D.coming door.old) (D.coming door.new) (D.kept door.old)
-        (D.kept door.new) served.items) }
+    ensures all_back { GivesAllBack D.Door D.Incoming.Source D.Outgoing.Sink states.now hub.now.turns room.seats.items
+        master.old master.new door.old door.new }
+    ensures served { IfOk result (λ served. ServesAll D.Door D.Incoming.Source D.Outgoing.Sink states.now
+        hub.now.turns room.seats.items master.old master.new door.old door.new served.items) }
     ensures all { IfOk result (λ served. length served.items ≡ length room.seats.items) }
     ensures had_memory { IfOk result (λ served. AllByRecursion HadMemory served.items) }
     ensures taken_in { HasTakenIn 1 master.old → HasTakenIn (length room.seats.items + 1) master.new }
@@ -183,13 +182,11 @@ fn serve_under_seats<L: Link + Send, D: Door, T: Threads + Wait + Sync>(
     requires none { master.old.seats ≡ 0 }
     requires opens { AllByRecursion IsOpen master.old.knows }
     requires lanes { AllByRecursion (IsLaneBelow (length hub.now.turns)) states.now }
-    ensures all_back { (seats : _) × AllBack (pair_shown D.Incoming.Source D.Outgoing.Sink) states.now hub.now.turns
-        seats (with_seats master.old (length seats)) master.new (D.coming door.old) (D.coming door.new)
-        (D.kept door.old) (D.kept door.new) }
+    ensures all_back { (seats : _) × GivesAllBack D.Door D.Incoming.Source D.Outgoing.Sink states.now hub.now.turns
+        seats (with_seats master.old (length seats)) master.new door.old door.new }
     ensures served { IfOk result (λ served. (seats : _)
-        × HasServedAll (pair_shown D.Incoming.Source D.Outgoing.Sink) states.now hub.now.turns seats
-        (with_seats master.old (length seats)) master.new (D.coming door.old) (D.coming door.new) (D.kept door.old)
-        (D.kept door.new) served.items) }
+        × ServesAll D.Door D.Incoming.Source D.Outgoing.Sink states.now hub.now.turns seats
+        (with_seats master.old (length seats)) master.new door.old door.new served.items) }
     ensures all { IfOk result (λ served. length served.items ≡ count) }
     ensures had_memory { IfOk result (λ served. AllByRecursion HadMemory served.items) }
     ensures taken_in { HasTakenIn 1 master.old → HasTakenIn (master.new.seats + 1) master.new }
