@@ -1,10 +1,11 @@
 -- The keys that the tables of a session document may have: what stands under each, whether it has to be there, and what
 -- a number is where it is left out. The needed keys of a table stand in byte order. Profile.
-use Rattle.std.specs.Prelude.{ℕ, Bool, true, false, if◌then◌else◌, List, [], ◌∷◌, codes, Option, Some, None}
+use Rattle.std.specs.Prelude.{ℕ, Bool, true, false, if◌then◌else◌, List, [], ◌∷◌, map, codes, Option}
 use Rattle.std.specs.Str.{bytes_eq}
 use Rattle.std.specs.Option.{option_and_then}
 use Rattle.toml.specs.Data.{Members, get_member, as_str}
 use Rattle.address_table.specs.Rules.{has_key, holds_of}
+use Rattle.ipb_base.specs.Lists.{first_named}
 use Rattle.ipb_base.specs.Numbers.{least_mtu, greatest_mtu}
 use Rattle.packet_ids.specs.declared.places.TheConstants.{IDENTIFIERS}
 use Rattle.status_packet.specs.Range.{most_buffers}
@@ -102,5 +103,4 @@ keys_of Client ms = client_keys
 
 -- what stands under a key of this name, if there is one
 abbrev pub kind_at : List KeyRule → List ℕ → Option Kind
-kind_at [] name = None
-kind_at (key ∷ keys) name = if bytes_eq name key.name then Some key.kind else kind_at keys name
+kind_at keys name = first_named (map (λ (key : KeyRule). (key.name, key.kind)) keys) name

@@ -146,7 +146,7 @@ pub(crate) fn kind_at(form: Form, name: &str) -> Option<Kind>
 fn noisy_kind(name: &str) -> Option<Kind>
     ensures { result ≡ spec.kind_at spec.sim_keys_with_noise name.now }
 {
-    if name == "noise" {
+    if "noise" == name {
         Some(WORD)
     } else {
         value_named(&SIM_KEYS, name)
