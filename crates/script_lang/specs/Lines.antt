@@ -4,6 +4,7 @@ use Rattle.std.specs.Prelude.{slice_index, codes, Option, Some, None}
 use Rattle.std.specs.List.{filter}
 use Rattle.std.specs.Str.{bytes_eq}
 use Rattle.ipb_base.specs.Digits.{number_in_text}
+use Rattle.ipb_base.specs.Lists.{first_named}
 use Rattle.script_lang.specs.declared.call.Command.{Command}
 use Rattle.script_lang.specs.declared.call.Command.TheVariants as says
 use Rattle.script_steps.specs.declared.operation.Verb.{Verb}
@@ -36,15 +37,19 @@ abbrev pub is_comment : List ℕ → Bool
 is_comment [] = false
 is_comment (byte ∷ rest) = byte == 35
 
+-- the verbs, each beside its name
+abbrev pub verbs : List (List ℕ × Verb)
+verbs =
+    (codes "read", Read)
+    ∷ (codes "write", Write)
+    ∷ (codes "readblock", ReadBlock)
+    ∷ (codes "writeblock", WriteBlock)
+    ∷ (codes "rmwbits", RmwBits)
+    ∷ (codes "rmwsum", RmwSum)
+    ∷ []
+
 abbrev pub verb_named : List ℕ → Option Verb
-verb_named word =
-    if bytes_eq word (codes "read") then Some Read
-    else if bytes_eq word (codes "write") then Some Write
-    else if bytes_eq word (codes "readblock") then Some ReadBlock
-    else if bytes_eq word (codes "writeblock") then Some WriteBlock
-    else if bytes_eq word (codes "rmwbits") then Some RmwBits
-    else if bytes_eq word (codes "rmwsum") then Some RmwSum
-    else None
+verb_named word = first_named verbs word
 
 -- the numbers that words are, if all of them are numbers
 abbrev pub numbers_of : List (List ℕ) → Option (List ℕ)
