@@ -1,53 +1,28 @@
 -- One datagram more: what is proved stays proved, and what a hub hears adds no body to those that it sent.
-use Rattle.std.proofs.Common.{◌≡◌, ◌∙◌, ◌⊎◌, ℕ, zero, suc, ◌+◌, ◌-◌, ◌≤◌, Bool, true, if◌then◌else◌, List, [], ◌∷◌, ◌++◌}
-use Rattle.std.proofs.Common.{length, map, drop, Option, Some, None, Result, Ok, Err, refl, ap, sym, subst, inl, inr, arith}
-use Rattle.std.proofs.Common.{append_assoc}
-use Rattle.std.specs.Prelude.{IfOk, nat_lt}
-use Rattle.std.proofs.lemmas.Bool.{leb-true}
-use Rattle.std.proofs.lemmas.List.{append-nil, length-map, length-append, map-append}
-use Rattle.std.proofs.Math.Seq.{drop-append_seam}
-use Rattle.std.specs.List.{AllByRecursion, slice_get}
-use Rattle.ipb_base.proofs.AllLemmas.{AllByRecursion-append, all-map}
-use Rattle.packet_ids.specs.Identifier.{IsIdentifier, identifier_at}
-use Rattle.packet_codec.specs.Packet.{AreBytes, packet_bytes}
+use Rattle.std.proofs.Common.{◌≡◌, ◌∙◌, ◌⊎◌, ℕ, ◌+◌, ◌≤◌, true, if◌then◌else◌, List, [], ◌∷◌, ◌++◌}
+use Rattle.std.proofs.Common.{Option, Some, None, refl, ap, inl, inr}
+use Rattle.std.specs.Prelude.{nat_lt}
+use Rattle.std.proofs.lemmas.List.{append-nil}
+use Rattle.std.specs.List.{AllByRecursion}
+use Rattle.ipb_base.proofs.AllLemmas.{all-map}
 use Rattle.world_model.specs.declared.datagram.Datagram.{Datagram}
 use Rattle.world_model.specs.declared.datagram.Direction.{Direction}
 use Rattle.world_model.specs.declared.datagram.Direction.TheVariants as goes
-use Rattle.world_model.specs.declared.heard.LogEntry.{LogEntry}
-use Rattle.world_model.specs.declared.moves.WorldMove.{WorldMove}
-use Rattle.world_model.specs.declared.moves.WorldMove.TheVariants.{Offer, Quiet, HubHears, BoardHears}
-use Rattle.world_model.specs.declared.moves.WorldEnd.{WorldEnd}
-use Rattle.world_model.specs.declared.offered.Offered.{Offered}
 use Rattle.world_model.specs.declared.offered.OpenPlace.{OpenPlace}
 use Rattle.world_model.specs.declared.offered.Fate.{Fate}
 use Rattle.world_model.specs.declared.offered.Fate.TheVariants.{Replied, TimedOut, Unsent}
-use Rattle.world_model.specs.Messages.{ToHub, StatusReply, Reply, to_hub}
-use Rattle.world_model.specs.Places.{at_place}
-use Rattle.world_model.specs.Board.{Board, body_of, executed, hear, replies}
-use Rattle.world_model.specs.Hub.{Hub, give_up, hear_quiet, is_waiting, least, offer, open_with}
-use Rattle.world_model.specs.Hub.{places, recovered, settle, tag_of, take_message, told_place, want_status}
-use Rattle.world_model.specs.Sends.{Next, bytes_to_send, next_send, packet_to_send, pending}
-use Rattle.world_model.specs.Air.{LIFETIME, goes_to, is_alive}
-use Rattle.world_model.specs.World.{World, answered, board_hears, flush, flush_on, go_on, hub_hears, moves_on, run_moves}
-use Rattle.world_model.specs.World.{sent_into, start, step, taken, when_taken, with_hub}
-use Rattle.world_model.specs.Facts.{IsSaid, IsSaidToHub, IsStart, bodies_of, offered_body}
-use Rattle.world_model.specs.History.{IsMove}
-use Rattle.world_model.specs.Links.{IsHanded, IsHeard, IsJoined, Told, birth_of, first_sends, first_sends_from}
-use Rattle.world_model.specs.Links.{heard_by, heard_on, hears_all, is_first_send, then_told}
-use Rattle.world_model.proofs.Hubs.{IsFoundOr, all_inserted, all_timed_out, all_unsent, open_found}
-use Rattle.world_model.proofs.Lists.{all_get, either}
-use Rattle.world_model.proofs.Places.{has_below, has_from}
-use Rattle.capture_laws.proofs.Joint.{Laws}
+use Rattle.world_model.specs.Messages.{ToHub, StatusReply, Reply}
+use Rattle.world_model.specs.Hub.{Hub, give_up, hear_quiet, open_with}
+use Rattle.world_model.specs.Hub.{recovered, settle, take_message, told_place, want_status}
+use Rattle.world_model.specs.Air.{goes_to}
+use Rattle.world_model.specs.Links.{first_sends_from}
+use Rattle.world_model.specs.Links.{is_first_send}
+use Rattle.world_model.proofs.Lists.{either}
 use Rattle.capture_reader.specs.declared.capture.Caught.{Caught}
 use Rattle.capture_reader.specs.Proved.{HasProof, sent_after}
-use Rattle.link_tap.specs.Traffic.{for_board, received_item, sent_in, sent_item}
-use Rattle.link_tap.proofs.Lists.{for_board-append, none_sent, one_more_for_board, one_more_sent}
-use Rattle.link_tap.proofs.Traffic.{answer_for_hub}
-use Rattle.capture_laws.specs.Captures.{bodies_from, heard_at, heard_in, items_of, items_then, new_body, sent_since}
-use Rattle.capture_laws.proofs.Walks.{bodies_append, count_append, count_from, proof_behind, proof_front, proof_in}
-use Rattle.capture_laws.proofs.Shown.{proves_its_place, shows_executed}
-use Rattle.capture_laws.proofs.Spelled.{IsSpelled, IsSpelledTo, answer_spelled, greeting_spelled, packet_spelled}
-use Rattle.capture_laws.proofs.Sends.{IsNew, IsOld, IsSend, IsSendOr, adds_nothing, adds_one, send_is}
+use Rattle.link_tap.specs.Traffic.{sent_item}
+use Rattle.capture_laws.specs.Captures.{bodies_from, new_body}
+use Rattle.capture_laws.proofs.Walks.{bodies_append, count_append, count_from, proof_front}
 
 -- the place of a reply that was or will be handed out is proved
 abbrev pub IsProvedFate : ℕ → List Caught → ℕ × Fate → Type 0

@@ -20,7 +20,7 @@ use Rattle.world_model.specs.declared.moves.WorldEnd.{WorldEnd}
 use Rattle.world_model.specs.declared.offered.Offered.{Offered}
 use Rattle.world_model.specs.declared.offered.OpenPlace.{OpenPlace}
 use Rattle.world_model.specs.declared.offered.Fate.{Fate}
-use Rattle.world_model.specs.declared.offered.Fate.TheVariants.{Replied, TimedOut, Unsent}
+use Rattle.world_model.specs.declared.offered.Fate.TheVariants.{Replied}
 use Rattle.world_model.specs.Messages.{ToHub, StatusReply, Reply, to_hub}
 use Rattle.world_model.specs.Places.{at_place}
 use Rattle.world_model.specs.Board.{Board, body_of, executed, hear, replies}
@@ -32,23 +32,23 @@ use Rattle.world_model.specs.World.{World, answered, board_hears, flush, flush_o
 use Rattle.world_model.specs.World.{sent_into, start, step, taken, when_taken, with_hub}
 use Rattle.world_model.specs.Facts.{IsSaid, IsSaidToHub, IsStart, bodies_of, offered_body}
 use Rattle.world_model.specs.History.{IsMove}
-use Rattle.world_model.specs.Links.{IsHanded, IsHeard, IsJoined, Told, birth_of, first_sends, first_sends_from}
-use Rattle.world_model.specs.Links.{heard_by, heard_on, hears_all, is_first_send, then_told}
+use Rattle.world_model.specs.Links.{IsHanded, IsHeard, IsJoined, Told, birth_of, first_sends}
+use Rattle.world_model.specs.Links.{heard_by, heard_on, hears_all, then_told}
 use Rattle.world_model.proofs.Hubs.{IsFoundOr, all_inserted, all_timed_out, all_unsent, open_found}
 use Rattle.world_model.proofs.Lists.{all_get, either}
 use Rattle.world_model.proofs.Places.{has_below, has_from}
 use Rattle.capture_laws.proofs.Joint.{Laws}
 use Rattle.capture_reader.specs.declared.capture.Caught.{Caught}
-use Rattle.capture_reader.specs.Proved.{HasProof, sent_after}
+use Rattle.capture_reader.specs.Proved.{HasProof}
 use Rattle.link_tap.specs.Traffic.{for_board, received_item, sent_in, sent_item}
 use Rattle.link_tap.proofs.Lists.{for_board-append, none_sent, one_more_for_board, one_more_sent}
 use Rattle.link_tap.proofs.Traffic.{answer_for_hub}
-use Rattle.capture_laws.specs.Captures.{bodies_from, heard_at, heard_in, items_of, items_then, new_body, sent_since}
-use Rattle.capture_laws.proofs.Walks.{bodies_append, count_append, count_from, proof_behind, proof_front, proof_in}
+use Rattle.capture_laws.specs.Captures.{bodies_from, heard_at, heard_in, items_of, items_then, sent_since}
+use Rattle.capture_laws.proofs.Walks.{count_from, proof_behind, proof_in}
 use Rattle.capture_laws.proofs.Shown.{proves_its_place, shows_executed}
 use Rattle.capture_laws.proofs.Spelled.{IsSpelled, IsSpelledTo, answer_spelled, greeting_spelled, packet_spelled}
 use Rattle.capture_laws.proofs.Sends.{IsNew, IsOld, IsSend, IsSendOr, adds_nothing, adds_one, send_is}
-use Rattle.capture_laws.proofs.OneMore.{IsProvedFate, still_proved, all_proved, count_more, bodies_more, no_proof_sent, shown_still, count_last, same_way, settle_sent, recovered_sent, message_sent, quiet_sent}
+use Rattle.capture_laws.proofs.OneMore.{IsProvedFate, all_proved, count_more, bodies_more, shown_still, count_last, same_way, message_sent, quiet_sent}
 
 -- the board and the air, as a link tells them
 abbrev pub told_of : World → Told
