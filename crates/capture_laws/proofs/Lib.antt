@@ -3,5 +3,6 @@ pub mod Walks
 pub mod Shown
 pub mod Sends
 pub mod Spelled
+pub mod OneMore
 pub mod Runs
 pub mod Lanes

@@ -20,7 +20,7 @@ use Rattle.world_model.specs.declared.moves.WorldEnd.{WorldEnd}
 use Rattle.world_model.specs.declared.offered.Offered.{Offered}
 use Rattle.world_model.specs.declared.offered.OpenPlace.{OpenPlace}
 use Rattle.world_model.specs.declared.offered.Fate.{Fate}
-use Rattle.world_model.specs.declared.offered.Fate.TheVariants.{Replied, TimedOut, Unsent}
+use Rattle.world_model.specs.declared.offered.Fate.TheVariants.{Replied}
 use Rattle.world_model.specs.Messages.{ToHub, StatusReply, Reply, to_hub}
 use Rattle.world_model.specs.Places.{at_place}
 use Rattle.world_model.specs.Board.{Board, body_of, executed, hear, replies}
@@ -32,28 +32,23 @@ use Rattle.world_model.specs.World.{World, answered, board_hears, flush, flush_o
 use Rattle.world_model.specs.World.{sent_into, start, step, taken, when_taken, with_hub}
 use Rattle.world_model.specs.Facts.{IsSaid, IsSaidToHub, IsStart, bodies_of, offered_body}
 use Rattle.world_model.specs.History.{IsMove}
-use Rattle.world_model.specs.Links.{IsHanded, IsHeard, IsJoined, Told, birth_of, first_sends, first_sends_from}
-use Rattle.world_model.specs.Links.{heard_by, heard_on, hears_all, is_first_send, then_told}
+use Rattle.world_model.specs.Links.{IsHanded, IsHeard, IsJoined, Told, birth_of, first_sends}
+use Rattle.world_model.specs.Links.{heard_by, heard_on, hears_all, then_told}
 use Rattle.world_model.proofs.Hubs.{IsFoundOr, all_inserted, all_timed_out, all_unsent, open_found}
 use Rattle.world_model.proofs.Lists.{all_get, either}
 use Rattle.world_model.proofs.Places.{has_below, has_from}
 use Rattle.capture_laws.proofs.Joint.{Laws}
 use Rattle.capture_reader.specs.declared.capture.Caught.{Caught}
-use Rattle.capture_reader.specs.Proved.{HasProof, sent_after}
+use Rattle.capture_reader.specs.Proved.{HasProof}
 use Rattle.link_tap.specs.Traffic.{for_board, received_item, sent_in, sent_item}
 use Rattle.link_tap.proofs.Lists.{for_board-append, none_sent, one_more_for_board, one_more_sent}
 use Rattle.link_tap.proofs.Traffic.{answer_for_hub}
-use Rattle.capture_laws.specs.Captures.{bodies_from, heard_at, heard_in, items_of, items_then, new_body, sent_since}
-use Rattle.capture_laws.proofs.Walks.{bodies_append, count_append, count_from, proof_behind, proof_front, proof_in}
+use Rattle.capture_laws.specs.Captures.{bodies_from, heard_at, heard_in, items_of, items_then, sent_since}
+use Rattle.capture_laws.proofs.Walks.{count_from, proof_behind, proof_in}
 use Rattle.capture_laws.proofs.Shown.{proves_its_place, shows_executed}
 use Rattle.capture_laws.proofs.Spelled.{IsSpelled, IsSpelledTo, answer_spelled, greeting_spelled, packet_spelled}
 use Rattle.capture_laws.proofs.Sends.{IsNew, IsOld, IsSend, IsSendOr, adds_nothing, adds_one, send_is}
-
--- the place of a reply that was or will be handed out is proved
-abbrev pub IsProvedFate : ℕ → List Caught → ℕ × Fate → Type 0
-IsProvedFate first items (tag, Replied place words) = HasProof first 0 items place
-IsProvedFate first items (tag, TimedOut place rounds) = Unit {0}
-IsProvedFate first items (tag, Unsent) = Unit {0}
+use Rattle.capture_laws.proofs.OneMore.{IsProvedFate, all_proved, count_more, bodies_more, shown_still, count_last, same_way, message_sent, quiet_sent}
 
 -- the board and the air, as a link tells them
 abbrev pub told_of : World → Told
@@ -70,75 +65,6 @@ pub record Shows (first : ℕ) (greeting : List Datagram) (w : World) (items : L
   pub waiting : AllByRecursion (IsProvedFate first items) w.hub.fates
   pub spelled : AllByRecursion IsSpelled w.air
   pub sends : for_board w.air ≡ for_board greeting ++ sent_in items
-
--- ---- one datagram more
-
-still_proved : (first : ℕ) (items more : List Caught) (fate : ℕ × Fate) → IsProvedFate first items fate
-    → IsProvedFate first (items ++ more) fate
-still_proved first items more (tag, Replied place words) is = proof_front first 0 items more place is
-still_proved first items more (tag, TimedOut place rounds) is = tt
-still_proved first items more (tag, Unsent) is = tt
-
-all_proved : (first : ℕ) (items more : List Caught) (fates : List (ℕ × Fate))
-    → AllByRecursion (IsProvedFate first items) fates → AllByRecursion (IsProvedFate first (items ++ more)) fates
-all_proved first items more fates all = all-map (IsProvedFate first items) (IsProvedFate first (items ++ more)) fates
-    (λ fate is. still_proved first items more fate is) all
-
-count_more : (first sent : ℕ) (items : List Caught) (item : Caught) → count_from first 0 items ≡ sent
-    → count_from first 0 (items ++ item ∷ []) ≡ sent_after first sent item
-count_more first sent items item e =
-    count_append first 0 items (item ∷ []) ∙ ap (λ (k : ℕ). sent_after first k item) e
-
-bodies_more : (first sent : ℕ) (items : List Caught) (item : Caught) → count_from first 0 items ≡ sent
-    → bodies_from first 0 (items ++ item ∷ []) ≡ bodies_from first 0 items ++ new_body first sent item
-bodies_more first sent items item e =
-    bodies_append first 0 items (item ∷ [])
-    ∙ (ap (λ (k : ℕ). bodies_from first 0 items ++ (new_body first k item ++ [])) e
-    ∙ ap (λ (b : List (List ℕ)). bodies_from first 0 items ++ b) (append-nil (new_body first sent item)))
-
-no_proof_sent : (first sent place : ℕ) (bytes : List ℕ) → HasProof first sent (sent_item bytes ∷ []) place → ⊥
-no_proof_sent first sent place bytes (inl one) = let e = one.0 in cc
-no_proof_sent first sent place bytes (inr none) = none
-
-shown_still : (first place most : ℕ) (items : List Caught) (bytes : List ℕ)
-    → ((p : ℕ) → HasProof first 0 items p → p ≤ most)
-    → HasProof first 0 items place ⊎ HasProof first (count_from first 0 items) (sent_item bytes ∷ []) place
-    → place ≤ most
-shown_still first place most items bytes shown (inl before) = shown place before
-shown_still first place most items bytes shown (inr now) =
-    absurd (no_proof_sent first (count_from first 0 items) place bytes now)
-
-count_last : (first count : ℕ) (air : List Datagram) (d : Datagram) → first_sends_from first count (air ++ d ∷ [])
-    ≡ (if is_first_send first (first_sends_from first count air) d.direction d.bytes
-    then first_sends_from first count air + 1 else first_sends_from first count air)
-count_last first count [] d = refl
-count_last first count (x ∷ air) d =
-    count_last first (if is_first_send first count x.direction x.bytes then count + 1 else count) air d
-
-same_way : (hearer direction : Direction) → goes_to hearer direction ≡ true → direction ≡ hearer
-same_way goes.ToBoard goes.ToBoard e = refl
-same_way goes.ToBoard goes.ToHub e = absurd (cc)
-same_way goes.ToHub goes.ToBoard e = absurd (cc)
-same_way goes.ToHub goes.ToHub e = refl
-
-settle_sent : (h : Hub) (words : List ℕ) (r : Option OpenPlace) → (settle h words r).sent ≡ h.sent
-settle_sent h words None = refl
-settle_sent h words (Some o) = refl
-
-recovered_sent : (h : Hub) (r : Option ℕ) → (recovered h r).sent ≡ h.sent
-recovered_sent h None = refl
-recovered_sent h (Some e) = refl
-
-message_sent : (h : Hub) (m : Option ToHub) → (take_message h m).sent ≡ h.sent
-message_sent h None = refl
-message_sent h (Some (StatusReply mtu buffers next)) = either
-    (λ (x : Hub). x.sent ≡ h.sent) (nat_lt 0 h.status_requests) _ _ (λ _. recovered_sent h (told_place h next))
-    (λ _. refl)
-message_sent h (Some (Reply id words)) = settle_sent h words (open_with h.first id h.open_places)
-
-quiet_sent : (h : Hub) → (hear_quiet h).sent ≡ h.sent
-quiet_sent h = either (λ (x : Hub). x.sent ≡ h.sent) (nat_lt h.status_requests h.rounds) (want_status h) (give_up h)
-    (λ _. refl) (λ _. refl)
 
 module _ (laws : Laws) where
   replies_length : (b : Board) → length (replies b) ≡ length (executed b)

@@ -6,7 +6,8 @@ use Rattle.world_model.proofs.Lists.{all_get}
 use Rattle.capture_reader.specs.Proved.{HasProof}
 use Rattle.capture_laws.specs.Captures.{items_of}
 use Rattle.capture_laws.proofs.Joint.{Laws}
-use Rattle.capture_laws.proofs.Runs.{IsProvedFate, shows_run}
+use Rattle.capture_laws.proofs.OneMore.{IsProvedFate}
+use Rattle.capture_laws.proofs.Runs.{shows_run}
 use Rattle.capture_laws.proofs.laws.a_capture_proves_what_was_executed.Goals as goal
 
 laws : goal.After-what_a_hub_reads → Laws
