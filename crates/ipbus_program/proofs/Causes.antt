@@ -1,17 +1,18 @@
 -- Which answer is owed to an input, and what was written of it.
-use Rattle.std.proofs.Common.{◌≡◌, ℕ, ◌+◌, ◌<◌, ◌≤◌, ◌⊎◌, inl, inr, ⊎_elim, List, length, Option, Some}
+use Rattle.std.proofs.Common.{◌≡◌, ℕ, ◌+◌, ◌<◌, ◌≤◌, ◌⊎◌, inl, inr, ⊎_elim, List, length, Option, None, Some, refl}
 use Rattle.std.proofs.Common.{sym, ◌∙◌, ap, subst, arith, String, Global}
-use Rattle.ipb_outside.specs.Told.{AppendsPart, TakesCount}
+use Rattle.ipb_outside.specs.Told.{AppendsPart}
 use Rattle.command_words.specs.declared.command.Command.{Command}
 use Rattle.command_terms.specs.Numbers.{IsDoneStatus, refused_status, write_fault_status}
 use Rattle.command_terms.specs.Outside.{GivenBack}
 use Rattle.command_terms.specs.Terms.{AreTerms, Owes, Terms, most_bytes, most_of}
 use Rattle.ipbus_program.specs.Commands.{terms_of}
 use Rattle.ipbus_program.specs.Ended.{IsStatus}
-use Rattle.ipbus_program.specs.Owed.{AreCommand, IsReadBy, IsReadToEnd, IsDone, AnswersInput}
+use Rattle.ipbus_program.specs.Owed.{AreCommand, IsReadBy, IsReadToEnd, IsRefused, IsDone, AnswersInput}
 use Rattle.ipbus_program.specs.Owed.{OwesDone, OwesRefusal, OwesWords, OwesText}
 use Rattle.ipbus_program.specs.Owed.{Wrote, WroteOwed, WroteOwedPart}
 use Rattle.ipbus_program.specs.Outputs.{Delivers}
+use Rattle.ipbus_program.specs.Steps.{IsTooLong}
 
 pub done_small_status : (n : ℕ) → IsDoneStatus n → n ≤ 1
 done_small_status n (inl zero) = omega (arith, zero)
@@ -31,44 +32,47 @@ pub read_by : (terms : Terms) (limit : ℕ) → terms.limit ≡ Some limit → (
     → IsReadToEnd before now bytes → IsReadBy terms.limit before now bytes
 read_by terms limit is before now bytes read = subst (λ l. IsReadBy l before now bytes) (sym is) read
 
--- an input that was read to its end is answered by what is owed to its bytes
-pub input_answered : (terms : Terms) (limit : ℕ) → terms.limit ≡ Some limit
-    → (before now : Option (List ℕ)) (bytes : List ℕ) (given : GivenBack) (status : ℕ) (text : List ℕ)
-    → length bytes ≤ limit → IsReadToEnd before now bytes → Owes terms bytes given status text
-    → AnswersInput terms before now given status text
-input_answered terms limit is before now bytes given status text within read (inl done) =
-    inl (record { bytes = bytes; read = read_by terms limit is before now bytes read; done = done })
-input_answered terms limit is before now bytes given status text within read (inr refused) =
-    inr (
-      refused.0,
-      record {
-        bytes = bytes;
-        read = record {
-          taken = read.all;
-          no_more = let most = most_is terms limit is in omega (arith, within, most);
-          stopped = inl read.at_end;
-        };
-        refused = refused.1;
-      },
-    )
+-- an input that was read whole, of at most so many bytes
+module _ (terms : Terms) (before now : Option (List ℕ)) (bytes : List ℕ) (most : length bytes ≤ most_bytes terms) where
+  refused_by : (limit : Option ℕ) → (limit ≡ None → terms.limit ≡ None) → IsReadBy limit before now bytes
+      → (text : List ℕ) → (terms.limit ≡ None → ⊥) → terms.Refuses bytes text → IsRefused terms before now text
+  refused_by None is read text reads why = absurd (reads (is refl))
+  refused_by (Some limit) is read text reads why = record {
+    bytes = bytes;
+    read = record { taken = read.all; no_more = most; stopped = inl read.at_end };
+    refused = why;
+  }
+
+  -- is answered by what is owed to its bytes
+  pub input_answered : AreTerms terms → IsReadBy terms.limit before now bytes
+      → (given : GivenBack) (status : ℕ) (text : List ℕ) → Owes terms bytes given status text
+      → AnswersInput terms before now given status text
+  input_answered laws read given status text (inl done) = inl (record { bytes = bytes; read = read; done = done })
+  input_answered laws read given status text (inr refused) =
+      inr (
+        refused.0,
+        refused_by terms.limit (λ none. none) read text
+            (λ none. laws.unrefused none bytes text refused.1) refused.1,
+      )
 
 -- one that is too long is refused so
-pub long_answered : (terms : Terms) → AreTerms terms → (limit : ℕ) → terms.limit ≡ Some limit
-    → (before now : Option (List ℕ)) (given : GivenBack) (status : ℕ) (text : List ℕ)
-    → TakesCount (limit + 1) before now → status ≡ refused_status → text ≡ terms.long_line
+pub long_answered : (terms : Terms) → AreTerms terms → (before now : Option (List ℕ)) (given : GivenBack)
+    (status : ℕ) (text : List ℕ) → IsTooLong terms before now → status ≡ refused_status → text ≡ terms.long_line
     → AnswersInput terms before now given status text
-long_answered terms laws limit is before now given status text took refused line =
-    let long : limit < length took.0 = let n = took.1 in omega arith in
+long_answered terms laws before now given status text is refused line =
+    let took = is.took in
+    let most = most_is terms is.reads.0 is.reads.1 in
+    let long : is.reads.0 < length took.0 = let n = took.1 in omega (arith, n, most) in
     inr (
       refused,
       record {
         bytes = took.0;
         read = record {
           taken = took.2;
-          no_more = let n = took.1 in let most = most_is terms limit is in omega (arith, n, most);
-          stopped = inr (took.1 ∙ sym (most_is terms limit is));
+          no_more = let n = took.1 in omega (arith, n);
+          stopped = inr took.1;
         };
-        refused = subst (terms.Refuses took.0) (sym line) (laws.long limit took.0 is long);
+        refused = subst (terms.Refuses took.0) (sym line) (laws.long is.reads.0 took.0 is.reads.1 long);
       },
     )
 

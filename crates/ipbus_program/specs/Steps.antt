@@ -1,8 +1,8 @@
 -- How the steps of the call work together: what its private functions promise one another. No public clause speaks of
 -- these.
-use Rattle.std.specs.Prelude.{◌≡◌, ◌⊎◌, ℕ, List, [], ◌++◌, length, Option, Result, Err, IfOk, true, false}
+use Rattle.std.specs.Prelude.{◌≡◌, ◌⊎◌, ℕ, List, [], ◌++◌, ◌≤◌, length, Option, Result, Err, IfOk, true, false}
 use Rattle.std.specs.List.{AllByRecursion}
-use Rattle.ipb_outside.specs.Told.{TakesAtMost}
+use Rattle.ipb_outside.specs.Told.{TakesAtMost, TakesCount}
 use Rattle.board_node.specs.declared.spec.LinkSpec.{LinkSpec}
 use Rattle.lane_history.specs.Links.{IsUntouched}
 use Rattle.session_run.specs.declared.session.RunFault.{RunFault}
@@ -16,7 +16,7 @@ use Rattle.command_terms.specs.Outside.{GivenBack}
 use Rattle.command_terms.specs.Terms.{Reads, Terms, most_bytes}
 use Rattle.ipbus_program.specs.declared.no_answer.NoAnswer.{NoAnswer}
 use Rattle.ipbus_program.specs.declared.no_answer.NoAnswer.TheVariants.{NoMemory, ReadFault, RackFault, DoorFault}
-use Rattle.ipbus_program.specs.Owed.{AnswersInput, UsedFrom}
+use Rattle.ipbus_program.specs.Owed.{AnswersInput, IsReadBy, UsedFrom}
 
 -- faults that come of boards and connections, so of an input that breaks no rule
 abbrev pub IsFailure : NoAnswer → Type 0
@@ -34,6 +34,16 @@ abbrev pub no_answer_served : ServeFault → NoAnswer
 no_answer_served serve.Rack = RackFault
 no_answer_served serve.Door = DoorFault
 no_answer_served serve.NoMemory = NoMemory
+
+-- these bytes were read whole for a command of these terms
+pub record IsInputOf (terms : Terms) (before now : Option (List ℕ)) (bytes : List ℕ) : Type 0 where
+  pub read : IsReadBy terms.limit before now bytes
+  pub no_more : length bytes ≤ most_bytes terms
+
+-- the input has more bytes than a command of these terms reads
+pub record IsTooLong (terms : Terms) (before now : Option (List ℕ)) : Type 0 where
+  pub reads : Reads terms
+  pub took : TakesCount (most_bytes terms) before now
 
 -- What a command left by an input.
 pub record InputLeaves (terms : Terms) (before now : Option (List ℕ)) (made makes : List LinkSpec)

@@ -1,10 +1,11 @@
 //! The program's one call: words and an input in, a text and a status out.
 
-ghost use Rattle.std.specs.Prelude.{◌≡◌, ◌≢◌, ◌⊎◌, ◌≤◌, ℕ, List, length, Some, None, Err, IsOkAnd};
+ghost use Rattle.std.specs.Prelude.{◌≡◌, ◌≢◌, ◌⊎◌, ◌≤◌, ℕ, List, length, Some, None, Err, IfErr, IfNone};
+ghost use Rattle.std.specs.Prelude.{IfOk, IfSome, IsOkAnd};
 ghost use Rattle.ipb_base.specs.Faults.{Rose};
 ghost use Rattle.ipb_outside.specs.Doors.{Listens};
 ghost use Rattle.ipb_outside.specs.Pairs.{GivesBack};
-ghost use Rattle.ipb_outside.specs.Told.{TakesCount};
+ghost use Rattle.ipb_outside.specs.Told.{TakesAtMost, TakesCount};
 ghost use Rattle.board_greeting.specs.Links.{Keeps};
 ghost use Rattle.session_serve.specs.Executed.{CameInFrames};
 ghost use Rattle.command_words.specs.declared.command.Command.{Command as Asked};
@@ -14,13 +15,13 @@ ghost use Rattle.ipb_outside.specs.Faults.{RisesExactlyIf};
 ghost use Rattle.command_terms.specs.Numbers.{IsDoneStatus, usage_status, refused_status};
 ghost use Rattle.command_terms.specs.Numbers.{read_fault_status, write_fault_status};
 ghost use Rattle.command_terms.specs.Numbers.{no_memory_status, rack_fault_status, door_fault_status};
-ghost use Rattle.command_terms.specs.Terms.{most_bytes};
+ghost use Rattle.command_terms.specs.Terms.{Reads, most_bytes};
 ghost use Rattle.ipbus_program.specs.Commands.{terms_of};
 ghost use Rattle.ipbus_program.specs.Ended.{AreNoReader, CallsNoDoor, Ended, IsCalm, IsTextless, IsWhole, MakesNoLink};
 ghost use Rattle.ipbus_program.specs.Ended.{RefusesWith};
 ghost use Rattle.ipbus_program.specs.Outputs.{Delivers};
 ghost use Rattle.ipbus_program.specs.Owed.{AreCommand, AreNoCommand, HasInput};
-ghost use Rattle.ipbus_program.specs.Steps.{InputLeaves, LeavesAlone};
+ghost use Rattle.ipbus_program.specs.Steps.{InputLeaves, IsFailure, IsInputOf, IsTooLong, LeavesAlone};
 
 use crate::answering::{answer_to, limit_of, terms_are_terms, too_long};
 use crate::no_answer::NoAnswer;
@@ -36,39 +37,29 @@ use std::marker::Sync;
 use std::sync::Wait;
 use std::thread::Threads;
 
-/// What a command that reads so many bytes at most answers to an input.
-fn answer_input<S: Source, R: Rack, D: Door, T: Threads + Wait + Sync, G: Gate>(
-    rt: &T,
+/// The bytes of a command's input, all of them, or `None` where it has more than the command reads at most. A command
+/// that reads no input leaves it alone, and gets no bytes.
+fn input_for<S: Source>(
     alloc: Global,
     command: &Command,
-    limit: usize,
     input: &mut S,
-    rack: &mut R,
-    door: &mut D,
-    gate: &G,
-) -> Result<Answer, NoAnswer>
-    requires reads { (terms_of command.now).limit ≡ Some limit }
-    requires bound { (count : ℕ) → command.now ≡ Load count → count ≤ most_operations }
-    ensures leaves { Keeps R.Rack R.L.Link rack.old rack.new
-        (λ links. GivesBack D.Door D.Incoming.Source D.Outgoing.Sink door.old door.new
-        (λ came back. InputLeaves (terms_of command.now) (S.left input.old) (S.left input.new) (R.made rack.old)
-        (R.made rack.new) result (record { links = links; came = came; back = back }))) }
-    ensures input_faults { RisesExactlyIf (result ≡ Err NoAnswer.ReadFault) (S.faults input.old) (S.faults input.new) }
-    ensures rack_faults { RisesExactlyIf (result ≡ Err NoAnswer.RackFault) (R.faults rack.old) (R.faults rack.new) }
-    ensures door_faults { RisesExactlyIf (result ≡ Err NoAnswer.DoorFault) (D.faults door.old) (D.faults door.new) }
-    ensures in_frames { (port count : ℕ) → command.now ≡ Serve port count
-        → Keeps R.Rack R.L.Link rack.old rack.new
-        (λ links. GivesBack D.Door D.Incoming.Source D.Outgoing.Sink door.old door.new (CameInFrames links)) }
-    ensures alone { LeavesAlone (terms_of command.now) result rack.old rack.new door.old door.new }
-    ensures none_out { D.out door.new ≡ D.out door.old }
-    ensures listens { (port count : ℕ) → command.now ≡ Serve port count
-        → Listens port (IsOkAnd result (λ answer. answer.status ≢ refused_status)) (D.ports door.old)
-        (D.ports door.new) }
+) -> Result<Option<Vec<u8>>, NoAnswer>
+    ensures whole { IfOk result (λ read. IfSome read
+        (λ bytes. IsInputOf (terms_of command.now) (S.left input.old) (S.left input.new) bytes.items)) }
+    ensures too_long { IfOk result (λ read. IfNone read
+        (IsTooLong (terms_of command.now) (S.left input.old) (S.left input.new))) }
+    ensures taken { TakesAtMost (most_bytes (terms_of command.now)) (S.left input.old) (S.left input.new) }
+    ensures reads { result ≡ Err NoAnswer.ReadFault → Reads (terms_of command.now) }
+    ensures no_failure { IfErr result (λ why. IsFailure why → ⊥) }
+    ensures faults { RisesExactlyIf (result ≡ Err NoAnswer.ReadFault) (S.faults input.old) (S.faults input.new) }
+    ensures unread { (terms_of command.now).limit ≡ None → input.new ≡ input.old }
 {
-    terms_are_terms();
+    let Some(limit) = limit_of(command) else {
+        return Ok(Some(Vec::new(alloc)));
+    };
     match read_all(alloc, input, limit) {
-        Ok(bytes) => answer_to(rt, alloc, command, &bytes, rack, door, gate),
-        Err(ReadEnd::TooLong) => Ok(too_long(alloc, command)?),
+        Ok(bytes) => Ok(Some(bytes)),
+        Err(ReadEnd::TooLong) => Ok(None),
         Err(ReadEnd::Failed) => Err(NoAnswer::ReadFault),
         Err(ReadEnd::NoMemory) => Err(NoAnswer::NoMemory),
     }
@@ -103,9 +94,9 @@ fn answer_command<S: Source, R: Rack, D: Door, T: Threads + Wait + Sync, G: Gate
     ensures unread { (terms_of command.now).limit ≡ None → input.new ≡ input.old }
 {
     terms_are_terms();
-    match limit_of(command) {
-        Some(limit) => answer_input(rt, alloc, command, limit, input, rack, door, gate),
-        None => answer_to(rt, alloc, command, &[], rack, door, gate),
+    match input_for(alloc, command, input)? {
+        Some(bytes) => answer_to(rt, alloc, command, &bytes, rack, door, gate),
+        None => Ok(too_long(alloc, command)?),
     }
 }
 
