@@ -14,7 +14,7 @@ use Rattle.command_terms.specs.Terms.{AreTerms, Owes, Reads, Terms, most_bytes}
 use Rattle.command_terms.proofs.Leaving.{Told, same_Err}
 use Rattle.ipbus_program.specs.declared.no_answer.NoAnswer.{NoAnswer}
 use Rattle.ipbus_program.specs.declared.no_answer.NoAnswer.TheVariants.{DoorFault, RackFault, ReadFault}
-use Rattle.ipbus_program.specs.Owed.{AnswersInput, IsReadBy, UsedFrom}
+use Rattle.ipbus_program.specs.Owed.{AnswersInput, UsedFrom}
 use Rattle.ipbus_program.specs.Steps.{InputLeaves, IsFailure, IsInputOf}
 use Rattle.ipbus_program.proofs.Causes.{input_answered}
 

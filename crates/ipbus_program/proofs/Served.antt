@@ -1,5 +1,5 @@
 -- Where no pair came, each that came was served and went back.
-use Rattle.std.proofs.Common.{◌≡◌, List, [], sym, subst}
+use Rattle.std.proofs.Common.{List, [], sym, subst}
 use Rattle.ipb_outside.specs.Pairs.{PairReport}
 use Rattle.session_serve.specs.Serving.{AreBack}
 use Rattle.session_serve.proofs.Standing.{none_served}

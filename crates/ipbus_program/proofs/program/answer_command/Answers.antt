@@ -1,4 +1,4 @@
-use Rattle.std.proofs.Common.{◌≡◌, [], inl, refl, sym, ap, subst, append-nil, Ok, Err}
+use Rattle.std.proofs.Common.{[], inl, refl, sym, ap, subst, append-nil, Ok, Err}
 use Rattle.std.specs.Prelude.{IfNone, IfSome}
 use Rattle.board_greeting.specs.Reports.{shown_by}
 use Rattle.session_serve.specs.Executed.{CameInFrames}
