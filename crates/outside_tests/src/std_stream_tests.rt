@@ -1,5 +1,7 @@
 //! Standard input and output, over runtimes that stand in for them.
 
+ghost use Rattle.std.specs.Prelude.{◌≤◌, length};
+
 use crate::bytes::{differing_bytes, is_rest};
 use ipb_outside::{Failed, Sink, Source, write_whole};
 use net_edges::{StdinSource, StdoutSink};
@@ -42,13 +44,32 @@ fn standard_input_is_read_to_its_end(rt: HostRuntime) {
 
 /// How a write to standard output goes.
 #[derive(Clone, Copy)]
-enum Way {
+enum Way<'a> {
     Fails,
     TakesNone,
     TakesOne,
+    /// It takes seven bytes at once, and counts those that are the next of the bytes awaited.
+    Awaits {
+        bytes: &'a [u8],
+        right: &'a AtomicUsize,
+    },
 }
 
-impl Print for Way {
+/// How many of these bytes are taken: seven at once. Those that are the next of the bytes awaited are counted.
+fn count_next(awaited: &[u8], right: &AtomicUsize, bytes: &[u8]) -> usize
+    ensures { result ≤ length bytes.now }
+{
+    let count = bytes.len().min(7);
+    for byte in &bytes[..count] {
+        let next = right.load(Ordering::SeqCst);
+        if awaited.get(next) == Some(byte) {
+            right.fetch_add(1, Ordering::SeqCst);
+        }
+    }
+    count
+}
+
+impl<'a> Print for Way<'a> {
     fn print<D: Display + Drop>(&self, _value: D) -> io::Result<()> {
         Err(io::Error::from(ErrorKind::Unsupported))
     }
@@ -66,12 +87,16 @@ impl Print for Way {
             Way::Fails => Err(io::Error::from(ErrorKind::BrokenPipe)),
             Way::TakesNone => Ok(0),
             Way::TakesOne => Ok(bytes.len().min(1)),
+            Way::Awaits {
+                bytes: awaited,
+                right,
+            } => Ok(count_next(awaited, right, bytes)),
         }
     }
 }
 
 /// Ways, bytes, and what one write of them answers.
-const WRITES: [(Way, &[u8], Result<usize, Failed>); 5] = [
+const WRITES: [(Way<'static>, &[u8], Result<usize, Failed>); 5] = [
     (Way::Fails, b"ab", Err(Failed)),
     (Way::Fails, b"", Err(Failed)),
     (Way::TakesNone, b"ab", Err(Failed)),
@@ -80,20 +105,20 @@ const WRITES: [(Way, &[u8], Result<usize, Failed>); 5] = [
 ];
 
 /// Ways, and what a write of bytes to the last of them answers.
-const WHOLE_WRITES: [(Way, Result<(), Failed>); 3] = [
+const WHOLE_WRITES: [(Way<'static>, Result<(), Failed>); 3] = [
     (Way::Fails, Err(Failed)),
     (Way::TakesNone, Err(Failed)),
     (Way::TakesOne, Ok(())),
 ];
 
 /// Whether a sink of this way answers so, to one write and to the next one.
-fn answers(way: Way, bytes: &[u8], wanted: Result<usize, Failed>) -> bool {
+fn answers(way: Way<'_>, bytes: &[u8], wanted: Result<usize, Failed>) -> bool {
     let mut sink = StdoutSink::new(way);
     sink.write(bytes) == wanted && sink.write(bytes) == wanted
 }
 
 /// Whether a sink of this way answers so to a whole write.
-fn answers_whole(way: Way, wanted: Result<(), Failed>) -> bool {
+fn answers_whole(way: Way<'_>, wanted: Result<(), Failed>) -> bool {
     let mut sink = StdoutSink::new(way);
     let is_right = write_whole(&mut sink, b"hello") == wanted;
     sink.end();
@@ -114,42 +139,10 @@ fn whole_writes_of_each_way(rt: HostRuntime) {
     }
 }
 
-/// A runtime whose standard output takes seven bytes at once, and counts those that are the next of the bytes awaited.
-#[derive(Clone, Copy)]
-struct Awaiting<'a> {
-    bytes: &'a [u8],
-    right: &'a AtomicUsize,
-}
-
-impl<'a> Print for Awaiting<'a> {
-    fn print<D: Display + Drop>(&self, _value: D) -> io::Result<()> {
-        Err(io::Error::from(ErrorKind::Unsupported))
-    }
-
-    fn println<D: Display + Drop>(&self, _value: D) -> io::Result<()> {
-        Err(io::Error::from(ErrorKind::Unsupported))
-    }
-
-    fn write_all(&self, _bytes: &[u8]) -> io::Result<()> {
-        Err(io::Error::from(ErrorKind::Unsupported))
-    }
-
-    fn write_some(&self, bytes: &[u8]) -> io::Result<usize> {
-        let count = bytes.len().min(7);
-        for byte in &bytes[..count] {
-            let next = self.right.load(Ordering::SeqCst);
-            if self.bytes.get(next) == Some(byte) {
-                self.right.fetch_add(1, Ordering::SeqCst);
-            }
-        }
-        Ok(count)
-    }
-}
-
 /// How many of these bytes are written as they are.
 fn count_right(bytes: &[u8]) -> usize {
     let right = AtomicUsize::new(0);
-    let mut sink = StdoutSink::new(Awaiting {
+    let mut sink = StdoutSink::new(Way::Awaits {
         bytes,
         right: &right,
     });

@@ -109,19 +109,15 @@ fn a_connection_is_let_in_read_answered_and_given_back(rt: HostRuntime) {
 }
 
 /// Whether a door does not listen to a port that is taken, and lets none in.
-fn is_shut(rt: &HostRuntime, port: u16) -> bool {
-    let mut door = TcpDoor::new(rt);
-    door.listen(port) == Err(Failed) && door.accept().is_err()
-}
-
-fn is_shut_at_a_taken_port(rt: &HostRuntime) -> bool {
+fn is_shut<D: Door>(rt: &HostRuntime, door: &mut D) -> bool {
     match listener(rt) {
-        Some((_listener, port)) => is_shut(rt, port),
+        Some((_listener, port)) => door.listen(port) == Err(Failed) && door.accept().is_err(),
         None => false,
     }
 }
 
 #[test]
 fn a_door_that_does_not_listen_lets_none_in(rt: HostRuntime) {
-    assert!(rt; is_shut_at_a_taken_port(&rt));
+    let mut door = TcpDoor::new(&rt);
+    assert!(rt; is_shut(&rt, &mut door));
 }

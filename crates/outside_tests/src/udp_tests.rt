@@ -43,10 +43,11 @@ fn sends(socket: &UdpSocket, bytes: &[u8], to: SocketAddr) -> bool {
     socket.send_to(bytes, to).is_ok()
 }
 
-/// Both ends of a link: a board, the link, and its address.
+/// Both ends of a link: a board, the link, and its address; and somebody else, who may send to it too.
 #[derive(Drop)]
 struct Ends {
     board: UdpSocket,
+    other: UdpSocket,
     link: UdpLink,
     hub: SocketAddr,
 }
@@ -62,16 +63,22 @@ fn first_heard(board: &UdpSocket, link: &mut UdpLink) -> Option<SocketAddr> {
     hears(board, b"ask")
 }
 
-/// A board at this address, and a link that it has heard once.
-fn linked(rt: &HostRuntime, address: Ipv4Addr, board: UdpSocket) -> Option<Ends> {
+/// A board at this address, a link that it has heard once, and somebody else.
+fn linked(rt: &HostRuntime, address: Ipv4Addr, board: UdpSocket, other: UdpSocket) -> Option<Ends> {
     let mut link = link_to(rt, address, &board, 50)?;
     let hub = first_heard(&board, &mut link)?;
-    Some(Ends { board, link, hub })
+    Some(Ends {
+        board,
+        other,
+        link,
+        hub,
+    })
 }
 
-/// The same, at 127.0.0.1.
+/// The same, the board and somebody else at 127.0.0.1.
 fn linked_here(rt: &HostRuntime) -> Option<Ends> {
-    linked(rt, Ipv4Addr::LOCALHOST, socket(rt)?)
+    let board = socket(rt)?;
+    linked(rt, Ipv4Addr::LOCALHOST, board, socket(rt)?)
 }
 
 /// Whether a link receives this next.
@@ -103,28 +110,42 @@ fn is_heard_alone(alloc: Global, ends: &mut Ends, to: SocketAddr) -> bool {
 }
 
 /// Whether the board alone is heard where somebody else sends before it.
-fn is_heard_behind_noise(alloc: Global, ends: &mut Ends, other: &UdpSocket) -> bool {
+fn is_heard_behind_noise(alloc: Global, ends: &mut Ends) -> bool {
     let hub = ends.hub;
-    sends(other, b"noise", hub) && is_heard_alone(alloc, ends, hub)
+    sends(&ends.other, b"noise", hub) && is_heard_alone(alloc, ends, hub)
 }
 
-fn is_heard_over(rt: &HostRuntime, other: &UdpSocket) -> bool {
-    match linked_here(rt) {
-        Some(mut ends) => is_heard_behind_noise(rt.alloc(), &mut ends, other),
-        None => false,
+/// What is tried over a link.
+#[derive(Clone, Copy)]
+enum Trial {
+    Noise,
+    EachByte,
+    MuchNoise,
+    LongDatagrams,
+}
+
+/// Whether a trial of a link comes out as it should.
+fn passes(alloc: Global, ends: &mut Ends, trial: Trial) -> bool {
+    match trial {
+        Trial::Noise => is_heard_behind_noise(alloc, ends),
+        Trial::EachByte => are_carried(alloc, ends),
+        Trial::MuchNoise => is_heard_behind(alloc, ends, 63) && is_heard_behind(alloc, ends, 64),
+        Trial::LongDatagrams => is_cut_at_9000(alloc, ends, 9000)
+            && is_cut_at_9000(alloc, ends, 9001),
     }
 }
 
-fn is_board_alone_heard(rt: &HostRuntime) -> bool {
-    match socket(rt) {
-        Some(other) => is_heard_over(rt, &other),
+/// The same of a link to a board at 127.0.0.1.
+fn passes_here(rt: &HostRuntime, trial: Trial) -> bool {
+    match linked_here(rt) {
+        Some(mut ends) => passes(rt.alloc(), &mut ends, trial),
         None => false,
     }
 }
 
 #[test]
 fn the_board_alone_is_heard(rt: HostRuntime) {
-    assert!(rt; is_board_alone_heard(&rt));
+    assert!(rt; passes_here(&rt, Trial::Noise));
 }
 
 /// The IPv4 address of a socket.
@@ -154,37 +175,25 @@ fn own_address(rt: &HostRuntime) -> Ipv4Addr {
     }
 }
 
-/// Whoever has the port of a board at another address.
-fn neighbour(rt: &HostRuntime, board: &UdpSocket) -> Option<UdpSocket> {
-    socket_at(rt, Ipv4Addr::new(127, 0, 0, 3), port_of(board)?)
+/// A board at this address, and whoever has its port at another address.
+fn neighbours(rt: &HostRuntime, address: Ipv4Addr) -> Option<Ends> {
+    let board = socket_at(rt, address, 0)?;
+    let other = socket_at(rt, Ipv4Addr::new(127, 0, 0, 3), port_of(&board)?)?;
+    linked(rt, address, board, other)
 }
 
 /// Whether the reply to this address of this machine is heard alone, where somebody else may send before it.
-fn is_heard_at(alloc: Global, ends: &mut Ends, other: &UdpSocket, address: Ipv4Addr) -> bool {
+fn is_heard_at(alloc: Global, ends: &mut Ends, address: Ipv4Addr) -> bool {
     let to = SocketAddr::new(IpAddr::V4(address), ends.hub.port());
-    let _ = sends(other, b"noise", ends.hub);
+    let _ = sends(&ends.other, b"noise", ends.hub);
     is_heard_alone(alloc, ends, to)
-}
-
-fn is_told_from(rt: &HostRuntime, other: &UdpSocket, address: Ipv4Addr, board: UdpSocket) -> bool {
-    match linked(rt, address, board) {
-        Some(mut ends) => is_heard_at(rt.alloc(), &mut ends, other, address),
-        None => false,
-    }
-}
-
-fn is_told_from_neighbour(rt: &HostRuntime, address: Ipv4Addr, board: UdpSocket) -> bool {
-    match neighbour(rt, &board) {
-        Some(other) => is_told_from(rt, &other, address, board),
-        None => false,
-    }
 }
 
 /// Whether a board at this address is heard, also where it answers to another address of this machine than the link
 /// sent from, and whoever has its port at another address is not.
 fn is_told_by_address(rt: &HostRuntime, address: Ipv4Addr) -> bool {
-    match socket_at(rt, address, 0) {
-        Some(board) => is_told_from_neighbour(rt, address, board),
+    match neighbours(rt, address) {
+        Some(mut ends) => is_heard_at(rt.alloc(), &mut ends, address),
         None => false,
     }
 }
@@ -204,17 +213,10 @@ fn are_carried(alloc: Global, ends: &mut Ends) -> bool {
         && is_received(alloc, ends, &bytes, hub, &bytes)
 }
 
-fn is_each_byte_carried(rt: &HostRuntime) -> bool {
-    match linked_here(rt) {
-        Some(mut ends) => are_carried(rt.alloc(), &mut ends),
-        None => false,
-    }
-}
-
 /// A datagram of 1400 bytes goes to the board as it is, and one comes from it as it is.
 #[test]
 fn each_byte_of_a_datagram_is_carried(rt: HostRuntime) {
-    assert!(rt; is_each_byte_carried(&rt));
+    assert!(rt; passes_here(&rt, Trial::EachByte));
 }
 
 /// Whether a link does not send, and not when it is asked again.
@@ -273,34 +275,16 @@ fn are_sent(other: &UdpSocket, count: u32, to: SocketAddr) -> bool {
 }
 
 /// Whether the reply behind so many datagrams from elsewhere is heard, and behind 64 of them after a quiet receive.
-fn is_heard_behind(alloc: Global, ends: &mut Ends, other: &UdpSocket, count: u32) -> bool {
-    are_sent(other, count, ends.hub)
+fn is_heard_behind(alloc: Global, ends: &mut Ends, count: u32) -> bool {
+    are_sent(&ends.other, count, ends.hub)
         && sends(&ends.board, b"reply", ends.hub)
         && (count < 64 || is_quiet(alloc, &mut ends.link))
         && gets(alloc, &mut ends.link, b"reply")
 }
 
-fn are_heard_behind(alloc: Global, ends: &mut Ends, other: &UdpSocket) -> bool {
-    is_heard_behind(alloc, ends, other, 63) && is_heard_behind(alloc, ends, other, 64)
-}
-
-fn is_end_after_noise(rt: &HostRuntime, other: &UdpSocket) -> bool {
-    match linked_here(rt) {
-        Some(mut ends) => are_heard_behind(rt.alloc(), &mut ends, other),
-        None => false,
-    }
-}
-
-fn is_end_after_64(rt: &HostRuntime) -> bool {
-    match socket(rt) {
-        Some(other) => is_end_after_noise(rt, &other),
-        None => false,
-    }
-}
-
 #[test]
 fn a_receive_ends_after_64_datagrams_from_elsewhere(rt: HostRuntime) {
-    assert!(rt; is_end_after_64(&rt));
+    assert!(rt; passes_here(&rt, Trial::MuchNoise));
 }
 
 /// Whether 9000 bytes are taken of so many.
@@ -312,20 +296,9 @@ fn is_cut_at_9000(alloc: Global, ends: &mut Ends, length: usize) -> bool {
     }
 }
 
-fn are_cut_at_9000(alloc: Global, ends: &mut Ends) -> bool {
-    is_cut_at_9000(alloc, ends, 9000) && is_cut_at_9000(alloc, ends, 9001)
-}
-
-fn is_9000_taken(rt: &HostRuntime) -> bool {
-    match linked_here(rt) {
-        Some(mut ends) => are_cut_at_9000(rt.alloc(), &mut ends),
-        None => false,
-    }
-}
-
 #[test]
 fn the_first_9000_bytes_of_a_longer_datagram_are_taken(rt: HostRuntime) {
-    assert!(rt; is_9000_taken(&rt));
+    assert!(rt; passes_here(&rt, Trial::LongDatagrams));
 }
 
 /// A link to a board that is not there any more.
