@@ -1,17 +1,25 @@
 //! Policies read, and what they decide.
 
-use crate::documents::GUARDED;
-use crate::same::{same, same_items};
+ghost use Rattle.std.specs.Prelude.{IfSome};
+ghost use Rattle.script_lang.specs.Limits.{IsWithin};
+
+use crate::documents::{GUARDED, front_of, value_of};
+use crate::messages::is_text;
 use access_policy::{
     Decision, Policy, PolicyRefusal, decide, permit, read_policy, rule_scripts, rule_text,
 };
 use address_table::Permission;
-use ipb_base::NoMemory;
-use node_tree::compile;
 use script_lang::{Session, compile_scripts, parse_document, read_session_table, take_key};
 use script_steps::{Step, Steps};
 use std::alloc::Global;
-use std::test::Fail;
+
+/// The policy under the key of a document.
+fn policy_in(alloc: Global, document: &str) -> Result<Policy, PolicyRefusal> {
+    match value_of(alloc, document, "policy") {
+        Some(value) => read_policy(alloc, &value),
+        None => Err(PolicyRefusal::NoMemory),
+    }
+}
 
 /// The number of the rule that denies, none where the access is allowed.
 fn rule_of(decision: Decision) -> Option<u32> {
@@ -21,113 +29,124 @@ fn rule_of(decision: Decision) -> Option<u32> {
     }
 }
 
-/// The policy under the key of a document.
-fn policy_in(alloc: Global, document: &str) -> Result<Policy, Fail> {
-    let mut document = parse_document(alloc, document.as_bytes())?;
-    match take_key(&mut document, "policy") {
-        Some(value) => Ok(read_policy(alloc, &value)?),
-        None => Err(Fail::from("no policy")),
+/// Clients, registers, what they need, and the rule that denies it.
+const ACCESSES: [(u32, &str, Permission, Option<u32>); 6] = [
+    (1, "ch[1].gain", Permission::W, Some(1)),
+    (2, "ch[1].gain", Permission::W, None),
+    (1, "ch[1].gain", Permission::R, None),
+    (1, "ch[0]", Permission::Rw, None),
+    (1, "id", Permission::Rw, Some(0)),
+    (1, "id", Permission::R, None),
+];
+
+fn is_decided(
+    alloc: Global,
+    client: u32,
+    name: &str,
+    needs: Permission,
+    rule: Option<u32>,
+) -> bool {
+    match policy_in(alloc, GUARDED) {
+        Ok(policy) => rule_of(decide(&policy, client, "fe0", name, needs)) == rule,
+        Err(_) => false,
     }
 }
 
 #[test]
-fn the_first_rule_that_matches_decides(rt: HostRuntime) -> Result<(), Fail> {
-    let policy = policy_in(rt.alloc(), GUARDED)?;
-    for (client, name, needs, wanted) in [
-        (1, "ch[1].gain", Permission::W, Some(1u32)),
-        (2, "ch[1].gain", Permission::W, None),
-        (1, "ch[1].gain", Permission::R, None),
-        (1, "ch[0]", Permission::Rw, None),
-        (1, "id", Permission::Rw, Some(0)),
-        (1, "id", Permission::R, None),
-    ] {
-        same(
-            &rt,
-            &rule_of(decide(&policy, client, "fe0", name, needs)),
-            &wanted,
-        );
+fn the_first_rule_that_matches_decides(rt: HostRuntime) {
+    for &(client, name, needs, rule) in &ACCESSES {
+        assert!(rt; is_decided(rt.alloc(), client, name, needs, rule));
     }
-    Ok(())
+}
+
+/// The text of the first rule.
+fn first_text(alloc: Global) -> Option<String> {
+    let policy = policy_in(alloc, GUARDED).ok()?;
+    rule_text(alloc, policy.as_slice().first()?).ok()
 }
 
 #[test]
-fn rules_have_a_text(rt: HostRuntime) -> Result<(), Fail> {
-    let policy = policy_in(rt.alloc(), GUARDED)?;
-    let [first, ..] = policy.as_slice() else {
-        return Err("no rule")?;
-    };
-    let text = rule_text(rt.alloc(), first)?;
-    same(&rt, &text.as_str(), &"deny w fe0:ch[*].gain client 1");
-    Ok(())
+fn rules_have_a_text(rt: HostRuntime) {
+    assert!(rt; is_text(first_text(rt.alloc()), "deny w fe0:ch[*].gain client 1"));
 }
 
-/// The path of the first fault of a policy, if it has one.
-fn path_of(alloc: Global, document: &str) -> Result<Option<String>, Fail> {
-    let mut document = parse_document(alloc, document.as_bytes())?;
-    let Some(value) = take_key(&mut document, "policy") else {
-        return Ok(None);
-    };
-    match read_policy(alloc, &value) {
-        Ok(_) => Ok(None),
-        Err(PolicyRefusal::Shape { path }) => Ok(Some(String::from_str(alloc, path.as_str())?)),
-        Err(PolicyRefusal::NoMemory) => Err(Fail::from(NoMemory)),
+const FAULTY: &str = "policy = [{ effect = 'maybe', access = 'r', name = 'b0:a' }]";
+
+fn is_refused_at(alloc: Global, document: &str, wanted: &str) -> bool {
+    match policy_in(alloc, document) {
+        Err(PolicyRefusal::Shape { path }) => path.as_str() == wanted,
+        _ => false,
     }
 }
 
 #[test]
-fn a_faulty_rule_is_told_by_its_path(rt: HostRuntime) -> Result<(), Fail> {
-    let word = "policy = [{ effect = 'maybe', access = 'r', name = 'b0:a' }]";
-    let text = path_of(rt.alloc(), word)?;
-    assert!(rt; text.is_some_and(|path| path.as_str() == "0.effect"));
-    Ok(())
+fn a_faulty_rule_is_told_by_its_path(rt: HostRuntime) {
+    assert!(rt; is_refused_at(rt.alloc(), FAULTY, "0.effect"));
 }
 
-/// The session of a document whose policy was taken out, and what its scripts mean.
-fn compiled(alloc: Global, document: &str) -> Result<(Session, Vec<Steps>), Fail> {
-    let mut document = parse_document(alloc, document.as_bytes())?;
+/// The session of the document, whose policy is taken out.
+fn session(alloc: Global) -> Option<Session>
+    ensures within { IfSome result IsWithin }
+{
+    let mut document = parse_document(alloc, GUARDED.as_bytes()).ok()?;
     take_key(&mut document, "policy");
-    let session = read_session_table(alloc, document)?;
-    let index = compile(alloc, &session.tables, "front")?;
-    let steps = compile_scripts(alloc, &session, &[index])?;
-    Ok((session, steps))
+    read_session_table(alloc, document).ok()
 }
 
-/// The rules that deny the steps of a client, none where a step is done.
-fn rules_in(alloc: Global, steps: &[Step]) -> Result<Vec<Option<u32>>, NoMemory> {
-    let mut rules = Vec::new(alloc);
-    for step in steps {
-        rules.push(match step {
-            Step::Denied { rule, op: _ } => Some(*rule),
-            Step::Do(_) | Step::Dispatch => None,
-        })?;
-    }
-    Ok(rules)
+/// That session, and what its scripts mean.
+fn compiled(alloc: Global) -> Option<(Session, Vec<Steps>)> {
+    let session = session(alloc)?;
+    let index = front_of(alloc, &session)?;
+    let scripts = compile_scripts(alloc, &session, &[index]).ok()?;
+    Some((session, scripts))
 }
 
-/// How many decisions are made on the steps of the script.
-fn decisions(alloc: Global, policy: &Policy) -> Result<usize, Fail> {
-    let (session, scripts) = compiled(alloc, GUARDED)?;
-    match scripts.as_slice() {
-        [steps] => Ok(permit(alloc, policy, 1, &session, steps.as_slice())?.len()),
-        _ => Err("not one script")?,
+/// How many decisions are made on the steps of client 1.
+fn count_decisions(alloc: Global, policy: &Policy, session: &Session, steps: &[Step]) -> usize {
+    match permit(alloc, policy, 1, session, steps) {
+        Ok(decisions) => decisions.len(),
+        Err(_) => 0,
     }
 }
 
-/// The rules that deny the steps of the script.
-fn denied_by(alloc: Global, policy: &Policy) -> Result<Vec<Option<u32>>, Fail> {
-    let (session, mut scripts) = compiled(alloc, GUARDED)?;
+/// Whether the steps of the script are denied, and its dispatch is not.
+fn are_denied(steps: &[Step]) -> bool {
+    matches!(
+        steps,
+        [
+            Step::Denied { rule: 1, op: _ },
+            Step::Dispatch,
+            Step::Denied { rule: 0, op: _ },
+        ]
+    )
+}
+
+/// Whether there is one script, which a policy denies.
+fn is_denied(alloc: Global, policy: &Policy, session: &Session, mut scripts: Vec<Steps>) -> bool {
     if scripts.len() != 1 {
-        return Err("not one script")?;
+        return false;
     }
-    rule_scripts(alloc, policy, &session, scripts.as_mut_slice())?;
-    Ok(rules_in(alloc, scripts[0].as_slice())?)
+    count_decisions(alloc, policy, session, scripts[0].as_slice()) == 3
+        && rule_scripts(alloc, policy, session, scripts.as_mut_slice()).is_ok()
+        && are_denied(scripts[0].as_slice())
+}
+
+/// Whether a policy denies the script of the document.
+fn denies(alloc: Global, policy: &Policy) -> bool {
+    match compiled(alloc) {
+        Some((session, scripts)) => is_denied(alloc, policy, &session, scripts),
+        None => false,
+    }
+}
+
+fn is_guarded(alloc: Global) -> bool {
+    match policy_in(alloc, GUARDED) {
+        Ok(policy) => denies(alloc, &policy),
+        Err(_) => false,
+    }
 }
 
 #[test]
-fn scripts_are_put_under_a_policy(rt: HostRuntime) -> Result<(), Fail> {
-    let policy = policy_in(rt.alloc(), GUARDED)?;
-    same(&rt, &decisions(rt.alloc(), &policy)?, &3);
-    let rules = denied_by(rt.alloc(), &policy)?;
-    same_items(&rt, &rules, &[Some(1), None, Some(0)]);
-    Ok(())
+fn scripts_are_put_under_a_policy(rt: HostRuntime) {
+    assert!(rt; is_guarded(rt.alloc()));
 }

@@ -1,32 +1,49 @@
 //! Tables read from TOML.
 
-use crate::documents::SESSION;
-use crate::same::same;
-use address_table::{Mode, Path, Permission, Table, TableRefusal, TableWhy, read_table};
+use crate::documents::{SESSION, value_of};
+use crate::messages::is_text;
+use address_table::{Mode, Node, Path, Permission, Table, TableRefusal, TableWhy, read_table};
+use script_lang::take_key;
 use std::alloc::Global;
-use std::test::Fail;
 use toml::Value;
 
-/// The table at a key of the tables of a document.
-fn table_at(alloc: Global, text: &str, key: &str) -> Result<Table, Fail> {
-    let document = toml::table_from_str(alloc, text)?;
-    let Some(Value::Table(tables)) = document.get("tables") else {
-        return Err("no tables")?;
-    };
-    Ok(read_table(alloc, tables.get(key).ok_or("no such table")?, 1)?)
+/// The value at a key of the tables of the document.
+fn value_at(alloc: Global, key: &str) -> Option<Value> {
+    match value_of(alloc, SESSION, "tables") {
+        Some(Value::Table(mut tables)) => take_key(&mut tables, key),
+        _ => None,
+    }
 }
 
-/// Whether the first node below the first one is the gain.
+/// The table at a key of the tables of the document.
+fn table_at(alloc: Global, key: &str) -> Option<Table> {
+    read_table(alloc, &value_at(alloc, key)?, 1).ok()
+}
+
+/// Whether a node is the gain.
+fn is_gain(node: &Node) -> bool {
+    node.id.as_str() == "gain"
+        && node.mask == 0xf0
+        && node.permission == Permission::Rw
+        && node.mode == Mode::Single
+}
+
+/// Whether the first of two nodes has the gain below it.
 fn has_gain(table: &Table) -> bool {
-    let [control, ..] = table.nodes.as_slice() else {
+    let [control, _] = table.nodes.as_slice() else {
         return false;
     };
     match control.nodes.as_slice() {
-        [gain] => {
-            let kinds = (gain.mask, gain.permission, gain.mode);
-            gain.id.as_str() == "gain" && kinds == (0xf0, Permission::Rw, Mode::Single)
-        }
+        [gain] => is_gain(gain),
         _ => false,
+    }
+}
+
+/// Whether a node has the channel as its module.
+fn is_channel(node: &Node) -> bool {
+    match &node.module {
+        Some(module) => module.as_str() == "channel",
+        None => false,
     }
 }
 
@@ -34,30 +51,42 @@ fn has_gain(table: &Table) -> bool {
 fn has_channel(table: &Table) -> bool {
     match table.nodes.as_slice() {
         [node] => {
-            let texts = (node.tags.as_str(), node.description.as_str());
-            let module = node.module.as_ref().map(|module| module.as_str());
-            module == Some("channel") && texts == ("slow", "the first channel")
+            is_channel(node)
+                && node.tags.as_str() == "slow"
+                && node.description.as_str() == "the first channel"
         }
         _ => false,
     }
 }
 
-#[test]
-fn nodes_are_read(rt: HostRuntime) -> Result<(), Fail> {
-    for (key, is_right) in [("channel", true), ("front", false)] {
-        let table = table_at(rt.alloc(), SESSION, key)?;
-        assert!(rt; has_gain(&table) == is_right && has_channel(&table) != is_right);
+/// Whether the table at this key is read.
+fn is_read(alloc: Global, key: &str) -> bool {
+    match table_at(alloc, key) {
+        Some(table) => match key {
+            "channel" => has_gain(&table),
+            _ => has_channel(&table),
+        },
+        None => false,
     }
-    Ok(())
 }
 
 #[test]
-fn a_refusal_has_a_text(rt: HostRuntime) -> Result<(), Fail> {
+fn nodes_are_read(rt: HostRuntime) {
+    for key in &["channel", "front"] {
+        assert!(rt; is_read(rt.alloc(), key));
+    }
+}
+
+/// The text of a refusal.
+fn refusal_text(alloc: Global) -> Option<String> {
     let refusal = TableRefusal::At {
-        path: Path::from_vec([0, 1].to_vec(rt.alloc())?),
+        path: Path::from_vec([0, 1].to_vec(alloc).ok()?),
         why: TableWhy::BadMask,
     };
-    let text = format!(in rt.alloc(); "{refusal}")?;
-    same(&rt, &text.as_str(), &"node [0, 1]: a mask of 0");
-    Ok(())
+    format!(in alloc; "{refusal}").ok()
+}
+
+#[test]
+fn a_refusal_has_a_text(rt: HostRuntime) {
+    assert!(rt; is_text(refusal_text(rt.alloc()), "node [0, 1]: a mask of 0"));
 }

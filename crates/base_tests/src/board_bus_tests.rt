@@ -1,9 +1,7 @@
 //! The bus of a board, and the ranges that it opens with.
 
-use crate::same::{same, same_items};
 use board_bus::{Bus, BusRefusal, NoMemory, Range, RangeKind, Words, check_ranges};
 use std::alloc::Global;
-use std::test::Fail;
 
 /// How many ranges of one word there are.
 const RANGES: u32 = 500_000;
@@ -29,25 +27,72 @@ fn far_apart(alloc: Global) -> Result<Vec<Range>, NoMemory> {
     Ok(ranges)
 }
 
-#[test]
-fn each_of_many_ranges_is_read(rt: HostRuntime) -> Result<(), Fail> {
-    let mut bus = Bus::new(rt.alloc(), &far_apart(rt.alloc())?)?;
-    let mut out = Vec::new(rt.alloc());
+/// A bus of those ranges.
+fn wide_bus(alloc: Global) -> Option<Bus> {
+    Bus::new(alloc, &far_apart(alloc).ok()?).ok()
+}
+
+/// Whether a read of this address answers this word. The reply takes the place of what `out` holds.
+fn is_read(bus: &mut Bus, address: u32, word: u32, out: &mut Vec<u32>) -> bool {
+    out.clear();
+    bus.execute(&[0x2000_010f, address], out).is_ok()
+        && out.as_slice() == [0x2000_0100, word].as_slice()
+}
+
+/// Whether each range of a bus is read.
+fn are_read(alloc: Global, bus: &mut Bus) -> bool {
+    let mut out = Vec::new(alloc);
     for i in 0..RANGES {
-        out.clear();
-        bus.execute(&[0x2000_010f, DISTANCE * i], &mut out)?;
-        same_items(&rt, &out, &[0x2000_0100, i]);
+        if !is_read(bus, DISTANCE * i, i, &mut out) {
+            return false;
+        }
     }
-    Ok(())
+    true
+}
+
+fn is_each_read(alloc: Global) -> bool {
+    match wide_bus(alloc) {
+        Some(mut bus) => are_read(alloc, &mut bus),
+        None => false,
+    }
 }
 
 #[test]
-fn a_bus_and_a_range_are_copied(rt: HostRuntime) -> Result<(), Fail> {
-    let range = range(rt.alloc(), 8, 7)?;
-    assert!(rt; range.copy(rt.alloc())? == range);
-    let bus = Bus::new(rt.alloc(), &[range])?.copy(rt.alloc())?;
-    same(&rt, &bus.read(8), &Ok(7));
-    Ok(())
+fn each_of_many_ranges_is_read(rt: HostRuntime) {
+    assert!(rt; is_each_read(rt.alloc()));
+}
+
+/// Whether the copy of a range is that range.
+fn is_range_copied(alloc: Global, range: &Range) -> bool {
+    match range.copy(alloc) {
+        Ok(copy) => copy == *range,
+        Err(_) => false,
+    }
+}
+
+/// The copy of a bus of one range.
+fn copied_bus(alloc: Global, range: Range) -> Option<Bus> {
+    let bus = Bus::new(alloc, &[range]).ok()?;
+    bus.copy(alloc).ok()
+}
+
+fn is_bus_copied(alloc: Global, range: Range) -> bool {
+    match copied_bus(alloc, range) {
+        Some(copy) => copy.read(8) == Ok(7),
+        None => false,
+    }
+}
+
+fn are_copied(alloc: Global) -> bool {
+    match range(alloc, 8, 7) {
+        Ok(range) => is_range_copied(alloc, &range) && is_bus_copied(alloc, range),
+        Err(_) => false,
+    }
+}
+
+#[test]
+fn a_bus_and_a_range_are_copied(rt: HostRuntime) {
+    assert!(rt; are_copied(rt.alloc()));
 }
 
 /// The bases and the sizes of two ranges, how many words the second one opens with, and the first rule that they break.
@@ -61,31 +106,36 @@ const NO_BUSES: [(u32, u32, u32, u32, usize, BusRefusal); 6] = [
 ];
 
 /// A range that opens with so many zeros.
-fn zeros(alloc: Global, base: u32, size: u32, count: usize) -> Result<Range, NoMemory> {
-    let mut words = Vec::new(alloc);
-    for _ in 0..count {
-        words.push(0)?;
-    }
-    Ok(Range {
+fn zeros(alloc: Global, base: u32, size: u32, count: usize) -> Option<Range> {
+    Some(Range {
         base,
         size,
         kind: RangeKind::Ro,
-        init: Words::from_vec(words),
+        init: Words::from_vec([0; 17].get(..count)?.to_vec(alloc).ok()?),
     })
 }
 
+/// Whether ranges are refused by this rule, and a bus of them.
+fn are_refused(alloc: Global, ranges: &[Range], why: BusRefusal) -> bool {
+    check_ranges(alloc, ranges).err() == Some(why) && Bus::new(alloc, ranges).err() == Some(why)
+}
+
+/// Whether two ranges are refused by this rule.
+fn is_no_bus(alloc: Global, one: Option<Range>, other: Option<Range>, why: BusRefusal) -> bool {
+    match (one, other) {
+        (Some(one), Some(other)) => are_refused(alloc, &[one, other], why),
+        _ => false,
+    }
+}
+
 #[test]
-fn ranges_are_refused_again(rt: HostRuntime) -> Result<(), Fail> {
+fn ranges_are_refused_again(rt: HostRuntime) {
     let alloc = rt.alloc();
-    for (base, size, other, other_size, count, why) in NO_BUSES {
-        let ranges = [
-            zeros(alloc, base, size, 0)?,
-            zeros(alloc, other, other_size, count)?,
-        ];
+    for &(base, size, other, other_size, count, why) in &NO_BUSES {
         for _ in 0..2 {
-            same(&rt, &check_ranges(alloc, &ranges).err(), &Some(why));
-            same(&rt, &Bus::new(alloc, &ranges).err(), &Some(why));
+            let one = zeros(alloc, base, size, 0);
+            let other = zeros(alloc, other, other_size, count);
+            assert!(rt; is_no_bus(alloc, one, other, why));
         }
     }
-    Ok(())
 }

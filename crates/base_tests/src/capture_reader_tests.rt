@@ -1,13 +1,10 @@
 //! Captures read, written, described and read back from their description.
 
-use crate::same::{same, same_items};
 use capture_reader::{
     CaptureRefusal, CaptureWhy, UndescribeRefusal, describe, proved, read_capture, undescribe,
     write_capture,
 };
-use ipb_base::NoMemory;
 use std::alloc::Global;
-use std::test::Fail;
 
 /// A status request and its reply, and one read.
 const CAPTURE: &str = "first 1\n\
@@ -23,49 +20,75 @@ const DESCRIPTION: &str = "first 1\n\
     < control 1 big\n  0 read 0 1 0x0000abcd\n\
     proved 1\n";
 
-#[test]
-fn a_capture_is_described(rt: HostRuntime) -> Result<(), Fail> {
-    let capture = read_capture(rt.alloc(), CAPTURE.as_bytes())?;
-    same(&rt, &proved(&capture), &1u64);
-    let text = describe(rt.alloc(), &capture)?;
-    same_items(&rt, text.as_slice(), DESCRIPTION.as_bytes());
-    Ok(())
+/// Whether there is a text, and this one.
+fn is_text(text: Option<Vec<u8>>, wanted: &str) -> bool {
+    match text {
+        Some(text) => text.as_slice() == wanted.as_bytes(),
+        None => false,
+    }
 }
 
-#[test]
-fn a_description_is_read_back(rt: HostRuntime) -> Result<(), Fail> {
-    let capture = undescribe(rt.alloc(), DESCRIPTION.as_bytes())?;
-    let text = write_capture(rt.alloc(), &capture)?;
-    same_items(&rt, text.as_slice(), CAPTURE.as_bytes());
-    Ok(())
+/// The description of the capture.
+fn description(alloc: Global) -> Option<Vec<u8>> {
+    let capture = read_capture(alloc, CAPTURE.as_bytes()).ok()?;
+    describe(alloc, &capture).ok()
 }
 
-/// The line and the rule of a refusal.
-fn refusal_of(alloc: Global, text: &str) -> Result<Option<(u64, CaptureWhy)>, NoMemory> {
-    match read_capture(alloc, text.as_bytes()) {
-        Ok(_) => Ok(None),
-        Err(CaptureRefusal::At { line, why }) => Ok(Some((line, why))),
-        Err(CaptureRefusal::NoMemory) => Err(NoMemory),
+/// How many bodies of the capture are proved to be executed once.
+fn count_proved(alloc: Global) -> u64 {
+    match read_capture(alloc, CAPTURE.as_bytes()) {
+        Ok(capture) => proved(&capture),
+        Err(_) => 0,
     }
 }
 
 #[test]
-fn faulty_lines_are_named(rt: HostRuntime) -> Result<(), Fail> {
-    for (text, line, why) in [
-        ("first 0\n", 1u64, CaptureWhy::First),
-        ("first 1\n> -\n> 0\n", 3, CaptureWhy::Form),
-        ("first 1\n> AB\n", 2, CaptureWhy::Form),
-        ("first 1\n> -", 2, CaptureWhy::Form),
-    ] {
-        assert!(rt; refusal_of(rt.alloc(), text)? == Some((line, why)));
-    }
-    Ok(())
+fn a_capture_is_described(rt: HostRuntime) {
+    assert!(rt; count_proved(rt.alloc()) == 1);
+    assert!(rt; is_text(description(rt.alloc()), DESCRIPTION));
+}
+
+/// The capture that the description tells, written.
+fn read_back(alloc: Global) -> Option<Vec<u8>> {
+    let capture = undescribe(alloc, DESCRIPTION.as_bytes()).ok()?;
+    write_capture(alloc, &capture).ok()
 }
 
 #[test]
-fn another_count_is_no_description(rt: HostRuntime) -> Result<(), Fail> {
-    let text = DESCRIPTION.replace(rt.alloc(), "proved 1", "proved 2")?;
-    let read = undescribe(rt.alloc(), text.as_bytes());
-    assert!(rt; matches!(read, Err(UndescribeRefusal::NotDescription)));
-    Ok(())
+fn a_description_is_read_back(rt: HostRuntime) {
+    assert!(rt; is_text(read_back(rt.alloc()), CAPTURE));
+}
+
+/// Texts that are no capture, the first faulty line, and the rule that it breaks.
+const FAULTY: [(&str, u64, CaptureWhy); 4] = [
+    ("first 0\n", 1, CaptureWhy::First),
+    ("first 1\n> -\n> 0\n", 3, CaptureWhy::Form),
+    ("first 1\n> AB\n", 2, CaptureWhy::Form),
+    ("first 1\n> -", 2, CaptureWhy::Form),
+];
+
+fn is_refused_at(alloc: Global, text: &str, line: u64, why: CaptureWhy) -> bool {
+    read_capture(alloc, text.as_bytes()).err() == Some(CaptureRefusal::At { line, why })
+}
+
+#[test]
+fn faulty_lines_are_named(rt: HostRuntime) {
+    for &(text, line, why) in &FAULTY {
+        assert!(rt; is_refused_at(rt.alloc(), text, line, why), "{text}");
+    }
+}
+
+/// Whether the description with another count is none.
+fn is_other_refused(alloc: Global) -> bool {
+    match DESCRIPTION.replace(alloc, "proved 1", "proved 2") {
+        Ok(text) => {
+            undescribe(alloc, text.as_bytes()).err() == Some(UndescribeRefusal::NotDescription)
+        }
+        Err(_) => false,
+    }
+}
+
+#[test]
+fn another_count_is_no_description(rt: HostRuntime) {
+    assert!(rt; is_other_refused(rt.alloc()));
 }

@@ -1,4 +1,12 @@
-//! The documents of these tests.
+//! The documents of these tests, and what is read from them.
+
+ghost use Rattle.std.specs.Prelude.{IfSome};
+ghost use Rattle.script_lang.specs.Limits.{IsWithin};
+
+use node_tree::{Index, compile};
+use script_lang::{Session, read_session, take_key};
+use std::alloc::Global;
+use toml::Value;
 
 /// A board whose registers stand in a module, and two clients.
 pub(crate) const SESSION: &str = r#"
@@ -73,3 +81,21 @@ table = "front"
 [[client]]
 script = ["write fe0:ch[1].gain 1", "dispatch", "rmwsum fe0:id 1"]
 "#;
+
+/// The value under a key of a document.
+pub(crate) fn value_of(alloc: Global, document: &str, key: &str) -> Option<Value> {
+    let mut members = toml::table_from_str(alloc, document).ok()?;
+    take_key(&mut members, key)
+}
+
+/// The session of a document.
+pub(crate) fn session_of(alloc: Global, document: &str) -> Option<Session>
+    ensures within { IfSome result IsWithin }
+{
+    read_session(alloc, document.as_bytes()).ok()
+}
+
+/// The registers of the table `front` of a session.
+pub(crate) fn front_of(alloc: Global, session: &Session) -> Option<Index> {
+    compile(alloc, &session.tables, "front").ok()
+}

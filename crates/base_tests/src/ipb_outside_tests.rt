@@ -1,26 +1,52 @@
 //! Sources and sinks in memory, and reading and writing whole over them.
 
-use crate::same::{same, same_items};
 use ipb_outside::{CalmSink, CalmSource, Failed, ReadEnd, Sink, read_all, write_whole};
-use std::test::Fail;
+use std::alloc::Global;
 
-#[test]
-fn the_limit_is_exact(rt: HostRuntime) -> Result<(), Fail> {
-    let mut source = CalmSource::new(b"12345678".to_vec(rt.alloc())?);
-    let over = read_all(rt.alloc(), &mut source, 3);
-    assert!(rt; matches!(over, Err(ReadEnd::TooLong)));
-    // Four bytes were taken, one more than the limit.
-    let rest = read_all(rt.alloc(), &mut source, 4)?;
-    same_items(&rt, rest.as_slice(), b"5678");
-    Ok(())
+/// Whether the rest of a source is these bytes.
+fn is_rest(alloc: Global, source: &mut CalmSource, wanted: &[u8]) -> bool {
+    match read_all(alloc, source, wanted.len()) {
+        Ok(rest) => rest.as_slice() == wanted,
+        Err(_) => false,
+    }
+}
+
+/// Whether a source of eight bytes is longer than three, and four of them are left then: one more than the limit was
+/// taken.
+fn is_limit_exact(alloc: Global, mut source: CalmSource) -> bool {
+    let is_over = matches!(read_all(alloc, &mut source, 3), Err(ReadEnd::TooLong));
+    is_over && is_rest(alloc, &mut source, b"5678")
+}
+
+fn stops_at_three(alloc: Global) -> bool {
+    match b"12345678".to_vec(alloc) {
+        Ok(bytes) => is_limit_exact(alloc, CalmSource::new(bytes)),
+        Err(_) => false,
+    }
 }
 
 #[test]
-fn a_calm_sink_writes_over_its_room(rt: HostRuntime) -> Result<(), Fail> {
-    let mut sink = CalmSink::new(b"...".to_vec(rt.alloc())?);
-    same(&rt, &write_whole(&mut sink, b"ab"), &Ok(()));
-    same(&rt, &write_whole(&mut sink, b"cd"), &Err(Failed));
-    same_items(&rt, sink.bytes(), b"abc");
+fn the_limit_is_exact(rt: HostRuntime) {
+    assert!(rt; stops_at_three(rt.alloc()));
+}
+
+/// Whether a sink with room for three bytes takes two, and one of two more.
+fn is_written_over(mut sink: CalmSink) -> bool {
+    let is_right = write_whole(&mut sink, b"ab") == Ok(())
+        && write_whole(&mut sink, b"cd") == Err(Failed)
+        && sink.bytes() == b"abc".as_slice();
     sink.end();
-    Ok(())
+    is_right
+}
+
+fn writes_over_its_room(alloc: Global) -> bool {
+    match b"...".to_vec(alloc) {
+        Ok(room) => is_written_over(CalmSink::new(room)),
+        Err(_) => false,
+    }
+}
+
+#[test]
+fn a_calm_sink_writes_over_its_room(rt: HostRuntime) {
+    assert!(rt; writes_over_its_room(rt.alloc()));
 }

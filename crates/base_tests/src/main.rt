@@ -35,8 +35,6 @@ mod refused_twice_tests;
 #[cfg(test)]
 mod reply_join_tests;
 #[cfg(test)]
-mod same;
-#[cfg(test)]
 mod script_lang_tests;
 #[cfg(test)]
 mod transaction_codec_tests;

@@ -1,44 +1,66 @@
 //! Operations packed into bodies.
 
-use crate::same::same_items;
 use mtu_packer::{Packed, Piece, pack, pack_into};
-use std::test::Fail;
+use std::alloc::Global;
 use transaction_codec::{Op, Words};
 
-/// The piece at this body and this place in it.
-fn at(body: u32, index: u16) -> Piece {
-    Piece { body, index }
+/// A body of no words, whose place another body takes.
+fn other_bodies(alloc: Global) -> Option<Vec<Words>> {
+    let mut others = Vec::new(alloc);
+    others.push(Words::from_vec(Vec::new(alloc))).ok()?;
+    Some(others)
 }
 
-/// The words of the second of two bodies.
-fn second(packed: &Packed) -> &[u32] {
+/// Whether the only body is that of the sum.
+fn is_the_sum(packed: &Packed) -> bool {
     match packed.bodies() {
-        [_, second] => second.as_slice(),
-        _ => &[],
+        [only] => only.as_slice() == [0x2000_015f, 5, 7].as_slice(),
+        _ => false,
     }
 }
 
-/// The words of the only body.
-fn only(packed: &Packed) -> &[u32] {
-    match packed.bodies() {
-        [only] => only.as_slice(),
-        _ => &[],
-    }
-}
-
-#[test]
-fn bodies_take_the_place_of_others(rt: HostRuntime) -> Result<(), Fail> {
-    let mut others = Vec::new(rt.alloc());
-    others.push(Words::from_vec(Vec::new(rt.alloc())))?;
+/// Whether bodies that take the place of others are right.
+fn is_packed_into(alloc: Global, others: Vec<Words>) -> bool {
     let ops = [Op::RmwSum { base: 5, addend: 7 }];
-    let packed = pack_into(rt.alloc(), others, &ops, 368)?;
-    same_items(&rt, only(&packed), &[0x2000_015f, 5, 7]);
-    same_items(&rt, packed.pieces(0), &[at(0, 0)]);
-    Ok(())
+    match pack_into(alloc, others, &ops, 368) {
+        Ok(packed) => is_the_sum(&packed)
+            && packed.pieces(0) == [Piece { body: 0, index: 0 }].as_slice(),
+        Err(_) => false,
+    }
+}
+
+fn are_others_replaced(alloc: Global) -> bool {
+    match other_bodies(alloc) {
+        Some(others) => is_packed_into(alloc, others),
+        None => false,
+    }
 }
 
 #[test]
-fn a_block_of_a_port_is_cut_and_stays_at_its_address(rt: HostRuntime) -> Result<(), Fail> {
+fn bodies_take_the_place_of_others(rt: HostRuntime) {
+    assert!(rt; are_others_replaced(rt.alloc()));
+}
+
+/// What is left of a read of 600 words behind the first body, and the sum behind it.
+const REST: [u32; 7] = [0x2000_ff2f, 0x1000, 0x2001_5a2f, 0x1000, 0x2002_015f, 5, 7];
+
+/// The places of the pieces of that read.
+const PIECES: [Piece; 3] = [
+    Piece { body: 0, index: 0 },
+    Piece { body: 1, index: 0 },
+    Piece { body: 1, index: 1 },
+];
+
+/// Whether the second of two bodies is the rest.
+fn is_rest_second(packed: &Packed) -> bool {
+    match packed.bodies() {
+        [_, second] => second.as_slice() == REST.as_slice(),
+        _ => false,
+    }
+}
+
+/// Whether a read of 600 words of a port is cut, and a sum stands behind it.
+fn is_cut(alloc: Global) -> bool {
     let ops = [
         Op::ReadPort {
             base: 0x1000,
@@ -46,9 +68,13 @@ fn a_block_of_a_port_is_cut_and_stays_at_its_address(rt: HostRuntime) -> Result<
         },
         Op::RmwSum { base: 5, addend: 7 },
     ];
-    let packed = pack(rt.alloc(), &ops, 368)?;
-    let rest = [0x2000_ff2f, 0x1000, 0x2001_5a2f, 0x1000, 0x2002_015f, 5, 7];
-    same_items(&rt, second(&packed), &rest);
-    same_items(&rt, packed.pieces(0), &[at(0, 0), at(1, 0), at(1, 1)]);
-    Ok(())
+    match pack(alloc, &ops, 368) {
+        Ok(packed) => is_rest_second(&packed) && packed.pieces(0) == PIECES.as_slice(),
+        Err(_) => false,
+    }
+}
+
+#[test]
+fn a_block_of_a_port_is_cut_and_stays_at_its_address(rt: HostRuntime) {
+    assert!(rt; is_cut(rt.alloc()));
 }

@@ -1,32 +1,36 @@
 //! Packets read and written, in both byte orders.
 
-use crate::same::same_items;
-use packet_codec::{MAX_BODY_WORDS, append_packet, read_packet, write_packet};
+use packet_codec::{MAX_BODY_WORDS, Packet, append_packet, read_packet, write_packet};
 use std::alloc::Global;
-use std::test::Fail;
 
 const BIG: [u8; 12] = [0x20, 0, 1, 0xf0, 0x20, 0, 1, 0x0f, 0, 0, 0, 4];
 
 const LITTLE: [u8; 12] = [0xf0, 1, 0, 0x20, 0x0f, 1, 0, 0x20, 4, 0, 0, 0];
 
 /// The bytes of the packet that these bytes spell, written and appended.
-fn written(alloc: Global, bytes: &[u8]) -> Result<Vec<u8>, Fail> {
-    let packet = read_packet(alloc, bytes)?;
+fn written_twice(alloc: Global, bytes: &[u8]) -> Option<Vec<u8>> {
+    let packet = read_packet(alloc, bytes).ok()?;
     if packet.body.len() > MAX_BODY_WORDS {
-        return Err("a body of that length is not written".into());
+        return None;
     }
-    let mut out = write_packet(alloc, &packet)?;
-    append_packet(&mut out, packet.head(), packet.body.as_slice())?;
-    Ok(out)
+    let mut out = write_packet(alloc, &packet).ok()?;
+    append_packet(&mut out, packet.head(), packet.body.as_slice()).ok()?;
+    Some(out)
+}
+
+/// Whether the packet that these bytes spell is written as these bytes.
+fn is_written_back(alloc: Global, bytes: &[u8; 12]) -> bool {
+    match written_twice(alloc, bytes) {
+        Some(out) => out.len() == 24
+            && &out[..12] == bytes.as_slice()
+            && &out[12..] == bytes.as_slice(),
+        None => false,
+    }
 }
 
 #[test]
-fn packets_are_read_and_written(rt: HostRuntime) -> Result<(), Fail> {
-    for bytes in [BIG, LITTLE] {
-        let out = written(rt.alloc(), &bytes)?;
-        assert!(rt; out.len() == 24);
-        same_items(&rt, &out[..12], &bytes);
-        same_items(&rt, &out[12..], &bytes);
+fn packets_are_read_and_written(rt: HostRuntime) {
+    for bytes in &[BIG, LITTLE] {
+        assert!(rt; is_written_back(rt.alloc(), bytes));
     }
-    Ok(())
 }

@@ -1,14 +1,17 @@
 //! Values, tables, documents and scripts that readers refuse: by the rule that is stated, and by it again when they are
 //! asked again.
 
-use crate::same::same;
-use address_table::{Table, TableRefusal, TableWhy, number, read_table};
+ghost use Rattle.std.specs.Prelude.{IfSome};
+ghost use Rattle.script_lang.specs.Limits.{IsWithin};
+
+use crate::documents::{session_of, value_of};
+use address_table::{TableRefusal, TableWhy, number, read_table};
 use node_tree::{CompileRefusal, CompileWhy, Index, compile};
 use script_lang::{
-    DocWhy, ScriptRefusal, ScriptWhy, Session, SessionRefusal, Steps, compile_scripts, read_session,
+    DocWhy, ScriptRefusal, ScriptWhy, Session, SessionRefusal, compile_scripts, read_session,
 };
 use std::alloc::Global;
-use std::test::Fail;
+use toml::Value;
 
 /// Values that are no number of 32 bits.
 const NO_NUMBERS: [&str; 8] = [
@@ -22,16 +25,20 @@ const NO_NUMBERS: [&str; 8] = [
     "t = \"1 \"",
 ];
 
+fn is_no_number(alloc: Global, text: &str) -> bool {
+    match value_of(alloc, text, "t") {
+        Some(value) => number(&value).is_none(),
+        None => false,
+    }
+}
+
 #[test]
-fn values_are_refused_again(rt: HostRuntime) -> Result<(), Fail> {
-    for text in NO_NUMBERS {
-        let document = toml::table_from_str(rt.alloc(), text)?;
-        let value = document.get("t").ok_or("no value")?;
+fn values_are_refused_again(rt: HostRuntime) {
+    for text in &NO_NUMBERS {
         for _ in 0..2 {
-            same(&rt, &number(value), &None);
+            assert!(rt; is_no_number(rt.alloc(), text), "{text}");
         }
     }
-    Ok(())
 }
 
 /// A table at the key `t`, the place of the first faulty node, and the first rule that it breaks.
@@ -75,27 +82,28 @@ const TABLES: [(&str, &[u64], TableWhy); 13] = [
     ("t = [{ id = \"a\", stride = 2 }]", &[0], TableWhy::BadCount),
 ];
 
-/// Whether a table is refused at this node by this rule.
-fn is_refused_at(read: Result<Table, TableRefusal>, place: &[u64], rule: TableWhy) -> bool {
-    match read {
+/// Whether a value is refused as a table at this node by this rule.
+fn is_refused_at(alloc: Global, value: &Value, place: &[u64], rule: TableWhy) -> bool {
+    match read_table(alloc, value, 2) {
         Err(TableRefusal::At { path, why }) => path.as_slice() == place && why == rule,
         _ => false,
     }
 }
 
+fn is_no_table(alloc: Global, text: &str, place: &[u64], rule: TableWhy) -> bool {
+    match value_of(alloc, text, "t") {
+        Some(value) => is_refused_at(alloc, &value, place, rule),
+        None => false,
+    }
+}
+
 #[test]
-fn tables_are_refused_again(rt: HostRuntime) -> Result<(), Fail> {
-    for (text, place, rule) in TABLES {
-        let document = toml::table_from_str(rt.alloc(), text)?;
-        let value = document.get("t").ok_or("no table")?;
+fn tables_are_refused_again(rt: HostRuntime) {
+    for &(text, place, rule) in &TABLES {
         for _ in 0..2 {
-            assert!(rt;
-                is_refused_at(read_table(rt.alloc(), value, 2), place, rule),
-                "{text}"
-            );
+            assert!(rt; is_no_table(rt.alloc(), text, place, rule), "{text}");
         }
     }
-    Ok(())
 }
 
 /// Documents, the place of the first fault, and the first rule that they break.
@@ -120,24 +128,20 @@ const DOCUMENTS: [(&[u8], &str, DocWhy); 9] = [
 ];
 
 /// Whether a document is refused at this place by this rule.
-fn is_refused_in(read: Result<Session, SessionRefusal>, place: &str, rule: DocWhy) -> bool {
-    match read {
+fn is_no_session(alloc: Global, bytes: &[u8], place: &str, rule: DocWhy) -> bool {
+    match read_session(alloc, bytes) {
         Err(SessionRefusal::Document { path, why }) => path.as_str() == place && why == rule,
         _ => false,
     }
 }
 
 #[test]
-fn documents_are_refused_again(rt: HostRuntime) -> Result<(), Fail> {
-    for (bytes, place, rule) in DOCUMENTS {
+fn documents_are_refused_again(rt: HostRuntime) {
+    for &(bytes, place, rule) in &DOCUMENTS {
         for _ in 0..2 {
-            assert!(rt;
-                is_refused_in(read_session(rt.alloc(), bytes), place, rule),
-                "{place}"
-            );
+            assert!(rt; is_no_session(rt.alloc(), bytes, place, rule), "{place}");
         }
     }
-    Ok(())
 }
 
 /// Tables, the first table or name that is at fault, and the first rule that they break from the root `main`.
@@ -177,14 +181,22 @@ const TREES: [(&str, &str, &str, CompileWhy); 6] = [
 
 const BOARD: &str = "\nboard = [{ name = \"b0\", table = \"main\" }]\n";
 
-/// Whether tables are refused there by this rule.
-fn is_refused_by(
-    compiled: Result<Index, CompileRefusal>,
-    at: &str,
-    name: &str,
-    rule: CompileWhy,
-) -> bool {
-    match compiled {
+/// The session of a document with a board.
+fn with_board(alloc: Global, text: &str) -> Option<Session>
+    ensures within { IfSome result IsWithin }
+{
+    let document = format!(in alloc; "{text}{BOARD}").ok()?;
+    session_of(alloc, document.as_str())
+}
+
+/// The registers of the board of a session.
+fn index_of(alloc: Global, session: &Session) -> Result<Index, CompileRefusal> {
+    compile(alloc, &session.tables, "main")
+}
+
+/// Whether the tables of a session are refused there by this rule.
+fn is_refused_by(alloc: Global, session: &Session, at: &str, name: &str, rule: CompileWhy) -> bool {
+    match index_of(alloc, session) {
         Err(CompileRefusal::At { table, path, why }) => {
             table.as_str() == at && path.as_str() == name && why == rule
         }
@@ -192,40 +204,48 @@ fn is_refused_by(
     }
 }
 
-/// The session of a document with a board.
-fn with_board(alloc: Global, text: &str) -> Result<Session, Fail> {
-    let document = format!(in alloc; "{text}{BOARD}")?;
-    Ok(read_session(alloc, document.as_str().as_bytes())?)
+fn is_no_tree(alloc: Global, text: &str, at: &str, name: &str, rule: CompileWhy) -> bool {
+    match with_board(alloc, text) {
+        Some(session) => is_refused_by(alloc, &session, at, name, rule),
+        None => false,
+    }
 }
 
 #[test]
-fn trees_are_refused_again(rt: HostRuntime) -> Result<(), Fail> {
-    for (text, at, name, rule) in TREES {
-        let session = with_board(rt.alloc(), text)?;
+fn trees_are_refused_again(rt: HostRuntime) {
+    for &(text, at, name, rule) in &TREES {
         for _ in 0..2 {
-            let compiled = compile(rt.alloc(), &session.tables, "main");
-            assert!(rt; is_refused_by(compiled, at, name, rule), "{text}");
+            assert!(rt; is_no_tree(rt.alloc(), text, at, name, rule), "{text}");
         }
     }
-    Ok(())
 }
 
 /// Names that are those of no register of a table with an array `a` of two nodes.
 const NO_NAMES: [&str; 6] = ["", "a", "a[2]", "a[00]", "a[0].", "b"];
 
-#[test]
-fn names_are_refused_again(rt: HostRuntime) -> Result<(), Fail> {
-    let session = with_board(
-        rt.alloc(),
-        "format = 2\ntables.main = [{ id = \"a\", count = 2 }]",
-    )?;
-    let index = compile(rt.alloc(), &session.tables, "main")?;
-    for name in NO_NAMES {
-        for _ in 0..2 {
-            assert!(rt; index.find(name).is_none(), "{name}");
-        }
+/// The registers of an array of two nodes.
+fn array(alloc: Global) -> Option<Index> {
+    let document = "format = 2\ntables.main = [{ id = \"a\", count = 2 }]";
+    index_of(alloc, &with_board(alloc, document)?).ok()
+}
+
+/// Whether there is no register of this name, and none when it is sought again.
+fn is_not_in(index: &Index, name: &str) -> bool {
+    index.find(name).is_none() && index.find(name).is_none()
+}
+
+fn is_no_name(alloc: Global, name: &str) -> bool {
+    match array(alloc) {
+        Some(index) => is_not_in(&index, name),
+        None => false,
     }
-    Ok(())
+}
+
+#[test]
+fn names_are_refused_again(rt: HostRuntime) {
+    for name in &NO_NAMES {
+        assert!(rt; is_no_name(rt.alloc(), name), "{name}");
+    }
 }
 
 /// Lines of a script, and the first rule that they break.
@@ -246,25 +266,35 @@ const REGISTERS: &str =
     "tables.main = [{ id = \"a\" }, { id = \"id\", address = 1, permission = \"r\" }, \
 { id = \"bit\", address = 2, mask = 1 }]\nclient = [{ script = [\"read b0:a\", \"";
 
-/// What a script comes to whose second line this is.
-fn compiled(alloc: Global, line: &str) -> Result<Result<Vec<Steps>, ScriptRefusal>, Fail> {
-    let document = format!(in alloc; "{REGISTERS}{line}\"] }}]{BOARD}")?;
-    let session = read_session(alloc, document.as_str().as_bytes())?;
-    let index = compile(alloc, &session.tables, "main")?;
-    Ok(compile_scripts(alloc, &session, &[index]))
+/// The session of a script whose second line this is.
+fn with_line(alloc: Global, line: &str) -> Option<Session>
+    ensures within { IfSome result IsWithin }
+{
+    let document = format!(in alloc; "{REGISTERS}{line}\"] }}]{BOARD}").ok()?;
+    session_of(alloc, document.as_str())
+}
+
+/// Why its script is not compiled.
+fn refusal_of(alloc: Global, line: &str) -> Option<ScriptRefusal> {
+    let session = with_line(alloc, line)?;
+    let index = index_of(alloc, &session).ok()?;
+    compile_scripts(alloc, &session, &[index]).err()
+}
+
+fn is_no_line(alloc: Global, line: &str, why: ScriptWhy) -> bool {
+    refusal_of(alloc, line)
+        == Some(ScriptRefusal::At {
+            client: 1,
+            line: 2,
+            why,
+        })
 }
 
 #[test]
-fn lines_are_refused_again(rt: HostRuntime) -> Result<(), Fail> {
-    for (text, why) in LINES {
+fn lines_are_refused_again(rt: HostRuntime) {
+    for &(line, why) in &LINES {
         for _ in 0..2 {
-            let refusal = ScriptRefusal::At {
-                client: 1,
-                line: 2,
-                why,
-            };
-            same(&rt, &compiled(rt.alloc(), text)?.err(), &Some(refusal));
+            assert!(rt; is_no_line(rt.alloc(), line, why), "{line}");
         }
     }
-    Ok(())
 }

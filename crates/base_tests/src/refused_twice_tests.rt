@@ -1,33 +1,20 @@
 //! Bytes and words that readers refuse: by the rule that is stated, and by it again when they are asked again.
 
-use crate::same::same;
 use address_table::is_id;
 use hub_framing::{FrameRefusal, Framer};
-use ipb_base::{NoMemory, number_in_text};
+use ipb_base::number_in_text;
 use packet_codec::{BadPacket, read_head, read_header, read_packet};
 use status_packet::{BadStatus, is_status_request, read_resend, read_status_reply};
 use std::alloc::Global;
-use std::fmt::Debug;
-use std::process::Abort;
-use std::test::Fail;
 use transaction_codec::{BadWords, Why, first_reply, first_request, read_replies, read_requests};
 
-/// Asks twice, and stops where an answer is another one than this.
-fn twice<A: PartialEq + Debug + Drop, F: Fn() -> A>(rt: &impl Abort, ask: F, wanted: A)
-    requires { F.IsAlwaysCallable ask }
-{
-    for _ in 0..2 {
-        same(rt, &ask(), &wanted);
-    }
-}
-
 /// These bytes and zeros behind them, so many bytes in all.
-fn padded(alloc: Global, front: &[u8], length: usize) -> Result<Vec<u8>, NoMemory> {
-    let mut bytes = front.to_vec(alloc)?;
+fn padded(alloc: Global, front: &[u8], length: usize) -> Option<Vec<u8>> {
+    let mut bytes = front.to_vec(alloc).ok()?;
     for _ in front.len()..length {
-        bytes.push(0)?;
+        bytes.push(0).ok()?;
     }
-    Ok(bytes)
+    Some(bytes)
 }
 
 /// The front of bytes that are no packet, how many bytes there are, and the first rule that they break.
@@ -42,15 +29,25 @@ const PACKETS: [(&[u8], usize, BadPacket); 7] = [
     (b"\x20\0\x01\xf3", 4, BadPacket::Kind),
 ];
 
-#[test]
-fn packets_are_refused_again(rt: HostRuntime) -> Result<(), Fail> {
-    let alloc = rt.alloc();
-    for (front, length, wanted) in PACKETS {
-        let bytes = padded(alloc, front, length)?;
-        twice(&rt, || read_packet(alloc, &bytes).err(), Some(wanted));
-        twice(&rt, || read_head(&bytes).err(), Some(wanted));
+/// Whether bytes, and their head, are refused by this rule.
+fn are_refused(alloc: Global, bytes: &[u8], why: BadPacket) -> bool {
+    read_packet(alloc, bytes).err() == Some(why) && read_head(bytes).err() == Some(why)
+}
+
+fn is_no_packet(alloc: Global, front: &[u8], length: usize, why: BadPacket) -> bool {
+    match padded(alloc, front, length) {
+        Some(bytes) => are_refused(alloc, &bytes, why),
+        None => false,
     }
-    Ok(())
+}
+
+#[test]
+fn packets_are_refused_again(rt: HostRuntime) {
+    for &(front, length, why) in &PACKETS {
+        for _ in 0..2 {
+            assert!(rt; is_no_packet(rt.alloc(), front, length, why));
+        }
+    }
 }
 
 /// The same of status replies.
@@ -100,13 +97,20 @@ const STATUSES: [(&[u8], usize, BadStatus); 12] = [
     ),
 ];
 
-#[test]
-fn statuses_are_refused_again(rt: HostRuntime) -> Result<(), Fail> {
-    for (front, length, wanted) in STATUSES {
-        let bytes = padded(rt.alloc(), front, length)?;
-        twice(&rt, || read_status_reply(&bytes).err(), Some(wanted));
+fn is_no_status(alloc: Global, front: &[u8], length: usize, why: BadStatus) -> bool {
+    match padded(alloc, front, length) {
+        Some(bytes) => read_status_reply(&bytes).err() == Some(why),
+        None => false,
     }
-    Ok(())
+}
+
+#[test]
+fn statuses_are_refused_again(rt: HostRuntime) {
+    for &(front, length, why) in &STATUSES {
+        for _ in 0..2 {
+            assert!(rt; is_no_status(rt.alloc(), front, length, why));
+        }
+    }
 }
 
 /// The front of bytes, how many there are, whether they ask for a status, and the identifier that they ask for again.
@@ -122,21 +126,32 @@ const QUESTIONS: [(&[u8], usize, bool, Option<u16>); 9] = [
     (b"\xf2\x01\0\x20", 4, false, None),
 ];
 
-#[test]
-fn questions_are_refused_again(rt: HostRuntime) -> Result<(), Fail> {
-    for (front, length, is_request, again) in QUESTIONS {
-        let bytes = padded(rt.alloc(), front, length)?;
-        twice(&rt, || is_status_request(&bytes), is_request);
-        twice(&rt, || read_resend(&bytes), again);
+/// Whether bytes ask for this.
+fn asks(alloc: Global, front: &[u8], length: usize, is_request: bool, again: Option<u16>) -> bool {
+    match padded(alloc, front, length) {
+        Some(bytes) => is_status_request(&bytes) == is_request && read_resend(&bytes) == again,
+        None => false,
     }
-    Ok(())
+}
+
+#[test]
+fn questions_are_refused_again(rt: HostRuntime) {
+    for &(front, length, is_request, again) in &QUESTIONS {
+        for _ in 0..2 {
+            assert!(rt; asks(rt.alloc(), front, length, is_request, again));
+        }
+    }
 }
 
 /// Words that are no header of a packet: another version, a reserved bit, another byte order, no bit and each bit.
+const NO_HEADERS: [u32; 5] = [0x3000_01f0, 0x2100_01f0, 0xf001_0020, 0, u32::MAX];
+
 #[test]
 fn headers_are_refused_again(rt: HostRuntime) {
-    for word in [0x3000_01f0, 0x2100_01f0, 0xf001_0020, 0, u32::MAX] {
-        twice(&rt, || read_header(word), None);
+    for &word in &NO_HEADERS {
+        for _ in 0..2 {
+            assert!(rt; read_header(word).is_none());
+        }
     }
 }
 
@@ -149,47 +164,61 @@ const WORDS: [(&[u32], Why, Why); 5] = [
     (&[0x2000_010f], Why::Short, Why::Code),
 ];
 
-fn at_front(why: Why) -> Option<BadWords> {
-    Some(BadWords::At { place: 0, why })
+/// Whether words are refused as requests by this rule, at their front.
+fn are_no_requests(alloc: Global, words: &[u32], why: Why) -> bool {
+    read_requests(alloc, words).err() == Some(BadWords::At { place: 0, why })
+        && first_request(words).err() == Some(why)
 }
 
 #[test]
 fn requests_are_refused_again(rt: HostRuntime) {
-    let alloc = rt.alloc();
-    for (words, why, _) in WORDS {
-        twice(&rt, || read_requests(alloc, words).err(), at_front(why));
-        twice(&rt, || first_request(words).err(), Some(why));
+    for &(words, why, _) in &WORDS {
+        for _ in 0..2 {
+            assert!(rt; are_no_requests(rt.alloc(), words, why));
+        }
     }
+}
+
+/// The same of replies.
+fn are_no_replies(alloc: Global, words: &[u32], why: Why) -> bool {
+    read_replies(alloc, words).err() == Some(BadWords::At { place: 0, why })
+        && first_reply(words).err() == Some(why)
 }
 
 #[test]
 fn replies_are_refused_again(rt: HostRuntime) {
-    let alloc = rt.alloc();
-    for (words, _, why) in WORDS {
-        twice(&rt, || read_replies(alloc, words).err(), at_front(why));
-        twice(&rt, || first_reply(words).err(), Some(why));
+    for &(words, _, why) in &WORDS {
+        for _ in 0..2 {
+            assert!(rt; are_no_replies(rt.alloc(), words, why));
+        }
     }
 }
 
-/// The first two refusals of a framer that was fed with these bytes.
-fn framed_twice(alloc: Global, bytes: &[u8]) -> Result<[Option<FrameRefusal>; 2], Fail> {
+/// Bytes of frames, and the first rule that they break.
+const FRAMES: [(&[u8], FrameRefusal); 4] = [
+    (b"\0\0\0\0", FrameRefusal::TooShort),
+    (b"\0\0\0\x07\0\0\0\0\x20\0\0", FrameRefusal::TooShort),
+    (b"\0\0\x23\x11", FrameRefusal::TooLong),
+    (b"\xff\xff\xff\xff\0", FrameRefusal::TooLong),
+];
+
+fn is_next_refused(framer: &mut Framer, why: FrameRefusal) -> bool {
+    framer.next().err() == Some(why)
+}
+
+/// Whether a framer that was fed with these bytes refuses them twice.
+fn are_no_frames(alloc: Global, bytes: &[u8], why: FrameRefusal) -> bool {
     let mut framer = Framer::new(alloc);
-    framer.feed(bytes)?;
-    Ok([framer.next().err(), framer.next().err()])
+    framer.feed(bytes).is_ok()
+        && is_next_refused(&mut framer, why)
+        && is_next_refused(&mut framer, why)
 }
 
 #[test]
-fn frames_are_refused_again(rt: HostRuntime) -> Result<(), Fail> {
-    let rows: [(&[u8], FrameRefusal); 4] = [
-        (b"\0\0\0\0", FrameRefusal::TooShort),
-        (b"\0\0\0\x07\0\0\0\0\x20\0\0", FrameRefusal::TooShort),
-        (b"\0\0\x23\x11", FrameRefusal::TooLong),
-        (b"\xff\xff\xff\xff\0", FrameRefusal::TooLong),
-    ];
-    for (bytes, refusal) in rows {
-        same(&rt, &framed_twice(rt.alloc(), bytes)?, &[Some(refusal); 2]);
+fn frames_are_refused_again(rt: HostRuntime) {
+    for &(bytes, why) in &FRAMES {
+        assert!(rt; are_no_frames(rt.alloc(), bytes, why));
     }
-    Ok(())
 }
 
 /// Texts that are no number of 32 bits.
@@ -208,15 +237,23 @@ const NO_NUMBERS: [&str; 12] = [
     "1e3",
 ];
 
+#[test]
+fn numbers_are_refused_again(rt: HostRuntime) {
+    for text in &NO_NUMBERS {
+        for _ in 0..2 {
+            assert!(rt; number_in_text(text.as_bytes()).is_none(), "{text}");
+        }
+    }
+}
+
 /// Texts that are no id: none, 65 letters, and those with another byte.
 const NO_IDS: [&[u8]; 6] = [b"", &[b'a'; 65], b"a b", b"a.b", b"a[0]", b"\xff"];
 
 #[test]
-fn texts_are_refused_again(rt: HostRuntime) {
-    for text in NO_NUMBERS {
-        twice(&rt, || number_in_text(text.as_bytes()), None);
-    }
-    for text in NO_IDS {
-        twice(&rt, || is_id(text), false);
+fn ids_are_refused_again(rt: HostRuntime) {
+    for text in &NO_IDS {
+        for _ in 0..2 {
+            assert!(rt; !is_id(text));
+        }
     }
 }

@@ -1,9 +1,7 @@
 //! Replies joined to the requests of their bodies.
 
-use crate::same::same;
-use reply_join::{Answer, JoinRefusal, ReadWords, join_reply};
+use reply_join::{Answer, Answers, JoinRefusal, join_reply};
 use std::alloc::Global;
-use std::test::Fail;
 use transaction_codec::read_requests;
 
 /// A read of two words, a sum, a write of two words and a read of none.
@@ -32,26 +30,42 @@ const REPLIES: [u32; 7] = [
     0x2003_0000,
 ];
 
-fn values(alloc: Global, words: &[u32]) -> Result<Answer, Fail> {
-    Ok(Answer::Values(ReadWords::copy_of(alloc, words)?))
+/// What a reply answers to the requests.
+fn joined(alloc: Global, reply: &[u32]) -> Result<Answers, JoinRefusal> {
+    match read_requests(alloc, &EACH_KIND) {
+        Ok(_) => join_reply(alloc, &EACH_KIND, reply),
+        Err(_) => Err(JoinRefusal::NoMemory),
+    }
 }
 
-/// What each request asked for.
-fn asked(alloc: Global) -> Result<Vec<Answer>, Fail> {
-    let mut answers = Vec::new(alloc);
-    answers.push(values(alloc, &[1, 2])?)?;
-    answers.push(values(alloc, &[0xabcd])?)?;
-    answers.push(Answer::Done)?;
-    answers.push(values(alloc, &[])?)?;
-    Ok(answers)
+/// Whether an answer is these words.
+fn is_values(answer: &Answer, wanted: &[u32]) -> bool {
+    match answer {
+        Answer::Values(words) => words.as_slice() == wanted,
+        _ => false,
+    }
+}
+
+/// Whether each request is answered what it asked for.
+fn are_asked_for(answers: &[Answer]) -> bool {
+    match answers {
+        [two, one, Answer::Done, none] => {
+            is_values(two, &[1, 2]) && is_values(one, &[0xabcd]) && is_values(none, &[])
+        }
+        _ => false,
+    }
+}
+
+fn is_answered(alloc: Global) -> bool {
+    match joined(alloc, &REPLIES) {
+        Ok(answers) => are_asked_for(answers.as_slice()),
+        Err(_) => false,
+    }
 }
 
 #[test]
-fn each_request_gets_what_it_asked_for(rt: HostRuntime) -> Result<(), Fail> {
-    let _requests = read_requests(rt.alloc(), &EACH_KIND)?;
-    let answers = join_reply(rt.alloc(), &EACH_KIND, &REPLIES)?;
-    assert!(rt; answers.as_slice() == asked(rt.alloc())?.as_slice());
-    Ok(())
+fn each_request_gets_what_it_asked_for(rt: HostRuntime) {
+    assert!(rt; is_answered(rt.alloc()));
 }
 
 /// Words that are no reply to them, and the place of the first wrong word, or how many there are where one is missing.
@@ -80,19 +94,16 @@ const GARBLED: [(&[u32], u64); 8] = [
     ),
 ];
 
-/// Why words are not joined to the requests.
-fn refusal_of(alloc: Global, reply: &[u32]) -> Result<Option<JoinRefusal>, Fail> {
-    let _requests = read_requests(alloc, &EACH_KIND)?;
-    Ok(join_reply(alloc, &EACH_KIND, reply).err())
+/// Whether words are refused at this place.
+fn is_garbled_at(alloc: Global, reply: &[u32], place: u64) -> bool {
+    joined(alloc, reply).err() == Some(JoinRefusal::Garbled { place })
 }
 
 #[test]
-fn replies_to_other_bodies_are_refused_again(rt: HostRuntime) -> Result<(), Fail> {
-    for (reply, place) in GARBLED {
+fn replies_to_other_bodies_are_refused_again(rt: HostRuntime) {
+    for &(reply, place) in &GARBLED {
         for _ in 0..2 {
-            let refusal = refusal_of(rt.alloc(), reply)?;
-            same(&rt, &refusal, &Some(JoinRefusal::Garbled { place }));
+            assert!(rt; is_garbled_at(rt.alloc(), reply, place));
         }
     }
-    Ok(())
 }

@@ -1,28 +1,37 @@
 //! Session documents read, and their scripts compiled.
 
-use crate::documents::{LINKS, SESSION};
-use node_tree::compile;
-use script_lang::{BoardSpec, Fates, LinkSpec, Session, compile_scripts, read_session};
+use crate::documents::{LINKS, SESSION, front_of, session_of};
+use script_lang::{BoardSpec, Fates, LinkSpec, Session, compile_scripts};
 use script_steps::{RegOp, Step, Steps, Verb};
 use std::alloc::Global;
-use std::test::Fail;
 use transaction_codec::Op;
+
+/// Whether the one board is that of `SESSION`.
+fn is_the_board(boards: &[BoardSpec]) -> bool {
+    match boards {
+        [board] => board.name.as_str() == "fe0" && board.table.as_str() == "front",
+        _ => false,
+    }
+}
 
 /// Whether a session has the settings, the board and the scripts of `SESSION`.
 fn is_the_session(session: &Session) -> bool {
-    let settings = (session.settings.rounds(), session.settings.window());
-    let is_board = match session.boards.as_slice() {
-        [board] => (board.name.as_str(), board.table.as_str()) == ("fe0", "front"),
-        _ => false,
-    };
-    settings == (255, 4) && is_board && session.scripts.as_slice().len() == 2
+    session.settings.rounds() == 255
+        && session.settings.window() == 4
+        && is_the_board(session.boards.as_slice())
+        && session.scripts.as_slice().len() == 2
+}
+
+fn is_session_read(alloc: Global) -> bool {
+    match session_of(alloc, SESSION) {
+        Some(session) => is_the_session(&session),
+        None => false,
+    }
 }
 
 #[test]
-fn a_session_is_read(rt: HostRuntime) -> Result<(), Fail> {
-    let session = read_session(rt.alloc(), SESSION.as_bytes())?;
-    assert!(rt; is_the_session(&session));
-    Ok(())
+fn a_session_is_read(rt: HostRuntime) {
+    assert!(rt; is_session_read(rt.alloc()));
 }
 
 /// Whether a link has what the first of `LINKS` says, and the defaults of the rest.
@@ -58,11 +67,16 @@ fn are_the_links(boards: &[BoardSpec]) -> bool {
     }
 }
 
+fn is_each_link_read(alloc: Global) -> bool {
+    match session_of(alloc, LINKS) {
+        Some(session) => are_the_links(session.boards.as_slice()),
+        None => false,
+    }
+}
+
 #[test]
-fn links_are_read(rt: HostRuntime) -> Result<(), Fail> {
-    let session = read_session(rt.alloc(), LINKS.as_bytes())?;
-    assert!(rt; are_the_links(session.boards.as_slice()));
-    Ok(())
+fn links_are_read(rt: HostRuntime) {
+    assert!(rt; is_each_link_read(rt.alloc()));
 }
 
 /// Whether a step is the read of the gain, asked for by the first line.
@@ -111,15 +125,20 @@ fn are_the_steps(clients: &[Steps]) -> bool {
 }
 
 /// What the scripts of `SESSION` are compiled to.
-fn compiled(alloc: Global) -> Result<Vec<Steps>, Fail> {
-    let session = read_session(alloc, SESSION.as_bytes())?;
-    let index = compile(alloc, &session.tables, "front")?;
-    Ok(compile_scripts(alloc, &session, &[index])?)
+fn compiled(alloc: Global) -> Option<Vec<Steps>> {
+    let session = session_of(alloc, SESSION)?;
+    let index = front_of(alloc, &session)?;
+    compile_scripts(alloc, &session, &[index]).ok()
+}
+
+fn is_each_compiled(alloc: Global) -> bool {
+    match compiled(alloc) {
+        Some(clients) => are_the_steps(&clients),
+        None => false,
+    }
 }
 
 #[test]
-fn scripts_are_compiled(rt: HostRuntime) -> Result<(), Fail> {
-    let clients = compiled(rt.alloc())?;
-    assert!(rt; are_the_steps(&clients));
-    Ok(())
+fn scripts_are_compiled(rt: HostRuntime) {
+    assert!(rt; is_each_compiled(rt.alloc()));
 }

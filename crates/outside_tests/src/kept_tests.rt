@@ -1,25 +1,27 @@
 //! A source that keeps what it gave.
 
-use crate::same::same_items;
-use ipb_outside::{MemSource, read_all};
+use crate::bytes::is_rest;
+use ipb_outside::MemSource;
 use net_edges::KeptSource;
-use std::alloc::{AllocError, Global};
-use std::test::Fail;
+use std::alloc::Global;
 
 /// A source of three bytes, of which so many are kept.
-fn kept(alloc: Global, most: usize) -> Result<KeptSource<MemSource>, AllocError> {
-    let bytes = vec![in alloc; 7u8, 8, 9]?;
+fn kept(alloc: Global, most: usize) -> Option<KeptSource<MemSource>> {
+    let bytes = b"\x07\x08\x09".to_vec(alloc).ok()?;
     let source = MemSource::new(bytes, 2, Vec::new(alloc));
-    Ok(KeptSource::new(alloc, source, most))
+    Some(KeptSource::new(alloc, source, most))
+}
+
+/// Whether that source gives its bytes, and then tells them or does not.
+fn gives(alloc: Global, most: usize, told: Option<&[u8]>) -> bool {
+    match kept(alloc, most) {
+        Some(mut source) => is_rest(alloc, &mut source, b"\x07\x08\x09") && source.given() == told,
+        None => false,
+    }
 }
 
 #[test]
-fn a_source_keeps_what_it_gave(rt: HostRuntime) -> Result<(), Fail> {
-    for most in [2, 3] {
-        let mut source = kept(rt.alloc(), most)?;
-        same_items(&rt, &read_all(rt.alloc(), &mut source, 10)?, &[7, 8, 9]);
-        let is_kept = source.given() == Some([7u8, 8, 9].as_slice());
-        assert!(rt; is_kept == (most == 3));
-    }
-    Ok(())
+fn a_source_keeps_what_it_gave(rt: HostRuntime) {
+    assert!(rt; gives(rt.alloc(), 2, None));
+    assert!(rt; gives(rt.alloc(), 3, Some(b"\x07\x08\x09")));
 }

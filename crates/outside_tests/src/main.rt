@@ -3,11 +3,11 @@
 #![tactic(auto)]
 
 #[cfg(test)]
+mod bytes;
+#[cfg(test)]
 mod kept_tests;
 #[cfg(test)]
 mod rack_tests;
-#[cfg(test)]
-mod same;
 #[cfg(test)]
 mod std_stream_tests;
 #[cfg(test)]

@@ -4,13 +4,12 @@ ghost use Rattle.std.specs.Prelude.{◌≤◌, length, IfOk};
 ghost use Rattle.world_core.specs.declared.link.TheConstants.{MAX_DATAGRAM};
 ghost use Rattle.lossy_network.specs.Racks.{IsMakeable};
 
+use crate::udp_tests::{hears, port_of, socket};
 use board_node::{BoardSpec, LinkSpec};
 use ipb_base::{NoMemory, Text};
 use net_edges::{Link, LinkFault, Rack, RackFault, RealRack, Received};
 use std::alloc::Global;
-use std::net::{Ipv4Addr, Net, UdpSocket};
-use std::test::Fail;
-use std::time::Duration;
+use std::net::{Net, UdpSocket};
 
 /// The request for a board's status, and the first word of its reply.
 const STATUS_HEADER: [u8; 4] = [0x20, 0, 0, 0xf1];
@@ -37,50 +36,57 @@ fn status_request() -> [u8; 64] {
     request
 }
 
-/// Asks a board for its status over a link that the rack of the real outside makes, and gives the link back.
+/// Whether a board that is asked for its status over a link that the rack of the real outside makes is quiet. The link is
+/// given back.
 fn ask_and_keep<N: Net + AllocGlobal + Drop>(
+    alloc: Global,
     rack: &mut RealRack<N>,
     spec: &BoardSpec,
-    into: &mut Vec<u8>,
-) -> Result<Received, RackFault>
+) -> Result<bool, RackFault>
     requires { IsMakeable spec.now.link }
     ensures { rack.old.faults ≤ rack.new.faults }
 {
     let mut link = rack.make(spec)?;
-    let received = ask(&mut link, &status_request(), into);
+    let is_quiet = ask(alloc, &mut link, &status_request()) == Ok(Received::Quiet);
     rack.keep(link);
-    received.map_err(|_| RackFault::Failed)
+    Ok(is_quiet)
 }
 
 /// Sends a datagram over any link and waits for one.
-fn ask<L: Link>(link: &mut L, bytes: &[u8], into: &mut Vec<u8>) -> Result<Received, LinkFault>
+fn ask<L: Link>(alloc: Global, link: &mut L, bytes: &[u8]) -> Result<Received, LinkFault>
     requires { length bytes.now ≤ MAX_DATAGRAM }
 {
     link.send(bytes)?;
-    link.receive(into)
+    link.receive(&mut Vec::new(alloc))
 }
 
-/// A socket of this machine, as that of a board.
-fn board(rt: &HostRuntime) -> Result<UdpSocket, Fail> {
-    let board = UdpSocket::bind(rt, (Ipv4Addr::LOCALHOST, 0))?;
-    board.set_read_timeout(Some(Duration::from_secs(10)))?;
-    Ok(board)
+/// Whether a board behind this port is asked, and is quiet.
+fn is_quiet<N: Net + AllocGlobal + Drop>(alloc: Global, rack: &mut RealRack<N>, port: u16) -> bool {
+    match on_network(alloc, port) {
+        Ok(spec) => ask_and_keep(alloc, rack, &spec) == Ok(true),
+        Err(_) => false,
+    }
 }
 
-/// Whether a board hears the request for its status next.
-fn hears_the_request(board: &UdpSocket) -> Result<bool, Fail> {
-    let mut heard = [0u8; 100];
-    let (count, _) = board.recv_from(&mut heard)?;
-    Ok(&heard[..count] == status_request().as_slice())
+/// Whether a board is asked for its status.
+fn is_asked(rt: &HostRuntime, board: &UdpSocket) -> bool {
+    match port_of(board) {
+        Some(port) => {
+            is_quiet(rt.alloc(), &mut RealRack::new(rt), port)
+                && hears(board, &status_request()).is_some()
+        }
+        None => false,
+    }
+}
+
+fn is_link_made(rt: &HostRuntime) -> bool {
+    match socket(rt) {
+        Some(board) => is_asked(rt, &board),
+        None => false,
+    }
 }
 
 #[test]
-fn a_rack_makes_links_over_udp(rt: HostRuntime) -> Result<(), Fail> {
-    let board = board(&rt)?;
-    let spec = on_network(rt.alloc(), board.local_addr()?.port())?;
-    let mut rack = RealRack::new(&rt);
-    let mut into = Vec::new(rt.alloc());
-    assert!(rt; ask_and_keep(&mut rack, &spec, &mut into) == Ok(Received::Quiet));
-    assert!(rt; hears_the_request(&board)?);
-    Ok(())
+fn a_rack_makes_links_over_udp(rt: HostRuntime) {
+    assert!(rt; is_link_made(&rt));
 }

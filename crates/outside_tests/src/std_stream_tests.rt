@@ -1,13 +1,14 @@
 //! Standard input and output, over runtimes that stand in for them.
 
-use crate::same::{differing_bytes, same, same_items};
-use ipb_outside::{Failed, Sink, Source, read_all, write_whole};
+ghost use Rattle.std.specs.Prelude.{◌≤◌, length};
+
+use crate::bytes::{differing_bytes, is_rest};
+use ipb_outside::{Failed, Sink, Source, write_whole};
 use net_edges::{StdinSource, StdoutSink};
-use std::alloc::Allocator;
+use std::alloc::{Allocator, Global};
 use std::fmt::Display;
 use std::io::{self, BufRead, ErrorKind, Input, Lines, Print};
 use std::sync::atomic::{AtomicUsize, Ordering};
-use std::test::Fail;
 
 /// A runtime whose standard input is these bytes.
 #[derive(Clone, Copy)]
@@ -29,26 +30,46 @@ impl Input for Bytes {
     }
 }
 
-#[test]
-fn standard_input_is_read_to_its_end(rt: HostRuntime) -> Result<(), Fail> {
+/// Whether the bytes of standard input are read: two, and then the rest.
+fn is_read_to_its_end(alloc: Global) -> bool {
     let mut source = StdinSource::new(&Bytes(b"hello"));
     let mut front = [0u8; 2];
-    same(&rt, &source.read(&mut front), &Ok(2));
-    same(&rt, &front, &*b"he");
-    let rest = read_all(rt.alloc(), &mut source, 5)?;
-    same_items(&rt, rest.as_slice(), b"llo");
-    Ok(())
+    source.read(&mut front) == Ok(2) && front == *b"he" && is_rest(alloc, &mut source, b"llo")
+}
+
+#[test]
+fn standard_input_is_read_to_its_end(rt: HostRuntime) {
+    assert!(rt; is_read_to_its_end(rt.alloc()));
 }
 
 /// How a write to standard output goes.
 #[derive(Clone, Copy)]
-enum Way {
+enum Way<'a> {
     Fails,
     TakesNone,
     TakesOne,
+    /// It takes seven bytes at once, and counts those that are the next of the bytes awaited.
+    Awaits {
+        bytes: &'a [u8],
+        right: &'a AtomicUsize,
+    },
 }
 
-impl Print for Way {
+/// How many of these bytes are taken: seven at once. Those that are the next of the bytes awaited are counted.
+fn count_next(awaited: &[u8], right: &AtomicUsize, bytes: &[u8]) -> usize
+    ensures { result ≤ length bytes.now }
+{
+    let count = bytes.len().min(7);
+    for byte in &bytes[..count] {
+        let next = right.load(Ordering::SeqCst);
+        if awaited.get(next) == Some(byte) {
+            right.fetch_add(1, Ordering::SeqCst);
+        }
+    }
+    count
+}
+
+impl<'a> Print for Way<'a> {
     fn print<D: Display + Drop>(&self, _value: D) -> io::Result<()> {
         Err(io::Error::from(ErrorKind::Unsupported))
     }
@@ -66,66 +87,72 @@ impl Print for Way {
             Way::Fails => Err(io::Error::from(ErrorKind::BrokenPipe)),
             Way::TakesNone => Ok(0),
             Way::TakesOne => Ok(bytes.len().min(1)),
+            Way::Awaits {
+                bytes: awaited,
+                right,
+            } => Ok(count_next(awaited, right, bytes)),
         }
     }
+}
+
+/// Ways, bytes, and what one write of them answers.
+const WRITES: [(Way<'static>, &[u8], Result<usize, Failed>); 5] = [
+    (Way::Fails, b"ab", Err(Failed)),
+    (Way::Fails, b"", Err(Failed)),
+    (Way::TakesNone, b"ab", Err(Failed)),
+    (Way::TakesNone, b"", Ok(0)),
+    (Way::TakesOne, b"ab", Ok(1)),
+];
+
+/// Ways, and what a write of bytes to the last of them answers.
+const WHOLE_WRITES: [(Way<'static>, Result<(), Failed>); 3] = [
+    (Way::Fails, Err(Failed)),
+    (Way::TakesNone, Err(Failed)),
+    (Way::TakesOne, Ok(())),
+];
+
+/// Whether a sink of this way answers so, to one write and to the next one.
+fn answers(way: Way<'_>, bytes: &[u8], wanted: Result<usize, Failed>) -> bool {
+    let mut sink = StdoutSink::new(way);
+    sink.write(bytes) == wanted && sink.write(bytes) == wanted
+}
+
+/// Whether a sink of this way answers so to a whole write.
+fn answers_whole(way: Way<'_>, wanted: Result<(), Failed>) -> bool {
+    let mut sink = StdoutSink::new(way);
+    let is_right = write_whole(&mut sink, b"hello") == wanted;
+    sink.end();
+    is_right
 }
 
 #[test]
 fn writes_of_each_way(rt: HostRuntime) {
-    let mut failing = StdoutSink::new(Way::Fails);
-    same(&rt, &failing.write(b"ab"), &Err(Failed));
-    same(&rt, &failing.write(b""), &Err(Failed));
-    let mut full = StdoutSink::new(Way::TakesNone);
-    same(&rt, &full.write(b"ab"), &Err(Failed));
-    same(&rt, &full.write(b""), &Ok(0));
-    same(&rt, &write_whole(&mut full, b"hello"), &Err(Failed));
-    let mut slow = StdoutSink::new(Way::TakesOne);
-    same(&rt, &slow.write(b"ab"), &Ok(1));
-    same(&rt, &write_whole(&mut slow, b"hello"), &Ok(()));
-    slow.end();
-}
-
-/// A runtime whose standard output takes seven bytes at once, and counts those that are the next of the bytes awaited.
-#[derive(Clone, Copy)]
-struct Awaiting<'a> {
-    bytes: &'a [u8],
-    right: &'a AtomicUsize,
-}
-
-impl<'a> Print for Awaiting<'a> {
-    fn print<D: Display + Drop>(&self, _value: D) -> io::Result<()> {
-        Err(io::Error::from(ErrorKind::Unsupported))
-    }
-
-    fn println<D: Display + Drop>(&self, _value: D) -> io::Result<()> {
-        Err(io::Error::from(ErrorKind::Unsupported))
-    }
-
-    fn write_all(&self, _bytes: &[u8]) -> io::Result<()> {
-        Err(io::Error::from(ErrorKind::Unsupported))
-    }
-
-    fn write_some(&self, bytes: &[u8]) -> io::Result<usize> {
-        let count = bytes.len().min(7);
-        for byte in &bytes[..count] {
-            let next = self.right.load(Ordering::SeqCst);
-            if self.bytes.get(next) == Some(byte) {
-                self.right.fetch_add(1, Ordering::SeqCst);
-            }
-        }
-        Ok(count)
+    for &(way, bytes, wanted) in &WRITES {
+        assert!(rt; answers(way, bytes, wanted));
     }
 }
 
 #[test]
-fn each_byte_is_written_to_standard_output(rt: HostRuntime) -> Result<(), Fail> {
-    let bytes = differing_bytes(rt.alloc(), 1000)?;
+fn whole_writes_of_each_way(rt: HostRuntime) {
+    for &(way, wanted) in &WHOLE_WRITES {
+        assert!(rt; answers_whole(way, wanted));
+    }
+}
+
+/// How many of these bytes are written as they are.
+fn count_right(bytes: &[u8]) -> usize {
     let right = AtomicUsize::new(0);
-    let mut sink = StdoutSink::new(Awaiting {
-        bytes: &bytes,
+    let mut sink = StdoutSink::new(Way::Awaits {
+        bytes,
         right: &right,
     });
-    write_whole(&mut sink, &bytes)?;
-    same(&rt, &right.load(Ordering::SeqCst), &1000);
-    Ok(())
+    if write_whole(&mut sink, bytes).is_err() {
+        return 0;
+    }
+    right.load(Ordering::SeqCst)
+}
+
+#[test]
+fn each_byte_is_written_to_standard_output(rt: HostRuntime) {
+    assert!(rt; count_right(&differing_bytes::<1000>()) == 1000);
 }
