@@ -10,10 +10,11 @@ use crate::links::ready;
 use board_node::{Board, Bus, Fates, Range, RangeKind};
 use hub_lane::{Entry, Lane, Outcome, Settings};
 use ipb_base::{NoMemory, Text, Words};
-use lossy_network::SimLink;
+use lossy_network::{Link, SimLink};
 use packet_ids::Id;
 use script_steps::{RegOp, Step, Verb};
 use std::alloc::Global;
+use std::slice;
 use std::test::Fail;
 use transaction_codec::{Op, reply_room};
 
@@ -32,22 +33,27 @@ pub(crate) const REPLY: [u8; 12] = [0x20, 0, 1, 0xf0, 0x20, 0, 1, 0, 0, 0, 0xab,
 /// The request to send the reply to the control packet 1 again.
 pub(crate) const RESEND: [u8; 4] = [0x20, 0, 1, 0xf2];
 
-/// A board of 16 words, with 0xabcd at address 4, that keeps so many replies (1 to 64) and expects this identifier
-/// first.
-pub(crate) fn board(alloc: Global, buffers: u32, first: u16) -> Result<Board, Fail>
-    requires { (1 ≤ buffers) × (buffers ≤ 64) }
-    ensures fresh { IfOk result (λ board. executed board ≡ []) }
-    ensures log { IfOk result (λ board. board.log ≡ []) }
-{
+/// A bus of 16 words, with 0xabcd at address 4.
+fn bus(alloc: Global) -> Result<Bus, Fail> {
     let range = Range {
         base: 0,
         size: 16,
         kind: RangeKind::Rw,
         init: Words::from_vec([0, 0, 0, 0, 0xabcd].to_vec(alloc)?),
     };
-    let bus = Bus::new(alloc, &[range])?;
+    Ok(Bus::new(alloc, slice::from_ref(&range))?)
+}
+
+/// A board of such a bus with this MTU (92 to 1500), that keeps so many replies (1 to 64) and expects this identifier
+/// first.
+pub(crate) fn board(alloc: Global, mtu: u32, buffers: u32, first: u16) -> Result<Board, Fail>
+    requires mtu { (92 ≤ mtu) × (mtu ≤ 1500) }
+    requires buffers { (1 ≤ buffers) × (buffers ≤ 64) }
+    ensures fresh { IfOk result (λ board. executed board ≡ []) }
+    ensures log { IfOk result (λ board. board.log ≡ []) }
+{
     let first = Id::new(first).ok_or("0 is no identifier")?;
-    Ok(Board::new(alloc, bus, 1500, buffers, first)?)
+    Ok(Board::new(alloc, bus(alloc)?, mtu, buffers, first)?)
 }
 
 /// `rmwsum BOARD:a ADDEND`
@@ -72,7 +78,7 @@ pub(crate) fn lane(alloc: Global, fates: &str) -> Result<Lane<SimLink>, Fail>
 {
     let settings = Settings::new(3, 4).ok_or("settings out of range")?;
     let fates = Fates::Text(Text::copy_of(alloc, fates)?);
-    let board = board(alloc, 16, 1)?;
+    let board = board(alloc, 1500, 16, 1)?;
     board.keeps_its_ranges();
     let link = SimLink::new(alloc, board, fates, Vec::new(alloc))?;
     ready(Lane::greet(alloc, link, settings))
@@ -88,7 +94,7 @@ pub(crate) fn read_four(alloc: Global) -> Result<(Words, u32), NoMemory>
 }
 
 /// Plans a read for a client.
-fn plan(alloc: Global, lane: &mut Lane<SimLink>, client: u32) -> Result<(), Fail>
+fn plan<L: Link>(alloc: Global, lane: &mut Lane<L>, client: u32) -> Result<(), Fail>
     requires { 1 ≤ client }
 {
     let (body, reply_words) = read_four(alloc)?;
@@ -98,22 +104,43 @@ fn plan(alloc: Global, lane: &mut Lane<SimLink>, client: u32) -> Result<(), Fail
     }
 }
 
-/// Such a lane with a read planned for each client below this one, and with planning closed.
-pub(crate) fn planned_lane(alloc: Global, fates: &str, end: u32) -> Result<Lane<SimLink>, Fail> {
-    let mut lane = lane(alloc, fates)?;
+/// Plans a read for each client below this one.
+fn plan_each<L: Link>(alloc: Global, lane: &mut Lane<L>, end: u32) -> Result<(), Fail> {
     for client in 1..end {
-        plan(alloc, &mut lane, client)?;
+        plan(alloc, lane, client)?;
     }
+    Ok(())
+}
+
+/// Plans so many reads for client 1.
+fn plan_reads<L: Link>(alloc: Global, lane: &mut Lane<L>, reads: u32) -> Result<(), Fail> {
+    for _ in 0..reads {
+        plan(alloc, lane, 1)?;
+    }
+    Ok(())
+}
+
+/// The lane with a read planned for each client below this one, and with planning closed.
+pub(crate) fn planned_for_each<L: Link + Drop>(
+    alloc: Global,
+    mut lane: Lane<L>,
+    end: u32,
+) -> Result<Lane<L>, Fail> {
+    plan_each(alloc, &mut lane, end)?;
     lane.seal();
     Ok(lane)
 }
 
-/// Such a lane with two reads planned for client 1, and with planning closed.
-pub(crate) fn lane_of_two_reads(alloc: Global, fates: &str) -> Result<Lane<SimLink>, Fail> {
-    let mut lane = lane(alloc, fates)?;
-    plan(alloc, &mut lane, 1)?;
-    plan(alloc, &mut lane, 1)?;
-    lane.seal();
+/// The lane with so many reads planned for client 1, and with planning closed where there is any.
+pub(crate) fn planned<L: Link + Drop>(
+    alloc: Global,
+    mut lane: Lane<L>,
+    reads: u32,
+) -> Result<Lane<L>, Fail> {
+    plan_reads(alloc, &mut lane, reads)?;
+    if reads > 0 {
+        lane.seal();
+    }
     Ok(lane)
 }
 

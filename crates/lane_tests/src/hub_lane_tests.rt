@@ -1,29 +1,27 @@
 //! A lane of one client over a simulated link.
 
-use crate::fixtures::{FOUR_READ, place_of, planned_lane};
-use crate::same::same;
+use crate::fixtures::{FOUR_READ, lane, place_of, planned};
 use hub_lane::{Asked, Lane, Looked, Outcome, Stepped};
 use ipb_base::NoMemory;
-use lossy_network::SimLink;
+use lossy_network::Link;
 use std::alloc::Global;
+use std::process::Abort;
 use std::test::Fail;
 
 /// Asks the first body of client 1. Whether it was asked.
-fn asks_first(lane: &mut Lane<SimLink>) -> Result<bool, NoMemory> {
+fn asks_first<L: Link>(lane: &mut Lane<L>) -> Result<bool, NoMemory> {
     Ok(matches!(lane.ask(1)?, Asked::Asked(0)))
 }
 
-/// A lane over a link with these fates, of which client 1 asked a read.
-fn asked_lane(alloc: Global, fates: &str) -> Result<Lane<SimLink>, Fail> {
-    let mut lane = planned_lane(alloc, fates, 2)?;
-    if asks_first(&mut lane) == Ok(true) {
-        return Ok(lane);
-    }
-    Err("the planned body was not asked".into())
+/// The lane with a read planned for client 1, which asked it.
+fn asked<L: Link + Drop>(rt: &impl Abort, alloc: Global, lane: Lane<L>) -> Result<Lane<L>, Fail> {
+    let mut lane = planned(alloc, lane, 1)?;
+    assert!(rt; asks_first(&mut lane) == Ok(true));
+    Ok(lane)
 }
 
 /// Steps until something became of the body of client 1.
-fn step(lane: &mut Lane<SimLink>) -> Option<Outcome> {
+fn step<L: Link>(lane: &mut Lane<L>) -> Option<Outcome> {
     for _ in 0..32 {
         match lane.step(1) {
             Ok(Stepped::Ready(outcome)) => return Some(outcome),
@@ -42,10 +40,12 @@ fn place_and_rounds(outcome: Option<Outcome>) -> Option<(u64, u8)> {
     }
 }
 
-/// What became of the read over a link with these fates, how many bodies have a place, and how many of them were
-/// replied to, timed out and lost.
-fn became(alloc: Global, fates: &str) -> Result<(Option<(u64, u8)>, u64, (u64, u64, u64)), Fail> {
-    let mut lane = asked_lane(alloc, fates)?;
+/// What became of a read of client 1 on this lane, how many bodies have a place, and how many of them were replied to,
+/// timed out and lost.
+type Became = (Option<(u64, u8)>, u64, (u64, u64, u64));
+
+fn became<L: Link + Drop>(rt: &impl Abort, alloc: Global, lane: Lane<L>) -> Result<Became, Fail> {
+    let mut lane = asked(rt, alloc, lane)?;
     let outcome = step(&mut lane);
     Ok((place_and_rounds(outcome), lane.sent(), lane.counts()))
 }
@@ -54,27 +54,34 @@ fn became(alloc: Global, fates: &str) -> Result<(Option<(u64, u8)>, u64, (u64, u
 #[test]
 fn a_lane_recovers_or_gives_up(rt: HostRuntime) -> Result<(), Fail> {
     for (fates, outcome, counts) in [
-        ("dddl", Some((1, 0)), (1, 0, 0)),
-        ("ddl", Some((1, 0)), (1, 0, 0)),
-        ("ddllllllllllllllll", Some((1, 3)), (0, 1, 0)),
+        ("dddl", (1, 0), (1, 0, 0)),
+        ("ddl", (1, 0), (1, 0, 0)),
+        ("ddllllllllllllllll", (1, 3), (0, 1, 0)),
     ] {
-        same(&rt, &became(rt.alloc(), fates)?, &(outcome, 1, counts));
+        let lane = lane(rt.alloc(), fates)?;
+        assert!(rt; became(&rt, rt.alloc(), lane)? == (Some(outcome), 1, counts));
     }
     Ok(())
 }
 
-#[test]
-fn a_lane_keeps_its_replies_and_gives_back_its_link(rt: HostRuntime) -> Result<(), Fail> {
-    let mut lane = asked_lane(rt.alloc(), "")?;
+/// The link of a lane on which client 1 asked a read. Its outcome is taken once, and the lane keeps the reply.
+fn link_of<L: Link + Drop>(rt: &impl Abort, alloc: Global, lane: Lane<L>) -> Result<L, Fail> {
+    let mut lane = asked(rt, alloc, lane)?;
     assert!(rt; step(&mut lane).is_some());
     assert!(rt; step(&mut lane).is_none());
-    same(&rt, &lane.reply_at(1), &Some(FOUR_READ.as_slice()));
-    same(&rt, &lane.close().board().executed_len(), &1);
+    assert!(rt; lane.reply_at(1) == Some(FOUR_READ.as_slice()));
+    Ok(lane.close())
+}
+
+#[test]
+fn a_lane_keeps_its_replies_and_gives_back_its_link(rt: HostRuntime) -> Result<(), Fail> {
+    let link = link_of(&rt, rt.alloc(), lane(rt.alloc(), "")?)?;
+    assert!(rt; link.board().executed_len() == 1);
     Ok(())
 }
 
 /// Whether a look shows the outcome of the body of client 1. `None` where it shows that nothing was asked.
-fn is_ready(lane: &mut Lane<SimLink>) -> Result<Option<bool>, NoMemory> {
+fn is_ready<L: Link>(lane: &mut Lane<L>) -> Result<Option<bool>, NoMemory> {
     Ok(match lane.look(1)? {
         Looked::Ready(_) => Some(true),
         Looked::NotYet => Some(false),
@@ -83,22 +90,31 @@ fn is_ready(lane: &mut Lane<SimLink>) -> Result<Option<bool>, NoMemory> {
 }
 
 /// Whether one body has a place, and nobody is to wait beside the lane.
-fn has_sent_one(lane: &mut Lane<SimLink>) -> bool {
+fn has_sent_one<L: Link>(lane: &mut Lane<L>) -> bool {
     lane.sent() == 1 && lane.waiter().is_none()
 }
 
+/// What two looks show.
+type Looks = (Option<bool>, Option<bool>);
+
 /// What looks show before a receive, and behind it.
-fn are_ready(lane: &mut Lane<SimLink>) -> Result<(Option<bool>, Option<bool>), NoMemory> {
+fn are_ready<L: Link>(lane: &mut Lane<L>) -> Result<Looks, NoMemory> {
     lane.send_wanted();
     let before = is_ready(lane)?;
     lane.pump()?;
     Ok((before, is_ready(lane)?))
 }
 
+/// What looks at a lane show of a read that client 1 asked, before a receive, and behind it.
+fn looks<L: Link + Drop>(rt: &impl Abort, alloc: Global, lane: Lane<L>) -> Result<Looks, Fail> {
+    let mut lane = asked(rt, alloc, lane)?;
+    assert!(rt; has_sent_one(&mut lane));
+    Ok(are_ready(&mut lane)?)
+}
+
 #[test]
 fn an_ask_sends_and_a_look_receives_nothing(rt: HostRuntime) -> Result<(), Fail> {
-    let mut lane = asked_lane(rt.alloc(), "")?;
-    assert!(rt; has_sent_one(&mut lane));
-    same(&rt, &are_ready(&mut lane), &Ok((Some(false), Some(true))));
+    let lane = lane(rt.alloc(), "")?;
+    assert!(rt; looks(&rt, rt.alloc(), lane)? == (Some(false), Some(true)));
     Ok(())
 }

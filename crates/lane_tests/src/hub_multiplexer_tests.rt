@@ -1,12 +1,13 @@
 //! A hub of one board over a simulated link: a client step by step, one that plans as it goes, and four at once.
 
-ghost use Rattle.std.specs.Prelude.{◌≡◌, ◌<◌, length, IfOk};
+ghost use Rattle.std.specs.Prelude.{◌≡◌, ◌<◌, [], ◌∷◌, length, map, IfOk};
 ghost use Rattle.std.specs.Thread.{IsSync};
+ghost use Rattle.turn_pass.specs.Pass.{first_knowledge};
 ghost use Rattle.hub_multiplexer.specs.Ends.{HasTakenIn};
+ghost use Rattle.hub_multiplexer.specs.Lanes.{shown};
 ghost use Rattle.hub_multiplexer.specs.Seats.{IsMasterOf, IsSeatOf};
 
-use crate::fixtures::{digit, kinds, lane, lane_of_two_reads, place_of, planned_lane, read_four};
-use crate::same::same;
+use crate::fixtures::{digit, kinds, lane, place_of, planned, planned_for_each, read_four};
 use hub_lane::Entry;
 use hub_multiplexer::laws::a_seat_that_asked_all_may_submit;
 use hub_multiplexer::{
@@ -19,37 +20,62 @@ use std::sync::Wait;
 use std::test::Fail;
 use std::thread::{Threads, join, yield_now};
 
-/// A hub of one board over a lane, its master, and the seat of client 1.
-fn hub_of(alloc: Global, lane: Lane<SimLink>) -> Result<(Hub<SimLink>, Master, Seat), Fail>
+/// A list of one lane.
+fn list_of<L: Link + Drop>(alloc: Global, lane: Lane<L>) -> Result<Vec<Lane<L>>, NoMemory>
+    ensures { IfOk result (λ lanes. lanes.items ≡ lane ∷ []) }
+{
+    let mut lanes = Vec::new(alloc);
+    lanes.push(lane)?;
+    Ok(lanes)
+}
+
+/// A hub of one board over a lane, and its master.
+pub(crate) fn hub_of<L: Link + Send + Drop>(
+    alloc: Global,
+    lane: Lane<L>,
+) -> Result<(Hub<L>, Master), Fail>
+    ensures master { IfOk result (λ made. IsMasterOf made.0 made.1) }
+    ensures no_seats { IfOk result (λ made. (made.1.seats ≡ 0) × HasTakenIn 1 made.1) }
+    ensures board { IfOk result (λ made. length made.0.turns ≡ 1) }
+    ensures knows { IfOk result (λ made.
+        made.1.knows ≡ map first_knowledge (map (shown L.telling) (lane ∷ []))) }
+{
+    match Hub::new(alloc, list_of(alloc, lane)?) {
+        Ok(made) => Ok(made),
+        Err(_) => Err("no memory".into()),
+    }
+}
+
+/// Such a hub, its master, and the seat of client 1.
+fn seated<L: Link + Send + Drop>(
+    alloc: Global,
+    lane: Lane<L>,
+) -> Result<(Hub<L>, Master, Seat), Fail>
     ensures master { IfOk result (λ made. IsMasterOf made.0 made.1) }
     ensures seats { IfOk result (λ made. (made.1.seats ≡ 1) × HasTakenIn 1 made.1) }
     ensures seat { IfOk result (λ made. IsSeatOf made.0 made.2 × (made.2.client ≡ 1)) }
     ensures board { IfOk result (λ made. 0 < length made.0.turns) }
 {
-    let mut lanes = Vec::new(alloc);
-    lanes.push(lane)?;
-    let Ok((hub, mut master)) = Hub::new(alloc, lanes) else {
-        return Err("no memory".into());
-    };
+    let (hub, mut master) = hub_of(alloc, lane)?;
     let seat = master.seat(alloc, &hub)?;
     Ok((hub, master, seat))
 }
 
-/// Joins the last seat, and takes the lanes.
-fn finish<R: Wait>(rt: &R, hub: Hub<SimLink>, mut master: Master, seat: Seat) -> Vec<Lane<SimLink>>
+/// Joins the last seat, and takes the lane.
+fn finish<R: Wait, L: Link + Send + Drop>(
+    rt: &R,
+    hub: Hub<L>,
+    mut master: Master,
+    seat: Seat,
+) -> Result<Lane<L>, Fail>
     requires master { IsMasterOf hub master }
     requires seat { IsSeatOf hub seat × (seat.client ≡ master.seats) }
     requires joined { HasTakenIn seat.client master }
 {
     master.join(&hub, seat);
-    hub.finish(rt, master)
-}
-
-/// The kinds of the entries of the first lane.
-fn first_kinds(alloc: Global, lanes: &[Lane<SimLink>]) -> Result<String, NoMemory> {
-    match lanes.first() {
-        Some(lane) => kinds(alloc, lane.entries()),
-        None => Ok(String::new(alloc)),
+    match hub.finish(rt, master).pop() {
+        Some(lane) => Ok(lane),
+        None => Err("the hub gave no lane back".into()),
     }
 }
 
@@ -72,7 +98,7 @@ fn step<L: Link + Send>(hub: &Hub<L>, seat: &mut Seat, turns: usize) -> Option<O
 }
 
 /// Whether the client asks its body once and takes the right reply once, by calls that never wait.
-fn asks_once(hub: &Hub<SimLink>, seat: &mut Seat) -> Result<bool, NoMemory>
+fn asks_once<L: Link + Send>(hub: &Hub<L>, seat: &mut Seat) -> Result<bool, NoMemory>
     requires board { 0 < length hub.now.turns }
     requires seat { IsSeatOf hub.now seat.old }
     ensures { IsSeatOf hub.now seat.new × (seat.new.client ≡ seat.old.client) }
@@ -84,18 +110,12 @@ fn asks_once(hub: &Hub<SimLink>, seat: &mut Seat) -> Result<bool, NoMemory>
     Ok(asked == AskTry::Asked(0) && again == AskTry::Nothing && place == Some(1) && !left)
 }
 
-#[test]
-fn one_client_goes_step_by_step(rt: HostRuntime) -> Result<(), Fail> {
-    let (hub, master, mut seat) = hub_of(rt.alloc(), planned_lane(rt.alloc(), "ddl", 2)?)?;
-    let asked = asks_once(&hub, &mut seat);
-    let lanes = finish(&rt, hub, master, seat);
-    same(&rt, &asked, &Ok(true));
-    same(&rt, &first_kinds(rt.alloc(), &lanes)?.as_str(), &"1234");
-    Ok(())
-}
-
 /// Asks both reads of the client. Whether they were asked.
-fn asks_both<R: Wait>(rt: &R, hub: &Hub<SimLink>, seat: &mut Seat) -> Result<bool, NoMemory>
+fn asks_both<R: Wait, L: Link + Send>(
+    rt: &R,
+    hub: &Hub<L>,
+    seat: &mut Seat,
+) -> Result<bool, NoMemory>
     requires board { 0 < length hub.now.turns }
     requires seat { IsSeatOf hub.now seat.old }
     ensures { IsSeatOf hub.now seat.new × (seat.new.client ≡ seat.old.client) }
@@ -106,7 +126,7 @@ fn asks_both<R: Wait>(rt: &R, hub: &Hub<SimLink>, seat: &mut Seat) -> Result<boo
 }
 
 /// The same by calls that never wait.
-fn tries_to_ask_both(hub: &Hub<SimLink>, seat: &mut Seat) -> Result<bool, NoMemory>
+fn tries_to_ask_both<L: Link + Send>(hub: &Hub<L>, seat: &mut Seat) -> Result<bool, NoMemory>
     requires board { 0 < length hub.now.turns }
     requires seat { IsSeatOf hub.now seat.old }
     ensures { IsSeatOf hub.now seat.new × (seat.new.client ≡ seat.old.client) }
@@ -116,38 +136,8 @@ fn tries_to_ask_both(hub: &Hub<SimLink>, seat: &mut Seat) -> Result<bool, NoMemo
     Ok(first == AskTry::Asked(0) && second == AskTry::Asked(1))
 }
 
-/// What the first lane did since its greeting: how many bodies it sent, how many replies it received, and how many of
-/// its receives were quiet.
-fn first_traffic(mut lanes: Vec<Lane<SimLink>>) -> Option<(u64, u64, u64)> {
-    let lane = lanes.pop()?;
-    let sent = lane.sent();
-    let (replied, _timed_out, _lost) = lane.counts();
-    Some((sent, replied, lane.close().quiets()))
-}
-
-/// A second ask finds a lane that waits for a reply. It sends and receives nothing all the same.
-#[test]
-fn an_ask_at_a_hub_receives_nothing(rt: HostRuntime) -> Result<(), Fail> {
-    let (hub, master, mut seat) = hub_of(rt.alloc(), lane_of_two_reads(rt.alloc(), "")?)?;
-    let asked = asks_both(&rt, &hub, &mut seat);
-    let lanes = finish(&rt, hub, master, seat);
-    same(&rt, &asked, &Ok(true));
-    same(&rt, &first_traffic(lanes), &Some((2, 0, 0)));
-    Ok(())
-}
-
-#[test]
-fn a_try_to_ask_receives_nothing(rt: HostRuntime) -> Result<(), Fail> {
-    let (hub, master, mut seat) = hub_of(rt.alloc(), lane_of_two_reads(rt.alloc(), "")?)?;
-    let asked = tries_to_ask_both(&hub, &mut seat);
-    let lanes = finish(&rt, hub, master, seat);
-    same(&rt, &asked, &Ok(true));
-    same(&rt, &first_traffic(lanes), &Some((2, 0, 0)));
-    Ok(())
-}
-
 /// Steps once behind two asks. Whether an outcome was taken.
-fn steps_once(hub: &Hub<SimLink>, seat: &mut Seat) -> Result<bool, NoMemory>
+fn steps_once<L: Link + Send>(hub: &Hub<L>, seat: &mut Seat) -> Result<bool, NoMemory>
     requires board { 0 < length hub.now.turns }
     requires seat { IsSeatOf hub.now seat.old }
     ensures { IsSeatOf hub.now seat.new × (seat.new.client ≡ seat.old.client) }
@@ -156,26 +146,13 @@ fn steps_once(hub: &Hub<SimLink>, seat: &mut Seat) -> Result<bool, NoMemory>
     Ok(matches!(hub.try_step(seat, 0)?, StepTry::Ready(_)))
 }
 
-/// One reply of two is received where both come, and one receive is quiet where both requests are lost.
-#[test]
-fn a_try_to_step_receives_once(rt: HostRuntime) -> Result<(), Fail> {
-    for (fates, is_ready, traffic) in [("", true, (2, 1, 0)), ("ddll", false, (2, 0, 1))] {
-        let (hub, master, mut seat) = hub_of(rt.alloc(), lane_of_two_reads(rt.alloc(), fates)?)?;
-        let stepped = steps_once(&hub, &mut seat);
-        let lanes = finish(&rt, hub, master, seat);
-        same(&rt, &stepped, &Ok(is_ready));
-        same(&rt, &first_traffic(lanes), &Some(traffic));
-    }
-    Ok(())
-}
-
 /// Submits a read where nothing is left to ask, and performs it. The place of its reply.
-fn reads<R: Wait>(
+fn reads<R: Wait, L: Link + Send>(
     rt: &R,
     alloc: Global,
-    hub: &Hub<SimLink>,
+    hub: &Hub<L>,
     seat: &mut Seat,
-) -> Result<Option<u64>, Fail>
+) -> Result<Option<u64>, NoMemory>
     requires board { 0 < length hub.now.turns }
     requires seat { IsSeatOf hub.now seat.old }
     ensures { IsSeatOf hub.now seat.new × (seat.new.client ≡ seat.old.client) }
@@ -195,12 +172,12 @@ fn reads<R: Wait>(
 }
 
 /// Whether two reads, one after the other, get their replies, and nothing is left to perform then.
-fn reads_twice<R: Wait>(
+fn reads_twice<R: Wait, L: Link + Send>(
     rt: &R,
     alloc: Global,
-    hub: &Hub<SimLink>,
+    hub: &Hub<L>,
     seat: &mut Seat,
-) -> Result<bool, Fail>
+) -> Result<bool, NoMemory>
     requires board { 0 < length hub.now.turns }
     requires seat { IsSeatOf hub.now seat.old }
     ensures { IsSeatOf hub.now seat.new × (seat.new.client ≡ seat.old.client) }
@@ -211,13 +188,85 @@ fn reads_twice<R: Wait>(
     Ok(first == Some(1) && second == Some(2) && matches!(left, Performed::Nothing))
 }
 
+/// What a client does at a hub.
+#[derive(Clone, Copy)]
+enum Act {
+    AskOnce,
+    AskBoth,
+    TryToAskBoth,
+    StepOnce,
+    ReadTwice,
+}
+
+/// Whether the client could do that.
+fn does<R: Wait, L: Link + Send>(
+    rt: &R,
+    alloc: Global,
+    hub: &Hub<L>,
+    seat: &mut Seat,
+    act: Act,
+) -> Result<bool, NoMemory>
+    requires board { 0 < length hub.now.turns }
+    requires seat { IsSeatOf hub.now seat.old }
+    ensures { IsSeatOf hub.now seat.new × (seat.new.client ≡ seat.old.client) }
+{
+    match act {
+        Act::AskOnce => asks_once(hub, seat),
+        Act::AskBoth => asks_both(rt, hub, seat),
+        Act::TryToAskBoth => tries_to_ask_both(hub, seat),
+        Act::StepOnce => steps_once(hub, seat),
+        Act::ReadTwice => reads_twice(rt, alloc, hub, seat),
+    }
+}
+
+/// Whether the client of a hub of this lane could do that, and the lane.
+fn done<R: Wait, L: Link + Send + Drop>(
+    rt: &R,
+    alloc: Global,
+    lane: Lane<L>,
+    act: Act,
+) -> Result<(Option<bool>, Lane<L>), Fail> {
+    let (hub, master, mut seat) = seated(alloc, lane)?;
+    let is_done = does(rt, alloc, &hub, &mut seat, act).ok();
+    Ok((is_done, finish(rt, hub, master, seat)?))
+}
+
+/// What a lane did since its greeting: how many bodies it sent, how many replies it received, and how many of its
+/// receives were quiet.
+fn traffic(lane: Lane<SimLink>) -> (u64, u64, u64) {
+    let sent = lane.sent();
+    let (replied, _timed_out, _lost) = lane.counts();
+    (sent, replied, lane.close().quiets())
+}
+
+/// Whether entries have these kinds.
+fn have_kinds(alloc: Global, entries: &[Entry], wanted: &str) -> Result<bool, NoMemory> {
+    Ok(kinds(alloc, entries)?.as_str() == wanted)
+}
+
+/// The fates of a link, how many reads are planned, what the client does and whether it can, the kinds of the lane's
+/// entries, and its traffic.
+const CLIENTS: [(&str, u32, Act, bool, &str, (u64, u64, u64)); 6] = [
+    ("ddl", 1, Act::AskOnce, true, "1234", (1, 1, 1)),
+    // a second ask finds a lane that waits for a reply; it sends and receives nothing all the same
+    ("", 2, Act::AskBoth, true, "11233", (2, 0, 0)),
+    ("", 2, Act::TryToAskBoth, true, "11233", (2, 0, 0)),
+    // one reply of two is received where both come, and one receive is quiet where both requests are lost
+    ("", 2, Act::StepOnce, true, "112334", (2, 1, 0)),
+    ("ddll", 2, Act::StepOnce, false, "11233", (2, 0, 1)),
+    // a client that plans as it goes
+    ("ddldl", 0, Act::ReadTwice, true, "134134", (2, 2, 2)),
+];
+
 #[test]
-fn a_client_plans_as_it_goes(rt: HostRuntime) -> Result<(), Fail> {
-    let (hub, master, mut seat) = hub_of(rt.alloc(), lane(rt.alloc(), "ddldl")?)?;
-    let read = reads_twice(&rt, rt.alloc(), &hub, &mut seat);
-    let lanes = finish(&rt, hub, master, seat);
-    assert!(rt; read?);
-    same(&rt, &first_kinds(rt.alloc(), &lanes)?.as_str(), &"134134");
+fn a_call_of_a_hub_does_what_it_says_and_no_more(rt: HostRuntime) -> Result<(), Fail> {
+    for (fates, reads, act, can, wanted, counts) in CLIENTS {
+        let lane = planned(rt.alloc(), lane(rt.alloc(), fates)?, reads)?;
+        let (is_done, lane) = done(&rt, rt.alloc(), lane, act)?;
+        assert!(rt; is_done == Some(can));
+        assert!(rt; have_kinds(rt.alloc(), lane.entries(), wanted) == Ok(true));
+        assert!(rt; traffic(lane) == counts);
+    }
     Ok(())
 }
 
@@ -315,14 +364,14 @@ fn read_all<R: Threads + Wait + Sync, L: Link + Send>(
     )
 }
 
-/// Joins the seats of clients 1 to 4, and takes the lanes.
-fn finish_four<R: Wait>(
+/// Joins the seats of clients 1 to 4, and takes the lane.
+fn finish_four<R: Wait, L: Link + Send + Drop>(
     rt: &R,
-    hub: Hub<SimLink>,
+    hub: Hub<L>,
     mut master: Master,
     first: (Seat, Seat),
     second: (Seat, Seat),
-) -> Vec<Lane<SimLink>>
+) -> Result<Lane<L>, Fail>
     requires master { IsMasterOf hub master × (master.seats ≡ 4) }
     requires taken_in { HasTakenIn 1 master }
     requires one { IsSeatOf hub first.0 × (first.0.client ≡ 1) }
@@ -363,45 +412,49 @@ fn push_kinds(kinds: &mut String, entries: &[Entry], client: u32) -> Result<(), 
     Ok(())
 }
 
-/// The kinds of the entries of clients 1 to 4 in the first lane, one client after another.
-fn kinds_by_client(alloc: Global, lanes: &[Lane<SimLink>]) -> Result<String, NoMemory> {
+/// The kinds of the entries of clients 1 to 4, one client after another.
+fn kinds_by_client(alloc: Global, entries: &[Entry]) -> Result<String, NoMemory> {
     let mut kinds = String::new(alloc);
-    let Some(lane) = lanes.first() else {
-        return Ok(kinds);
-    };
     for client in 1..5 {
-        push_kinds(&mut kinds, lane.entries(), client)?;
+        push_kinds(&mut kinds, entries, client)?;
     }
     Ok(kinds)
 }
 
-/// How many entries the first lane has, and how many places have each fate.
-fn first_counts(lanes: &[Lane<SimLink>]) -> Option<(usize, (u64, u64, u64))> {
-    let lane = lanes.first()?;
-    Some((lane.entries().len(), lane.counts()))
-}
-
-/// The places of the replies that four clients of a lane took at once, and the lanes.
-fn read_by_four<R: Threads + Wait + Sync>(
+/// The places of the replies that four clients of a lane took at once, and the lane.
+fn read_by_four<R: Threads + Wait + Sync, L: Link + Send + Drop>(
     rt: &R,
     alloc: Global,
-    lane: Lane<SimLink>,
-) -> Result<([u64; 4], Vec<Lane<SimLink>>), Fail> {
-    let (hub, mut master, one) = hub_of(alloc, lane)?;
+    lane: Lane<L>,
+) -> Result<([u64; 4], Lane<L>), Fail> {
+    let (hub, mut master, one) = seated(alloc, lane)?;
     let (two, three, four) = more_seats(alloc, &hub, &mut master)?;
     let ((one, two), (three, four)) = read_all(rt, &hub, one, two, three, four);
     let places = [one.1, two.1, three.1, four.1];
-    let lanes = finish_four(rt, hub, master, (one.0, two.0), (three.0, four.0));
-    Ok((places, lanes))
+    let lane = finish_four(rt, hub, master, (one.0, two.0), (three.0, four.0))?;
+    Ok((places, lane))
+}
+
+/// Whether a record has three entries of each client, in order, and the seal.
+fn has_four_reads(alloc: Global, entries: &[Entry]) -> Result<bool, NoMemory> {
+    let kinds = kinds_by_client(alloc, entries)?;
+    Ok(entries.len() == 13 && kinds.as_str() == "134134134134")
+}
+
+/// Whether four clients of a lane at once take each the reply to its own read, at one of the first four places.
+fn four_read<R: Threads + Wait + Sync, L: Link + Send + Drop>(
+    rt: &R,
+    alloc: Global,
+    lane: Lane<L>,
+) -> Result<bool, Fail> {
+    let lane = planned_for_each(alloc, lane, 5)?;
+    let (places, lane) = read_by_four(rt, alloc, lane)?;
+    let are_whole = has_four_reads(alloc, lane.entries()) == Ok(true);
+    Ok(are_whole && are_the_first_four(places) && lane.counts() == (4, 0, 0))
 }
 
 #[test]
 fn four_clients_read_at_once(rt: HostRuntime) -> Result<(), Fail> {
-    let lane = planned_lane(rt.alloc(), "ddlddld2r", 5)?;
-    let (places, lanes) = read_by_four(&rt, rt.alloc(), lane)?;
-    assert!(rt; are_the_first_four(places));
-    same(&rt, &first_counts(&lanes), &Some((13, (4, 0, 0))));
-    let kinds = kinds_by_client(rt.alloc(), &lanes)?;
-    same(&rt, &kinds.as_str(), &"134134134134");
+    assert!(rt; four_read(&rt, rt.alloc(), lane(rt.alloc(), "ddlddld2r")?)?);
     Ok(())
 }

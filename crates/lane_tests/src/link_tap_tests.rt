@@ -1,8 +1,6 @@
 //! A tap of a simulated link: what it keeps, what it leaves out, and the text of its capture.
 
 use crate::fixtures::{REQUEST, board};
-use crate::links::ask;
-use crate::same::{same, same_items};
 use board_node::Fates;
 use capture_reader::{proved, write_capture};
 use ipb_base::Text;
@@ -10,68 +8,98 @@ use link_tap::TapLink;
 use lossy_network::{Link, LinkFault, Received, SimLink};
 use packet_ids::Id;
 use std::alloc::Global;
-use std::process::Abort;
 use std::test::Fail;
 
 /// A tap of a link with these fates, on which the calls of these numbers fail.
-fn tap(alloc: Global, fates: &str, fail: Vec<u64>) -> Result<TapLink<SimLink>, Fail> {
+fn tap(alloc: Global, fates: &str, fail: &[u64]) -> Result<TapLink<SimLink>, Fail> {
     let fates = Fates::Text(Text::copy_of(alloc, fates)?);
-    let board = board(alloc, 16, 1)?;
-    let link = SimLink::new(alloc, board, fates, fail)?;
+    let board = board(alloc, 1500, 16, 1)?;
+    let link = SimLink::new(alloc, board, fates, fail.to_vec(alloc)?)?;
     Ok(TapLink::new(alloc, link))
 }
 
-/// What the capture of a tap says, from the identifier 1 on, and what it proves.
-fn said(alloc: Global, tap: TapLink<SimLink>) -> Result<(Vec<u8>, u64), Fail> {
-    let first = Id::new(1).ok_or("1 is an identifier")?;
-    tap.is_sound();
-    let (_link, capture) = tap.into_parts(first);
-    Ok((write_capture(alloc, &capture)?, proved(&capture)))
+/// What a call of a link comes to: a send, or a receive that gets a datagram or is quiet, or one of them that fails.
+#[derive(Clone, Copy)]
+enum Call {
+    Sends,
+    SendFails,
+    Gets,
+    IsQuiet,
+    ReceiveFails,
 }
 
-/// A tap of a link over which the request was sent and its reply received, and that was quiet then.
-fn tap_of_a_reply(rt: &impl Abort, alloc: Global) -> Result<TapLink<SimLink>, Fail> {
-    let mut tap = tap(alloc, "dd", Vec::new(alloc))?;
-    let mut into = Vec::new(alloc);
-    assert!(rt; ask(&mut tap, &REQUEST, &mut into) == Ok(Received::Got));
-    assert!(rt; Link::receive(&mut tap, &mut into) == Ok(Received::Quiet));
-    Ok(tap)
+/// Whether a call comes to that.
+fn comes<L: Link>(tap: &mut TapLink<L>, call: Call, into: &mut Vec<u8>) -> bool {
+    match call {
+        Call::Sends => Link::send(tap, &REQUEST).is_ok(),
+        Call::SendFails => Link::send(tap, &REQUEST) == Err(LinkFault::Failed),
+        Call::Gets => Link::receive(tap, into) == Ok(Received::Got),
+        Call::IsQuiet => Link::receive(tap, into) == Ok(Received::Quiet),
+        Call::ReceiveFails => Link::receive(tap, into) == Err(LinkFault::Failed),
+    }
 }
+
+/// Whether all calls of a tap come to that.
+fn come<L: Link>(alloc: Global, tap: &mut TapLink<L>, calls: &[Call]) -> bool {
+    let mut into = Vec::new(alloc);
+    for call in calls {
+        if !comes(tap, *call, &mut into) {
+            return false;
+        }
+    }
+    true
+}
+
+/// Whether the capture of a tap has this text, from this identifier on, and proves so many places.
+fn says<L: Link + Drop>(
+    alloc: Global,
+    tap: TapLink<L>,
+    first: Id,
+    text: &str,
+    places: u64,
+) -> Result<bool, Fail> {
+    tap.is_sound();
+    let (_link, capture) = tap.into_parts(first);
+    let written = write_capture(alloc, &capture)?;
+    Ok(written.as_slice() == text.as_bytes() && proved(&capture) == places)
+}
+
+const REQUEST_CAUGHT: &str = "first 1\n> 200001f02000010f00000004\n";
+
+const REPLY_CAUGHT: &str = "first 1\n> 200001f02000010f00000004\n< 200001f0200001000000abcd\n";
+
+/// The fates of a link, which of its calls fail, what its calls come to, how many datagrams the tap has caught then
+/// and how many the link held, and the capture, which proves so many places.
+const TAPS: [(&str, &[u64], &[Call], usize, u64, &str, u64); 2] = [
+    (
+        "dd",
+        &[],
+        &[Call::Sends, Call::Gets, Call::IsQuiet],
+        2,
+        0,
+        REPLY_CAUGHT,
+        1,
+    ),
+    // what the link refused is left out, and what it lost is not
+    (
+        "l",
+        &[1, 3],
+        &[Call::SendFails, Call::Sends, Call::ReceiveFails],
+        1,
+        1,
+        REQUEST_CAUGHT,
+        0,
+    ),
+];
 
 #[test]
 fn a_tap_keeps_what_was_sent_and_received(rt: HostRuntime) -> Result<(), Fail> {
-    let (text, places) = said(rt.alloc(), tap_of_a_reply(&rt, rt.alloc())?)?;
-    let wanted = "first 1\n> 200001f02000010f00000004\n< 200001f0200001000000abcd\n";
-    same_items(&rt, &text, wanted.as_bytes());
-    same(&rt, &places, &1);
-    Ok(())
-}
-
-/// Whether a send of the request, or else a receive, fails.
-fn fails(tap: &mut TapLink<SimLink>, sends: bool, into: &mut Vec<u8>) -> bool {
-    if sends {
-        return Link::send(tap, &REQUEST) == Err(LinkFault::Failed);
+    let first = Id::new(1).ok_or("1 is an identifier")?;
+    for (fates, fail, calls, caught, held, text, places) in TAPS {
+        let mut tap = tap(rt.alloc(), fates, fail)?;
+        assert!(rt; come(rt.alloc(), &mut tap, calls));
+        assert!(rt; tap.caught().len() == caught && tap.link().held() == held);
+        assert!(rt; says(rt.alloc(), tap, first, text, places)?);
     }
-    Link::receive(tap, into) == Err(LinkFault::Failed)
-}
-
-/// A tap of a link that lost the request, on which the first send and the receive failed.
-fn tap_of_failures(rt: &impl Abort, alloc: Global) -> Result<TapLink<SimLink>, Fail> {
-    let mut tap = tap(alloc, "l", [1, 3].to_vec(alloc)?)?;
-    let mut into = Vec::new(alloc);
-    for (sends, wanted) in [(true, true), (true, false), (false, true)] {
-        assert!(rt; fails(&mut tap, sends, &mut into) == wanted);
-    }
-    Ok(tap)
-}
-
-#[test]
-fn a_tap_leaves_out_what_the_link_refused(rt: HostRuntime) -> Result<(), Fail> {
-    let tap = tap_of_failures(&rt, rt.alloc())?;
-    same(&rt, &(tap.caught().len(), tap.link().held()), &(1, 1));
-    let (text, places) = said(rt.alloc(), tap)?;
-    let wanted = "first 1\n> 200001f02000010f00000004\n";
-    same_items(&rt, &text, wanted.as_bytes());
-    same(&rt, &places, &0);
     Ok(())
 }

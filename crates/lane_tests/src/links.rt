@@ -8,7 +8,7 @@ ghost use Rattle.hub_lane.specs.Greeting.{IfReady};
 use crate::fixtures::REQUEST;
 use board_node::BoardSpec;
 use hub_lane::{Greeted, Lane};
-use lossy_network::{Link, LinkFault, Rack, RackFault, Received, SimLink};
+use lossy_network::{Link, LinkFault, Rack, RackFault, Received};
 use std::test::Fail;
 
 /// Sends a datagram over any link and waits for one.
@@ -25,7 +25,7 @@ pub(crate) fn ask<L: Link>(
 }
 
 /// Makes a link in any rack, asks over it and gives it back: what came over it, or a fault.
-pub(crate) fn ask_and_keep<R: Rack>(
+fn ask_and_keep<R: Rack>(
     rack: &mut R,
     spec: &BoardSpec,
     into: &mut Vec<u8>,
@@ -39,8 +39,20 @@ pub(crate) fn ask_and_keep<R: Rack>(
     Ok(received)
 }
 
+/// Whether that comes to this.
+pub(crate) fn comes<R: Rack>(
+    rack: &mut R,
+    spec: &BoardSpec,
+    into: &mut Vec<u8>,
+    wanted: Result<Result<Received, LinkFault>, RackFault>,
+) -> bool
+    requires { IsMakeable spec.now.link }
+{
+    ask_and_keep(rack, spec, into) == wanted
+}
+
 /// The lane of a board that told its status, to which nothing was planned.
-pub(crate) fn ready(greeted: Greeted<SimLink>) -> Result<Lane<SimLink>, Fail>
+pub(crate) fn ready<L: Link + Drop>(greeted: Greeted<L>) -> Result<Lane<L>, Fail>
     requires { IfReady greeted (λ lane. lane.items ≡ []) }
     ensures { IfOk result (λ lane. lane.items ≡ []) }
 {

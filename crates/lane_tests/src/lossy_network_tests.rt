@@ -4,8 +4,7 @@ ghost use Rattle.std.specs.Prelude.{◌≡◌, IfOk};
 ghost use Rattle.lossy_network.specs.Racks.{IsMakeable};
 
 use crate::fixtures::{REPLY, REQUEST, RESEND, board};
-use crate::links::{ask, ask_and_keep};
-use crate::same::{same, same_items};
+use crate::links::{ask, comes};
 use board_bus::check_ranges;
 use board_node::{BoardSpec, Fates, LinkSpec, Range, RangeKind, Ranges};
 use ipb_base::{Text, Words};
@@ -29,13 +28,13 @@ fn fates_of(alloc: Global, fates: &str) -> Result<Fates, NoMemory> {
 
 /// A link with these fates to a board.
 fn link(alloc: Global, fates: &str) -> Result<SimLink, Fail> {
-    let board = board(alloc, 16, 1)?;
     let fates = fates_of(alloc, fates)?;
+    let board = board(alloc, 1500, 16, 1)?;
     Ok(SimLink::new(alloc, board, fates, Vec::new(alloc))?)
 }
 
 /// What a link hands out for the request, or for the request to send its reply again: the reply, or nothing.
-fn replied(link: &mut SimLink, again: bool, into: &mut Vec<u8>) -> Result<bool, LinkFault> {
+fn replied<L: Link>(link: &mut L, again: bool, into: &mut Vec<u8>) -> Result<bool, LinkFault> {
     let received = if again {
         ask(link, &RESEND, into)?
     } else {
@@ -44,14 +43,22 @@ fn replied(link: &mut SimLink, again: bool, into: &mut Vec<u8>) -> Result<bool, 
     Ok(received == Received::Got && into.as_slice() == REPLY.as_slice())
 }
 
+/// Whether a link hands out nothing for the request, and then, asked again, its reply.
+fn replies_when_asked_again<L: Link>(link: &mut L, into: &mut Vec<u8>) -> bool {
+    for again in [false, true] {
+        if replied(link, again, into) != Ok(again) {
+            return false;
+        }
+    }
+    true
+}
+
 #[test]
 fn a_lost_reply_is_sent_again(rt: HostRuntime) -> Result<(), Fail> {
     let mut link = link(rt.alloc(), "dl")?;
     let mut into = Vec::new(rt.alloc());
-    for again in [false, true] {
-        assert!(rt; replied(&mut link, again, &mut into) == Ok(again));
-    }
-    same(&rt, &(link.held(), link.quiets()), &(1, 1));
+    assert!(rt; replies_when_asked_again(&mut link, &mut into));
+    assert!(rt; link.held() == 1 && link.quiets() == 1);
     Ok(())
 }
 
@@ -76,28 +83,34 @@ fn letters(alloc: Global, count: usize) -> Result<String, NoMemory> {
     Ok(letters)
 }
 
-/// How many datagrams count as held after forty sends.
-fn held_of_forty(alloc: Global, fates: &str) -> Result<u64, Fail> {
-    let mut link = link(alloc, fates)?;
+/// Sends the request forty times. Whether no send failed.
+fn sends_forty<L: Link>(link: &mut L) -> bool {
     for _ in 0..40 {
         if link.send(&REQUEST).is_err() {
-            return Err("no memory".into());
+            return false;
         }
     }
-    Ok(link.held())
+    true
+}
+
+/// Whether no send of forty failed, and how many datagrams count as held then.
+fn held_of_forty(alloc: Global, fates: &str) -> Result<(bool, u64), Fail> {
+    let mut link = link(alloc, fates)?;
+    let all_sent = sends_forty(&mut link);
+    Ok((all_sent, link.held()))
 }
 
 #[test]
 fn the_fates_of_a_noise_are_those_of_its_generator(rt: HostRuntime) -> Result<(), Fail> {
-    same(&rt, &letters(rt.alloc(), 40)?.as_str(), &NOISE_7);
+    assert!(rt; letters(rt.alloc(), 40)?.as_str() == NOISE_7);
     for fates in ["", NOISE_7] {
-        same(&rt, &held_of_forty(rt.alloc(), fates)?, &11);
+        assert!(rt; held_of_forty(rt.alloc(), fates)? == (true, 11));
     }
     Ok(())
 }
 
 /// What a session says of a board with this link.
-fn spec(alloc: Global, link: LinkSpec) -> Result<BoardSpec, NoMemory>
+pub(crate) fn spec(alloc: Global, link: LinkSpec) -> Result<BoardSpec, NoMemory>
     ensures { IfOk result (λ spec. spec.link ≡ link) }
 {
     Ok(BoardSpec {
@@ -108,7 +121,7 @@ fn spec(alloc: Global, link: LinkSpec) -> Result<BoardSpec, NoMemory>
 }
 
 /// A simulated board of two words.
-fn simulated(alloc: Global) -> Result<BoardSpec, Fail>
+pub(crate) fn simulated(alloc: Global) -> Result<BoardSpec, Fail>
     ensures { IfOk result (λ spec. IsMakeable spec.link) }
 {
     let range = Range {
@@ -135,19 +148,23 @@ fn failing_rack(alloc: Global) -> Result<SimRack, NoMemory> {
     Ok(SimRack::new(alloc, [2].to_vec(alloc)?, second))
 }
 
+/// How many datagrams count as held by the second link that a rack kept.
+fn second_held(rack: &SimRack) -> Option<u64> {
+    Some(rack.kept(1)?.held())
+}
+
 #[test]
 fn a_rack_makes_links_and_keeps_them(rt: HostRuntime) -> Result<(), Fail> {
     let spec = simulated(rt.alloc())?;
     let mut rack = failing_rack(rt.alloc())?;
     let mut into = Vec::new(rt.alloc());
-    for is_made in [true, false, true] {
-        let wanted = if is_made {
-            Ok(Err(LinkFault::Failed))
-        } else {
-            Err(RackFault::Failed)
-        };
-        assert!(rt; ask_and_keep(&mut rack, &spec, &mut into) == wanted);
+    for wanted in [
+        Ok(Err(LinkFault::Failed)),
+        Err(RackFault::Failed),
+        Ok(Err(LinkFault::Failed)),
+    ] {
+        assert!(rt; comes(&mut rack, &spec, &mut into, wanted));
     }
-    same(&rt, &rack.kept(1).map(|link| link.held()), &Some(1));
+    assert!(rt; second_held(&rack) == Some(1));
     Ok(())
 }

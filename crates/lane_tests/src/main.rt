@@ -1,4 +1,4 @@
-//! Tests of boards, the engine, links and racks, records, turns, lanes, hubs, plans and lines. What their clauses
+//! Tests of boards, the engine with them, links and racks, turns, lanes, hubs, plans and lines. What their clauses
 //! cannot say is run here: that each call succeeds where memory is there, and that the clauses mean the numbers of
 //! worked examples. Lanes and hubs are also run by the tests of the program's call and by the documents under
 //! `examples`.
@@ -17,17 +17,11 @@ mod hub_multiplexer_tests;
 #[cfg(test)]
 mod hub_session_tests;
 #[cfg(test)]
-mod lane_record_tests;
-#[cfg(test)]
 mod link_tap_tests;
 #[cfg(test)]
 mod links;
 #[cfg(test)]
 mod lossy_network_tests;
-#[cfg(test)]
-mod reliable_engine_tests;
-#[cfg(test)]
-mod same;
 #[cfg(test)]
 mod script_link_tests;
 #[cfg(test)]

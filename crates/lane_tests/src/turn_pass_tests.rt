@@ -3,7 +3,6 @@
 ghost use Rattle.std.specs.Prelude.{◌≡◌, ◌<◌, IfOk, false, true};
 ghost use Rattle.turn_pass.specs.Record.{GrowsBy};
 
-use crate::same::same;
 use std::alloc::{AllocError, Global};
 use std::process::Abort;
 use std::test::*;
@@ -121,20 +120,22 @@ fn opened(alloc: Global) -> Result<(Turn<Log>, Pass), Fail>
     }
 }
 
+/// The entry of the second pass.
+const LAST: Entry = Entry {
+    maker: 1,
+    kind: 3,
+    seq: 2,
+};
+
 #[test]
 fn a_value_is_taken_by_one_pass(rt: HostRuntime) -> Result<(), Fail> {
     let (turn, mut first) = opened(rt.alloc())?;
     let mut second = turn.split(&mut first);
-    same(&rt, &(first.number(), second.number()), &(0, 1));
+    assert!(rt; first.number() == 0 && second.number() == 1);
     adds_alone(&rt, &turn, &mut second, &mut first)?;
-    same(&rt, &count_found(&turn, &mut first), &Some(3));
+    assert!(rt; count_found(&turn, &mut first) == Some(3));
     turn.join(&mut first, second);
     let log = turn.close(&rt, first);
-    let last = Entry {
-        maker: 1,
-        kind: 3,
-        seq: 2,
-    };
-    same(&rt, &log.entries.last(), &Some(&last));
+    assert!(rt; log.entries.last() == Some(&LAST));
     Ok(())
 }

@@ -1,10 +1,8 @@
 //! A hub and a board over moves, and over an air.
 
 use crate::fixtures::{FOUR_READ, READ_FOUR, REPLY, REQUEST, board};
-use crate::same::same;
 use ipb_base::{NoMemory, Words};
 use std::alloc::Global;
-use std::process::Abort;
 use std::test::Fail;
 use world_core::{Air, Fate, Settings, World, WorldEnd, WorldMove, are_short, run_world};
 
@@ -37,139 +35,157 @@ fn moves_of(alloc: Global, steps: &[Step]) -> Result<Vec<WorldMove>, NoMemory> {
     Ok(moves)
 }
 
-/// Runs these moves with so many rounds and a window of two bodies.
-fn ran(alloc: Global, rounds: u8, moves: &[WorldMove]) -> Result<Result<World, WorldEnd>, Fail> {
-    let settings = Settings::new(rounds, 2).ok_or("no such settings")?;
-    if moves.len() > 100 || !are_short(moves) {
+/// Runs these moves with so many rounds and a window of so many bodies.
+fn ran(
+    alloc: Global,
+    rounds: u8,
+    window: u8,
+    steps: &[Step],
+) -> Result<Result<World, WorldEnd>, Fail> {
+    let settings = Settings::new(rounds, window).ok_or("no such settings")?;
+    let board = board(alloc, 1500, 16, 65535)?;
+    let moves = moves_of(alloc, steps)?;
+    if moves.len() > 100 || !are_short(&moves) {
         return Err("these moves cannot be run".into());
     }
-    Ok(run_world(alloc, settings, board(alloc, 16, 65535)?, moves))
+    Ok(run_world(alloc, settings, board, &moves))
 }
 
-/// What a world tells: how many bodies were executed, how many have a fate and how many a late answer, the tag and the
-/// place of the first right reply, and the place of the first right late answer.
-#[derive(Debug, Drop, PartialEq)]
-struct WorldTold {
-    executed: usize,
-    fates: usize,
-    lates: usize,
-    replied: Option<(u64, u64)>,
-    late: Option<u64>,
+/// A fate: the tag of its body, `r` for the right reply, `t` for a timeout, `u` for a body that was not sent, and `?`
+/// for another reply; its place; and after how many rounds the hub gave up.
+type Told = (u64, char, u64, u8);
+
+fn told(fate: &(u64, Fate)) -> Told {
+    match fate {
+        (tag, Fate::Replied { place, words }) => (*tag, letter_of(words), *place, 0),
+        (tag, Fate::TimedOut { place, rounds }) => (*tag, 't', *place, *rounds),
+        (tag, Fate::Unsent) => (*tag, 'u', 0, 0),
+    }
 }
 
-fn first_replied(world: &World) -> Option<(u64, u64)> {
-    match world.fates().first() {
-        Some((tag, Fate::Replied { place, words })) if words.as_slice() == FOUR_READ.as_slice() => {
-            Some((*tag, *place))
+fn letter_of(words: &Words) -> char {
+    if words.as_slice() == FOUR_READ.as_slice() {
+        return 'r';
+    }
+    '?'
+}
+
+/// The fate at this index, if there is one.
+fn told_at(world: &World, index: usize) -> Option<Told> {
+    Some(told(world.fates().get(index)?))
+}
+
+/// Whether these are all fates of a world.
+fn are_told(world: &World, wanted: &[Told]) -> bool {
+    for index in 0..wanted.len() {
+        if told_at(world, index) != Some(wanted[index]) {
+            return false;
         }
+    }
+    world.fates().len() == wanted.len()
+}
+
+/// The place of the one late answer, the right one: 0 where there is none.
+fn late(world: &World) -> Option<u64> {
+    match world.lates() {
+        [] => Some(0),
+        [(place, words)] if words.as_slice() == FOUR_READ.as_slice() => Some(*place),
         _ => None,
     }
 }
 
-fn first_late(world: &World) -> Option<u64> {
-    match world.lates().first() {
-        Some((place, words)) if words.as_slice() == FOUR_READ.as_slice() => Some(*place),
-        _ => None,
-    }
-}
-
-fn told_by(world: &World) -> WorldTold {
-    WorldTold {
-        executed: world.board().executed_len(),
-        fates: world.fates().len(),
-        lates: world.lates().len(),
-        replied: first_replied(world),
-        late: first_late(world),
-    }
-}
-
-fn end_of(alloc: Global, rounds: u8, steps: &[Step]) -> Result<Result<WorldTold, WorldEnd>, Fail> {
-    let moves = moves_of(alloc, steps)?;
-    Ok(ran(alloc, rounds, &moves)?.map(|world| told_by(&world)))
-}
-
-/// What is told where so many bodies were executed and replied in time.
-fn replied(bodies: usize, tag: u64, place: u64) -> WorldTold {
-    WorldTold {
-        executed: bodies,
-        fates: bodies,
-        lates: 0,
-        replied: Some((tag, place)),
-        late: None,
-    }
-}
-
-/// What is told where the one body timed out and was replied late.
-fn late(place: u64) -> WorldTold {
-    WorldTold {
-        executed: 1,
-        fates: 1,
-        lates: 1,
-        replied: None,
-        late: Some(place),
-    }
-}
+/// Rounds, a window, and moves; how many bodies are executed then, all fates, and the place of the late answer.
+const RUNS: [(u8, u8, &[Step], usize, &[Told], u64); 4] = [
+    // the request comes twice
+    (
+        255,
+        16,
+        &[Step::Offer(7), Step::Board(0), Step::Board(0), Step::Hub(1)],
+        1,
+        &[(7, 'r', 1, 0)],
+        0,
+    ),
+    // replies are heard in the other order
+    (
+        8,
+        2,
+        &[
+            Step::Offer(7),
+            Step::Offer(8),
+            Step::Board(0),
+            Step::Board(1),
+            Step::Hub(3),
+            Step::Hub(2),
+        ],
+        2,
+        &[(8, 'r', 2, 0), (7, 'r', 1, 0)],
+        0,
+    ),
+    // the reply comes after the one round, behind the request for a status
+    (
+        1,
+        2,
+        &[
+            Step::Offer(7),
+            Step::Quiet,
+            Step::Quiet,
+            Step::Board(0),
+            Step::Hub(2),
+        ],
+        1,
+        &[(7, 't', 1, 1)],
+        1,
+    ),
+    // the second body waits for the window when the hub gives up
+    (
+        1,
+        1,
+        &[Step::Offer(7), Step::Offer(8), Step::Quiet, Step::Quiet],
+        0,
+        &[(7, 't', 1, 1), (8, 'u', 0, 0)],
+        0,
+    ),
+];
 
 #[test]
 fn moves_are_run(rt: HostRuntime) -> Result<(), Fail> {
-    let cases: [(u8, &[Step], Result<WorldTold, WorldEnd>); 5] = [
-        // The request comes twice.
-        (
-            8,
-            &[Step::Offer(7), Step::Board(0), Step::Board(0), Step::Hub(1)],
-            Ok(replied(1, 7, 1)),
-        ),
-        // Replies are heard in the other order.
-        (
-            8,
-            &[
-                Step::Offer(7),
-                Step::Offer(8),
-                Step::Board(0),
-                Step::Board(1),
-                Step::Hub(3),
-                Step::Hub(2),
-            ],
-            Ok(replied(2, 8, 2)),
-        ),
-        // The reply comes after the one round.
-        (
-            1,
-            &[
-                Step::Offer(7),
-                Step::Quiet,
-                Step::Quiet,
-                Step::Board(0),
-                Step::Hub(2),
-            ],
-            Ok(late(1)),
-        ),
-        (8, &[Step::Hub(0)], Err(WorldEnd::NotThere { at: 0 })),
-        (
-            8,
-            &[Step::Offer(7), Step::Hub(0)],
-            Err(WorldEnd::NotThere { at: 1 }),
-        ),
-    ];
-    for (rounds, steps, wanted) in cases {
-        same(&rt, &end_of(rt.alloc(), rounds, steps)?, &wanted);
+    for (rounds, window, steps, executed, fates, place) in RUNS {
+        let Ok(world) = ran(rt.alloc(), rounds, window, steps)? else {
+            return Err("a move is not allowed".into());
+        };
+        assert!(rt; world.board().executed_len() == executed);
+        assert!(rt; are_told(&world, fates));
+        assert!(rt; late(&world) == Some(place));
     }
     Ok(())
 }
 
-/// The request is sent over an air, and its board hears it; nothing stands behind it.
-fn is_heard(rt: &impl Abort, air: &mut Air) -> Result<(), NoMemory> {
-    air.send(&REQUEST)?;
-    for (place, is_there) in [(0, true), (1, false)] {
-        same(rt, &air.hear(place)?, &is_there);
+#[test]
+fn a_datagram_that_is_not_there_is_not_heard(rt: HostRuntime) -> Result<(), Fail> {
+    let runs: [(&[Step], usize); 2] = [(&[Step::Hub(0)], 0), (&[Step::Offer(7), Step::Hub(0)], 1)];
+    for (steps, at) in runs {
+        assert!(rt; ran(rt.alloc(), 8, 2, steps)?.err() == Some(WorldEnd::NotThere { at }));
     }
     Ok(())
+}
+
+#[test]
+fn settings_are_kept_in_their_ranges(rt: HostRuntime) {
+    for (rounds, window, is_kept) in [(255, 16, true), (0, 16, false), (1, 17, false)] {
+        assert!(rt; Settings::new(rounds, window).is_some() == is_kept);
+    }
+}
+
+/// Sends the request over an air. Whether its board hears it, and nothing stands behind it.
+fn is_heard(air: &mut Air) -> Result<bool, NoMemory> {
+    air.send(&REQUEST)?;
+    Ok(air.hear(0)? && !air.hear(1)?)
 }
 
 #[test]
 fn an_air_keeps_what_was_sent_and_answered(rt: HostRuntime) -> Result<(), Fail> {
-    let mut air = Air::new(rt.alloc(), board(rt.alloc(), 16, 1)?);
-    is_heard(&rt, &mut air)?;
-    same(&rt, &air.for_hub(1), &Some(REPLY.as_slice()));
+    let mut air = Air::new(rt.alloc(), board(rt.alloc(), 1500, 16, 1)?);
+    assert!(rt; is_heard(&mut air) == Ok(true));
+    assert!(rt; air.for_hub(1) == Some(REPLY.as_slice()));
     Ok(())
 }

@@ -1,0 +1,6 @@
+use denote.Param.Send.{sendable}
+use Rattle.lossy_network.proofs.Sends.{sim_link_send}
+use Rattle.lane_tests.proofs.hub_session_tests.is_served.Goals as goal
+
+pub served-requires-send-L : goal.served-requires-send-L
+served-requires-send-L g c κs = search (sim_link_send, sendable)
