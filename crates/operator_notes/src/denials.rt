@@ -1,15 +1,17 @@
 //! Which rules of a document's policy denied something.
 
-use crate::escaping::shown;
+use crate::escaping::OneLine;
 use crate::keys::value_of;
-use access_policy::{Policy, PolicyRefusal, read_policy, rule_text};
+use crate::notes::Notes;
+use access_policy::{Rule, read_policy, rule_text};
 use command_words::Command;
-use config_input::{ConfigUnread, read_for_apply, read_for_save};
+use config_input::{read_for_apply, read_for_save};
 use ipb_base::NoMemory;
 use script_steps::{Step, Steps};
-use session_input::{Unread, read_for_run};
+use session_input::{Runnable, read_for_run};
 use std::alloc::Global;
-use std::str;
+use std::{fmt, str};
+use toml::Value;
 
 /// For each rule of a document's policy that denied an operation of what a command runs, in the order of the rules, its
 /// number, how many it denied, and its text; and behind these how many operations no rule allowed. Nothing where the
@@ -19,52 +21,13 @@ pub fn denial_notes(
     command: &Command,
     bytes: &[u8],
 ) -> Result<Vec<String>, NoMemory> {
-    let mut notes = Vec::new(alloc);
-    if !may_have_policy(bytes) {
-        return Ok(notes);
-    }
-    let Some(policy) = policy_of(alloc, bytes)? else {
-        return Ok(notes);
-    };
-    let Some(steps) = steps_of(alloc, command, bytes)? else {
-        return Ok(notes);
-    };
-    let counts = denied_by(alloc, &policy, &steps)?;
-    push_rules(alloc, &mut notes, &policy, &counts)?;
-    if let Some(count) = counts.first()
-        && *count > 0
+    let mut notes = Notes::new(alloc);
+    if may_have_policy(bytes)
+        && let Some(value) = value_of(&mut notes, bytes, "policy")
     {
-        let operations = operations(alloc, *count)?;
-        notes.push(format!(in alloc; "no rule of the policy allowed {operations}")?)?;
+        say_denied(&mut notes, &value, command, bytes);
     }
-    Ok(notes)
-}
-
-/// The steps that a command runs of a document, if it does.
-fn steps_of(
-    alloc: Global,
-    command: &Command,
-    bytes: &[u8],
-) -> Result<Option<Vec<Steps>>, NoMemory> {
-    let read = match command {
-        Command::Run => return run_steps(alloc, bytes),
-        Command::Save => read_for_save(alloc, bytes),
-        Command::Apply => read_for_apply(alloc, bytes),
-        _ => return Ok(None),
-    };
-    match read {
-        Ok(read) => Ok(Some(read.steps)),
-        Err(ConfigUnread::Refused(_)) => Ok(None),
-        Err(ConfigUnread::NoMemory) => Err(NoMemory),
-    }
-}
-
-fn run_steps(alloc: Global, bytes: &[u8]) -> Result<Option<Vec<Steps>>, NoMemory> {
-    match read_for_run(alloc, bytes) {
-        Ok(read) => Ok(Some(read.steps)),
-        Err(Unread::Refused(_)) => Ok(None),
-        Err(Unread::NoMemory) => Err(NoMemory),
-    }
+    notes.finish()
 }
 
 /// Whether the text may have the key, which can be written by escapes too: a document without it is not read again.
@@ -75,25 +38,40 @@ fn may_have_policy(bytes: &[u8]) -> bool {
     }
 }
 
-/// The policy of a document, if it has one.
-fn policy_of(alloc: Global, bytes: &[u8]) -> Result<Option<Policy>, NoMemory> {
-    let Some(value) = value_of(alloc, bytes, "policy")? else {
-        return Ok(None);
-    };
-    match read_policy(alloc, &value) {
-        Ok(policy) => Ok(Some(policy)),
-        Err(PolicyRefusal::Shape { path: _ }) => Ok(None),
-        Err(PolicyRefusal::NoMemory) => Err(NoMemory),
+/// Says what is denied by the policy that a value stands for, if it does.
+fn say_denied(notes: &mut Notes, value: &Value, command: &Command, bytes: &[u8]) {
+    if let Some(policy) = notes.made(read_policy(notes.alloc, value))
+        && let Some(read) = read_again(notes, command, bytes)
+    {
+        say_counts(notes, policy.as_slice(), read.steps.as_slice());
     }
 }
 
-/// How many operations each rule denied, by its number; at 0 those that no rule allowed.
-fn denied_by(alloc: Global, policy: &Policy, scripts: &[Steps]) -> Result<Vec<u64>, NoMemory> {
-    let mut counts = vec![in alloc; 0u64; policy.as_slice().len() + 1]?;
-    for steps in scripts {
-        count_denied(&mut counts, steps.as_slice());
+/// What a command runs of a document, if it does.
+fn read_again(notes: &mut Notes, command: &Command, bytes: &[u8]) -> Option<Runnable> {
+    match command {
+        Command::Run => notes.made(read_for_run(notes.alloc, bytes)),
+        Command::Save => notes.made(read_for_save(notes.alloc, bytes)),
+        Command::Apply => notes.made(read_for_apply(notes.alloc, bytes)),
+        _ => None,
     }
-    Ok(counts)
+}
+
+/// Counts how many operations each rule denies, by its number, and at 0 those that no rule allows, and says it.
+fn say_counts(notes: &mut Notes, rules: &[Rule], scripts: &[Steps]) {
+    match vec![in notes.alloc; 0u64; rules.len() + 1] {
+        Ok(mut counts) => {
+            count_all_denied(&mut counts, scripts);
+            say_rules(notes, rules, &counts);
+        }
+        Err(_) => notes.lack_memory(),
+    }
+}
+
+fn count_all_denied(counts: &mut [u64], scripts: &[Steps]) {
+    for steps in scripts {
+        count_denied(counts, steps.as_slice());
+    }
 }
 
 fn count_denied(counts: &mut [u64], steps: &[Step]) {
@@ -106,32 +84,46 @@ fn count_denied(counts: &mut [u64], steps: &[Step]) {
     }
 }
 
-/// Adds a line for each rule that denied something.
-fn push_rules(
-    alloc: Global,
-    notes: &mut Vec<String>,
-    policy: &Policy,
-    counts: &[u64],
-) -> Result<(), NoMemory> {
-    for (i, rule) in policy.as_slice().iter().enumerate() {
-        let number = i + 1;
-        let count = counts.get(number).copied().unwrap_or(0);
-        if count > 0 {
-            let text = rule_text(alloc, rule)?;
-            let text = shown(alloc, text.as_str())?;
-            let operations = operations(alloc, count)?;
-            notes.push(format!(in alloc; "policy rule {number} denied {operations}: {text}")?)?;
-        }
+fn say_rules(notes: &mut Notes, rules: &[Rule], counts: &[u64]) {
+    for (i, rule) in rules.iter().enumerate() {
+        say_rule(notes, i + 1, rule, count_at(counts, i + 1));
     }
-    Ok(())
+    let count = count_at(counts, 0);
+    if count > 0 {
+        let operations = Operations(count);
+        notes.say(format_args!("no rule of the policy allowed {operations}"));
+    }
+}
+
+fn count_at(counts: &[u64], number: usize) -> u64 {
+    counts.get(number).copied().unwrap_or(0)
+}
+
+/// Says what a rule denied, by its number, if it denied something.
+fn say_rule(notes: &mut Notes, number: usize, rule: &Rule, count: u64) {
+    if count == 0 {
+        return;
+    }
+    match rule_text(notes.alloc, rule) {
+        Ok(text) => {
+            let text = OneLine(text.as_str());
+            let operations = Operations(count);
+            notes.say(format_args!("policy rule {number} denied {operations}: {text}"));
+        }
+        Err(NoMemory) => notes.lack_memory(),
+    }
 }
 
 /// So many operations.
-fn operations(alloc: Global, count: u64) -> Result<String, NoMemory> {
-    let noun = if count == 1 {
-        "operation"
-    } else {
-        "operations"
-    };
-    Ok(format!(in alloc; "{count} {noun}")?)
+#[derive(Clone, Copy)]
+struct Operations(u64);
+
+impl fmt::Display for Operations {
+    fn fmt<W: fmt::Write>(&self, f: &mut fmt::Formatter<W>) -> fmt::Result {
+        let count = self.0;
+        if count == 1 {
+            return f.write_str("1 operation");
+        }
+        write!(f, "{count} operations")
+    }
 }

@@ -1,11 +1,10 @@
 //! Which registers do not show the values that `apply` was to write into them.
 
-use crate::escaping::shown;
+use crate::escaping::OneLine;
 use crate::keys::value_of;
-use crate::naming::Named;
-use config_store::{State, StateEntry, StoreRefusal, read_state};
-use ipb_base::NoMemory;
-use std::alloc::Global;
+use crate::notes::Notes;
+use config_store::{State, StateEntry, read_state};
+use std::fmt;
 
 /// What was written to the configuration of boards: the document with the values, and whether all was done that it
 /// asked for.
@@ -19,58 +18,57 @@ pub struct Applied<'a> {
 const NO_REGISTER: &str =
     "not done: one write or more, of registers that show the values given all the same";
 
-/// The registers to which a document gives a value that the text of its configuration does not show, how many they are
-/// and the first ones by name, in the order in which they were written. Such a write was not done, or its register was
-/// not read, or the board has changed the value since. A write that was not done is not named where the register had
+/// Says the registers to which a document gives a value that the text of its configuration does not show, how many they
+/// are and the first ones by name, in the order in which they were written. Such a write was not done, or its register
+/// was not read, or the board has changed the value since. A write that was not done is not named where the register had
 /// the value before, or has it by a write that was executed late: the board is as it was wanted then. Where none is
 /// named, all registers were read and not all was done, that is said.
-pub(crate) fn push_given_notes(
-    alloc: Global,
-    notes: &mut Vec<String>,
-    applied: &Applied<'_>,
-    text: &[u8],
-    is_all_read: bool,
-) -> Result<(), NoMemory> {
-    let given = state_in(alloc, applied.document)?;
-    let (Some(given), Some(read)) = (given, state_in(alloc, text)?) else {
-        return Ok(());
-    };
-    let others = others(alloc, given.as_slice(), read.as_slice())?;
-    let count = others.count();
-    if count > 0 {
-        notes.push(format!(in alloc; "not as given: {count}")?)?;
-        return others.put_behind(alloc, notes);
+pub(crate) fn say_given(notes: &mut Notes, applied: &Applied<'_>, text: &[u8], is_all_read: bool) {
+    let is_missed = is_all_read && !applied.is_all_done;
+    if let Some(given) = state_in(notes, applied.document) {
+        say_given_values(notes, given.as_slice(), text, is_missed);
     }
-    if is_all_read && !applied.is_all_done {
-        notes.push(format!(in alloc; "{NO_REGISTER}")?)?;
+}
+
+fn say_given_values(notes: &mut Notes, given: &[StateEntry], text: &[u8], is_missed: bool) {
+    if let Some(read) = state_in(notes, text) {
+        say_beside(notes, given, read.as_slice(), is_missed);
     }
-    Ok(())
 }
 
 /// The values under the key `state` of a document, or of the text of a configuration.
-fn state_in(alloc: Global, bytes: &[u8]) -> Result<Option<State>, NoMemory> {
-    let Some(value) = value_of(alloc, bytes, "state")? else {
-        return Ok(None);
-    };
-    match read_state(alloc, &value) {
-        Ok(state) => Ok(Some(state)),
-        Err(StoreRefusal::At { .. }) => Ok(None),
-        Err(StoreRefusal::NoMemory) => Err(NoMemory),
+fn state_in(notes: &mut Notes, bytes: &[u8]) -> Option<State> {
+    let value = value_of(notes, bytes, "state")?;
+    notes.made(read_state(notes.alloc, &value))
+}
+
+/// Says the registers of which another value was read than was given, or none. Where there is none, a write that was
+/// missed is of another one. Both lists are in byte order of the names.
+fn say_beside(notes: &mut Notes, given: &[StateEntry], read: &[StateEntry], is_missed: bool) {
+    let place = notes.count();
+    let count = name_others(notes, given, read);
+    if count > 0 {
+        notes.say_others(count);
+        notes.say(format_args!("not as given: {count}"));
+        notes.put_behind(place);
+    } else if is_missed {
+        notes.say(NO_REGISTER);
     }
 }
 
-/// The registers of which another value was read than was given, or none. Both lists are in byte order of the names.
-fn others(alloc: Global, given: &[StateEntry], read: &[StateEntry]) -> Result<Named, NoMemory> {
-    let mut others = Named::none(alloc);
+/// Names the first registers of which another value was read than was given, or none. It says how many there are.
+fn name_others(notes: &mut Notes, given: &[StateEntry], read: &[StateEntry]) -> u32 {
+    let mut count = 0u32;
     let mut place = 0;
     for entry in given {
         place = first_from(read, place, entry);
         let value = value_at(read, place, entry);
-        if value != Some(entry.value) && others.is_next_named() {
-            others.push(line_of(alloc, entry, value)?)?;
+        if value != Some(entry.value) {
+            count = count.saturating_add(1);
+            name_other(notes, count, entry, value);
         }
     }
-    Ok(others)
+    count
 }
 
 /// The first place, from this one on, of a register that is not before another.
@@ -97,16 +95,27 @@ fn value_at(read: &[StateEntry], place: usize, entry: &StateEntry) -> Option<u32
     if is_same { Some(found.value) } else { None }
 }
 
-/// A register with the value that was read, if one was, and the one that was given.
-fn line_of(alloc: Global, entry: &StateEntry, value: Option<u32>) -> Result<String, NoMemory> {
-    let board = shown(alloc, entry.board.as_str())?;
-    let name = shown(alloc, entry.name.as_str())?;
+/// Names a register, by its number among these, with the value that was read, if one was, and the one that was given.
+fn name_other(notes: &mut Notes, number: u32, entry: &StateEntry, value: Option<u32>) {
+    let board = OneLine(entry.board.as_str());
+    let name = OneLine(entry.name.as_str());
+    let read = Read(value);
     let given = entry.value;
-    let line = match value {
-        Some(word) => {
-            format!(in alloc; "board {board}: \"{name}\" = 0x{word:08x}, given 0x{given:08x}")?
+    notes.name(
+        number,
+        format_args!("board {board}: \"{name}\" {read}, given 0x{given:08x}"),
+    );
+}
+
+/// The value of a register, if it was read.
+#[derive(Clone, Copy)]
+struct Read(Option<u32>);
+
+impl fmt::Display for Read {
+    fn fmt<W: fmt::Write>(&self, f: &mut fmt::Formatter<W>) -> fmt::Result {
+        match self.0 {
+            Some(word) => write!(f, "= 0x{word:08x}"),
+            None => f.write_str("not read"),
         }
-        None => format!(in alloc; "board {board}: \"{name}\" not read, given 0x{given:08x}")?,
-    };
-    Ok(line)
+    }
 }

@@ -4,6 +4,7 @@
 #![tactic(auto)]
 
 mod audits;
+mod belonging;
 mod captures;
 mod configurations;
 mod denials;
@@ -11,12 +12,15 @@ mod escaping;
 mod given_values;
 mod help;
 mod keys;
-mod naming;
+mod notes;
+mod parsing;
 mod refusals;
+mod script_lines;
 mod script_words;
 mod sentences;
 mod statuses;
 mod summaries;
+mod unread;
 mod usage;
 mod verdicts;
 

@@ -1,22 +1,25 @@
 //! What to look for in an input that is refused.
 
-use crate::audits::audit_notes;
-use crate::captures::{capture_notes, description_notes};
-use crate::configurations::configuration_notes;
-use crate::escaping::shown;
-use crate::script_words::word_at_fault;
+use crate::escaping::OneLine;
+use crate::notes::Notes;
+use crate::parsing::say_no_toml;
+use crate::script_lines::quote_line;
 use crate::sentences::{
     NOT_ONE_BOARD, NOT_SERVED, NOT_SIMULATED, POLICY, TOO_LONG, of_board, of_compiling,
     of_document, of_script, of_table,
 };
+use crate::unread::{Refused, say_refused};
+use audit_command::read_for_audit;
+use capture_commands::{read_for_describe, read_for_undescribe};
 use command_words::Command;
+use config_input::{read_for_apply, read_for_save};
 use ipb_base::NoMemory;
-use script_lang::{DocWhy, ScriptWhy, parse_document, read_session_table, take_key};
+use script_lang::{DocWhy, ScriptWhy};
 use session_input::{
     Refusal, Unread, read_for_check, read_for_record, read_for_run, read_for_serve,
 };
 use std::alloc::Global;
-use std::str;
+use std::fmt;
 
 /// What to look for in an input that a command refuses: its place and the rule in words; of a document that is no
 /// TOML also what the parser says, and of a line of a script the line and the word that is at fault. Nothing where the
@@ -26,222 +29,107 @@ pub fn refusal_notes(
     command: &Command,
     bytes: &[u8],
 ) -> Result<Vec<String>, NoMemory> {
+    let mut notes = Notes::new(alloc);
+    say_of_input(&mut notes, command, bytes);
+    notes.finish()
+}
+
+fn say_of_input(notes: &mut Notes, command: &Command, bytes: &[u8]) {
+    let alloc = notes.alloc;
     match command {
-        Command::Audit => audit_notes(alloc, bytes),
-        Command::Describe => capture_notes(alloc, bytes),
-        Command::Undescribe => description_notes(alloc, bytes),
-        Command::Save | Command::Apply => configuration_notes(alloc, command, bytes),
-        _ => document_notes(alloc, command, bytes),
+        Command::Run => say_refused(notes, read_for_run(alloc, bytes), bytes),
+        Command::Check { table } => {
+            say_refused(notes, read_for_check(alloc, bytes, table.as_str()), bytes)
+        }
+        Command::Serve { port: _, count: _ } => {
+            say_refused(notes, read_for_serve(alloc, bytes), bytes)
+        }
+        Command::Load { count: _ } => {}
+        Command::Audit => say_refused(notes, read_for_audit(alloc, bytes), bytes),
+        Command::Record => say_refused(notes, read_for_record(alloc, bytes), bytes),
+        Command::Describe => say_refused(notes, read_for_describe(alloc, bytes), bytes),
+        Command::Undescribe => say_refused(notes, read_for_undescribe(alloc, bytes), bytes),
+        Command::Save => say_refused(notes, read_for_save(alloc, bytes), bytes),
+        Command::Apply => say_refused(notes, read_for_apply(alloc, bytes), bytes),
     }
 }
 
-fn document_notes(alloc: Global, command: &Command, bytes: &[u8]) -> Result<Vec<String>, NoMemory> {
-    match refusal_of(alloc, command, bytes)? {
-        Some(refusal) => session_notes(alloc, &refusal, bytes),
-        None => Ok(Vec::new(alloc)),
+impl Refused for Unread {
+    fn say(&self, notes: &mut Notes, input: &[u8]) {
+        match self {
+            Unread::Refused(refusal) => say_refusal(notes, refusal, input),
+            Unread::NoMemory => notes.lack_memory(),
+        }
     }
 }
 
-/// What to look for in a document that breaks a rule of session documents.
-pub(crate) fn session_notes(
-    alloc: Global,
-    refusal: &Refusal,
-    bytes: &[u8],
-) -> Result<Vec<String>, NoMemory> {
-    let mut notes = Vec::new(alloc);
-    notes.push(place_and_rule(alloc, refusal)?)?;
-    if let Some(more) = more_of(alloc, refusal, bytes)? {
-        notes.push(more)?;
-    }
-    Ok(notes)
-}
-
-/// Why a command refuses a document, if it does.
-fn refusal_of(alloc: Global, command: &Command, bytes: &[u8]) -> Result<Option<Refusal>, NoMemory> {
-    let unread = match command {
-        Command::Run => read_for_run(alloc, bytes).err(),
-        Command::Serve { port: _, count: _ } => read_for_serve(alloc, bytes).err(),
-        Command::Record => read_for_record(alloc, bytes).err(),
-        Command::Check { table } => read_for_check(alloc, bytes, table.as_str()).err(),
-        _ => None,
-    };
-    match unread {
-        None => Ok(None),
-        Some(Unread::Refused(refusal)) => Ok(Some(refusal)),
-        Some(Unread::NoMemory) => Err(NoMemory),
-    }
-}
-
-/// The place of a refusal, and its rule in words.
-fn place_and_rule(alloc: Global, refusal: &Refusal) -> Result<String, NoMemory> {
+/// Says what to look for in a document that breaks a rule of session documents: its place, and the rule in words.
+pub(crate) fn say_refusal(notes: &mut Notes, refusal: &Refusal, bytes: &[u8]) {
     match refusal {
-        Refusal::TooLong => note(alloc, TOO_LONG),
-        Refusal::Document { path, why } => document_note(alloc, path.as_str(), *why),
-        Refusal::Table { table, path, why } => {
-            table_note(alloc, table.as_str(), path.as_slice(), of_table(*why))
-        }
-        Refusal::Policy { path } => policy_note(alloc, path.as_str()),
-        Refusal::NoServe => note(alloc, NOT_SERVED),
-        Refusal::OneBoard => note(alloc, NOT_ONE_BOARD),
-        Refusal::NotSim { name } => {
-            let name = shown(alloc, name.as_str())?;
-            Ok(format!(in alloc; "board {name}: {NOT_SIMULATED}")?)
-        }
-        Refusal::Compile { table, path, why } => {
-            let rule = of_compiling(*why);
-            compile_note(alloc, table.as_str(), path.as_str(), rule)
-        }
-        Refusal::Board { name, why } => {
-            let name = shown(alloc, name.as_str())?;
-            let rule = of_board(*why);
-            Ok(format!(in alloc; "board {name}: {rule}")?)
-        }
-        Refusal::Script { client, line, why } => {
-            let rule = of_script(*why);
-            Ok(format!(in alloc; "client {client}, line {line}: {rule}")?)
-        }
-    }
-}
-
-fn note(alloc: Global, text: &str) -> Result<String, NoMemory> {
-    Ok(String::from_str(alloc, text)?)
-}
-
-fn document_note(alloc: Global, path: &str, why: DocWhy) -> Result<String, NoMemory> {
-    let rule = of_document(why);
-    if path.is_empty() {
-        return note(alloc, rule);
-    }
-    let path = shown(alloc, path)?;
-    Ok(format!(in alloc; "at {path}: {rule}")?)
-}
-
-/// The path begins at the array.
-fn policy_note(alloc: Global, path: &str) -> Result<String, NoMemory> {
-    if path.is_empty() {
-        return Ok(format!(in alloc; "at policy: {POLICY}")?);
-    }
-    let path = shown(alloc, path)?;
-    Ok(format!(in alloc; "at policy.{path}: {POLICY}")?)
-}
-
-/// The node is told by its positions from 0, from the top of the table down.
-fn table_note(alloc: Global, table: &str, path: &[u64], rule: &str) -> Result<String, NoMemory> {
-    let mut text = format!(in alloc; "table {}", shown(alloc, table)?)?;
-    for (depth, position) in path.iter().enumerate() {
-        let front = if depth == 0 { ", node " } else { "." };
-        text.push_str(front)?;
-        let digits = format!(in alloc; "{position}")?;
-        text.push_str(digits.as_str())?;
-    }
-    text.push_str(": ")?;
-    text.push_str(rule)?;
-    Ok(text)
-}
-
-fn compile_note(
-    alloc: Global,
-    table: &str,
-    register: &str,
-    rule: &str,
-) -> Result<String, NoMemory> {
-    let table = shown(alloc, table)?;
-    if register.is_empty() {
-        return Ok(format!(in alloc; "table {table}: {rule}")?);
-    }
-    let register = shown(alloc, register)?;
-    Ok(format!(in alloc; "table {table}, register {register}: {rule}")?)
-}
-
-/// What more there is to say of a refusal.
-fn more_of(alloc: Global, refusal: &Refusal, bytes: &[u8]) -> Result<Option<String>, NoMemory> {
-    match refusal {
+        Refusal::TooLong => notes.say(TOO_LONG),
         Refusal::Document {
             path: _,
             why: DocWhy::NotToml,
-        } => parser_note(alloc, bytes),
-        Refusal::Script { client, line, why } => line_note(alloc, bytes, *client, *line, *why),
-        _ => Ok(None),
-    }
-}
-
-/// What the parser says of bytes that are no TOML, with the place of the fault.
-fn parser_note(alloc: Global, bytes: &[u8]) -> Result<Option<String>, NoMemory> {
-    let text = match str::from_utf8(bytes) {
-        Ok(text) => text,
-        Err(error) => {
-            let (line, column) = position_behind(front_of(bytes, error.valid_up_to()));
-            let note = format!(in alloc; "line {line}, column {column}: this is no UTF-8")?;
-            return Ok(Some(note));
+        } => say_no_toml(notes, bytes),
+        Refusal::Document { path, why } => say_at(notes, path.as_str(), of_document(*why)),
+        Refusal::Table { table, path, why } => {
+            say_of_node(notes, table.as_str(), path.as_slice(), of_table(*why))
         }
-    };
-    match toml::table_from_str(alloc, text) {
-        Ok(_) => Ok(None),
-        Err(error) => {
-            let Some(span) = error.span() else {
-                return Err(NoMemory);
-            };
-            let (line, column) = position_behind(front_of(bytes, span.start));
-            let message = error.message();
-            let note = format!(in alloc; "line {line}, column {column}: {message}")?;
-            Ok(Some(note))
+        Refusal::Policy { path } => say_of_policy(notes, path.as_str()),
+        Refusal::NoServe => notes.say(NOT_SERVED),
+        Refusal::OneBoard => notes.say(NOT_ONE_BOARD),
+        Refusal::NotSim { name } => notes.say_of("board", name.as_str(), NOT_SIMULATED),
+        Refusal::Compile { table, path, why } => {
+            notes.say_in("table", table.as_str(), path.as_str(), of_compiling(*why))
         }
+        Refusal::Board { name, why } => notes.say_of("board", name.as_str(), of_board(*why)),
+        Refusal::Script { client, line, why } => say_of_line(notes, *client, *line, *why, bytes),
     }
 }
 
-/// The first bytes, so many of them as there are.
-fn front_of(bytes: &[u8], count: usize) -> &[u8] {
-    &bytes[..count.min(bytes.len())]
+/// Says a rule on what stands at a path. The path is empty where it is the document as a whole.
+fn say_at(notes: &mut Notes, path: &str, rule: &str) {
+    if path.is_empty() {
+        notes.say(rule);
+    } else {
+        notes.say_of("at", path, rule);
+    }
 }
 
-/// The line and the column, both from 1, of what comes behind these bytes. A column counts characters.
-fn position_behind(front: &[u8]) -> (usize, usize) {
-    let mut line = 1usize;
-    let mut column = 1usize;
-    for byte in front {
-        if *byte == b'\n' {
-            line = line.saturating_add(1);
-            column = 1;
-        } else if *byte & 0xc0 != 0x80 {
-            column = column.saturating_add(1);
+/// The path begins at the array.
+fn say_of_policy(notes: &mut Notes, path: &str) {
+    if path.is_empty() {
+        notes.say_of("at", "policy", POLICY);
+    } else {
+        let path = OneLine(path);
+        notes.say(format_args!("at policy.{path}: {POLICY}"));
+    }
+}
+
+/// The node is told by its positions from 0, from the top of the table down.
+fn say_of_node(notes: &mut Notes, table: &str, positions: &[u64], rule: &str) {
+    let table = OneLine(table);
+    let node = Node(positions);
+    notes.say(format_args!("table {table}{node}: {rule}"));
+}
+
+/// The positions of a node, behind the name of its table. The table itself has none.
+#[derive(Clone, Copy)]
+struct Node<'a>(&'a [u64]);
+
+impl fmt::Display for Node<'_> {
+    fn fmt<W: fmt::Write>(&self, f: &mut fmt::Formatter<W>) -> fmt::Result {
+        for (depth, position) in self.0.iter().enumerate() {
+            let front = if depth == 0 { ", node " } else { "." };
+            write!(f, "{front}{position}")?;
         }
-    }
-    (line, column)
-}
-
-/// The text of a line of a script, and the word of it that is at fault.
-fn line_note(
-    alloc: Global,
-    bytes: &[u8],
-    client: u32,
-    line: u32,
-    why: ScriptWhy,
-) -> Result<Option<String>, NoMemory> {
-    let Ok(mut document) = parse_document(alloc, bytes) else {
-        return Err(NoMemory);
-    };
-    take_key(&mut document, "policy");
-    take_key(&mut document, "state");
-    let Ok(session) = read_session_table(alloc, document) else {
-        return Err(NoMemory);
-    };
-    let scripts = session.scripts.as_slice();
-    let Some(script) = scripts.get(client.saturating_sub(1) as usize) else {
-        return Ok(None);
-    };
-    match script.as_slice().get(line.saturating_sub(1) as usize) {
-        Some(line) => Ok(Some(quoted_line(alloc, line.as_str(), why)?)),
-        None => Ok(None),
+        Ok(())
     }
 }
 
-fn quoted_line(alloc: Global, line: &str, why: ScriptWhy) -> Result<String, NoMemory> {
-    let text = shown(alloc, line)?;
-    match word_at_fault(line, why) {
-        Some(word) => {
-            let word = shown(alloc, word)?;
-            Ok(format!(in alloc; "the word \"{word}\" of the line \"{text}\"")?)
-        }
-        None => Ok(format!(in alloc; "the line \"{text}\"")?),
-    }
+/// Says the rule that a line of a script breaks, and the line.
+fn say_of_line(notes: &mut Notes, client: u32, line: u32, why: ScriptWhy, bytes: &[u8]) {
+    let rule = of_script(why);
+    notes.say(format_args!("client {client}, line {line}: {rule}"));
+    quote_line(notes, client, line, why, bytes);
 }

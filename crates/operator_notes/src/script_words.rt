@@ -3,6 +3,17 @@
 use ipb_base::number_in_text;
 use script_lang::ScriptWhy;
 
+/// The words that lines begin with.
+const VERBS: [&str; 7] = [
+    "read",
+    "write",
+    "readblock",
+    "writeblock",
+    "rmwbits",
+    "rmwsum",
+    "dispatch",
+];
+
 /// The word that a refusal of this line is about, where it is about one.
 pub(crate) fn word_at_fault(line: &str, why: ScriptWhy) -> Option<&str> {
     match why {
@@ -44,15 +55,8 @@ fn bad_word(line: &str) -> Option<&str> {
 /// Whether a word may stand at this position of a line.
 fn may_stand(position: usize, word: &str) -> bool {
     match position {
-        0 => is_verb(word),
+        0 => VERBS.contains(&word),
         1 => word.split_once(':').is_some(),
         _ => number_in_text(word.as_bytes()).is_some(),
     }
-}
-
-fn is_verb(word: &str) -> bool {
-    matches!(
-        word,
-        "read" | "write" | "readblock" | "writeblock" | "rmwbits" | "rmwsum" | "dispatch"
-    )
 }

@@ -1,18 +1,19 @@
 //! What was written of the configuration of boards.
 
-use crate::escaping::shown;
-use crate::given_values::{Applied, push_given_notes};
-use crate::naming::Named;
+use crate::escaping::OneLine;
+use crate::given_values::{Applied, say_given};
+use crate::notes::Notes;
 use ipb_base::NoMemory;
 use std::alloc::Global;
+use std::str;
 
 /// What a text of a configuration has, line by line.
-#[derive(Drop)]
+#[derive(Clone, Copy)]
 struct Seen<'a> {
     board: &'a str,
     boards: u32,
     registers: u32,
-    missing: Named,
+    missing: u32,
 }
 
 /// How many registers of how many boards the text of a configuration has, and which of them were not read; and where
@@ -22,78 +23,73 @@ pub fn configuration_summary(
     text: &[u8],
     applied: Option<&Applied<'_>>,
 ) -> Result<Vec<String>, NoMemory> {
-    let Ok(lines) = str::from_utf8(text) else {
-        return Ok(Vec::new(alloc));
-    };
-    let seen = seen_in(alloc, lines)?;
-    let is_all_read = seen.missing.count() == 0;
-    let mut notes = notes_of(alloc, seen)?;
-    if let Some(applied) = applied {
-        push_given_notes(alloc, &mut notes, applied, text, is_all_read)?;
+    let mut notes = Notes::new(alloc);
+    if let Ok(lines) = str::from_utf8(text) {
+        let is_all_read = say_registers(&mut notes, lines);
+        if let Some(applied) = applied {
+            say_given(&mut notes, applied, text, is_all_read);
+        }
     }
-    Ok(notes)
+    notes.finish()
 }
 
-/// What the lines of a text have.
-fn seen_in(alloc: Global, text: &str) -> Result<Seen<'_>, NoMemory> {
+/// Says how many registers of how many boards a text has, and which of them were not read. It says whether all were.
+fn say_registers(notes: &mut Notes, text: &str) -> bool {
+    let seen = seen_in(notes, text);
+    notes.say_others(seen.missing);
+    say_counts(notes, seen);
+    notes.put_behind(0);
+    seen.missing == 0
+}
+
+/// What the lines of a text have. It names the first registers that were not read.
+fn seen_in<'a>(notes: &mut Notes, text: &'a str) -> Seen<'a> {
     let mut seen = Seen {
         board: "",
         boards: 0,
         registers: 0,
-        missing: Named::none(alloc),
+        missing: 0,
     };
     for line in text.split('\n') {
-        see(alloc, &mut seen, line)?;
+        seen = seen_with(seen, line);
+        if let Some(register) = line.strip_prefix("# ") {
+            let board = OneLine(seen.board);
+            let register = OneLine(register);
+            notes.name(seen.missing, format_args!("board {board}: {register}"));
+        }
     }
-    Ok(seen)
+    seen
 }
 
 /// Counts a line: the heading of a board, a register and its value, or in a comment a register that was not read.
-fn see<'a>(alloc: Global, seen: &mut Seen<'a>, line: &'a str) -> Result<(), NoMemory> {
+fn seen_with<'a>(seen: Seen<'a>, line: &'a str) -> Seen<'a> {
     if let Some(heading) = line.strip_prefix("[state.") {
-        seen.board = heading.strip_suffix("]").unwrap_or(heading);
-        seen.boards = seen.boards.saturating_add(1);
-    } else if let Some(register) = line.strip_prefix("# ") {
-        seen.registers = seen.registers.saturating_add(1);
-        see_missing(alloc, seen, register)?;
-    } else if !line.is_empty() {
-        seen.registers = seen.registers.saturating_add(1);
+        return Seen {
+            board: heading.strip_suffix("]").unwrap_or(heading),
+            boards: seen.boards.saturating_add(1),
+            ..seen
+        };
     }
-    Ok(())
+    Seen {
+        registers: seen.registers.saturating_add(u32::from(!line.is_empty())),
+        missing: seen
+            .missing
+            .saturating_add(u32::from(line.starts_with("# "))),
+        ..seen
+    }
 }
 
-fn see_missing(alloc: Global, seen: &mut Seen<'_>, register: &str) -> Result<(), NoMemory> {
-    if seen.missing.is_next_named() {
-        let board = shown(alloc, seen.board)?;
-        let register = shown(alloc, register)?;
-        seen.missing
-            .push(format!(in alloc; "board {board}: {register}")?)?;
-    }
-    Ok(())
-}
-
-fn notes_of(alloc: Global, seen: Seen<'_>) -> Result<Vec<String>, NoMemory> {
+/// Says how many registers and boards there are.
+fn say_counts(notes: &mut Notes, seen: Seen<'_>) {
     let Seen {
         board: _,
         boards,
         registers,
         missing,
     } = seen;
-    let mut notes = Vec::new(alloc);
-    notes.push(first_note(alloc, registers, boards, missing.count())?)?;
-    missing.put_behind(alloc, &mut notes)?;
-    Ok(notes)
-}
-
-fn first_note(
-    alloc: Global,
-    registers: u32,
-    boards: u32,
-    missing: u32,
-) -> Result<String, NoMemory> {
     if missing == 0 {
-        Ok(format!(in alloc; "registers: {registers}, boards: {boards}")?)
+        notes.say(format_args!("registers: {registers}, boards: {boards}"));
     } else {
-        Ok(format!(in alloc; "registers: {registers}, boards: {boards}; not read: {missing}")?)
+        notes.say(format_args!("registers: {registers}, boards: {boards}; not read: {missing}"));
     }
 }

@@ -2,59 +2,42 @@
 
 ghost use Rattle.run_audit.specs.Verdicts.{CanBeAudited};
 
-use crate::escaping::shown;
-use audit_command::{AuditUnread, AuditWhy, Audited, Verdict, read_for_audit};
+use crate::belonging::{Belongs, board_name, what_belongs};
+use crate::escaping::OneLine;
+use crate::notes::Notes;
+use audit_command::{AuditWhy, Audited, Verdict, read_for_audit};
 use ipb_base::NoMemory;
 use run_audit::{audit, result_in_time};
-use script_steps::{RegOp, Step, Steps};
+use script_steps::RegOp;
 use std::alloc::Global;
 use std::str;
-use transcript::push_result;
-
-/// What belongs in a line of a transcript.
-#[derive(Clone, Copy)]
-enum Belongs<'a> {
-    /// The heading of a client, from 1.
-    Heading(usize),
-    /// The line of an operation: the client from 1, its number among those of the client, and itself.
-    Operation(usize, u64, &'a RegOp),
-    /// The line of the board at this position.
-    Board(usize),
-    Nothing,
-}
+use transcript::{OpResult, push_result};
 
 /// Of a transcript that does not fit its session: what the first line at fault shows, and what the rule wants there.
 /// Nothing where it fits, or the input is refused.
 pub fn verdict_notes(alloc: Global, bytes: &[u8]) -> Result<Vec<String>, NoMemory> {
-    let read = match read_for_audit(alloc, bytes) {
-        Ok(read) => read,
-        Err(AuditUnread::Refused(_)) => return Ok(Vec::new(alloc)),
-        Err(AuditUnread::NoMemory) => return Err(NoMemory),
-    };
-    match audit(alloc, &read.session, read.steps.as_slice(), read.transcript)? {
-        Verdict::Yes => Ok(Vec::new(alloc)),
-        Verdict::No { line, why } => notes_of(alloc, &read, line, why),
+    let mut notes = Notes::new(alloc);
+    if let Some(read) = notes.made(read_for_audit(alloc, bytes)) {
+        say_verdict(&mut notes, &read);
     }
+    notes.finish()
 }
 
-fn notes_of(
-    alloc: Global,
-    read: &Audited<'_>,
-    line: u32,
-    why: AuditWhy,
-) -> Result<Vec<String>, NoMemory>
+fn say_verdict(notes: &mut Notes, read: &Audited<'_>)
     requires { CanBeAudited read.now.session read.now.steps.items }
 {
-    let mut notes = Vec::new(alloc);
-    notes.push(line_note(alloc, read.transcript, line)?)?;
-    notes.push(match why {
-        AuditWhy::Form => form_note(alloc, read, line)?,
-        AuditWhy::Partial => sentence(alloc, PARTIAL)?,
-        AuditWhy::Place => sentence(alloc, PLACE)?,
-        AuditWhy::Result => result_note(alloc, read, line)?,
-        AuditWhy::Count => sentence(alloc, COUNT)?,
-    })?;
-    Ok(notes)
+    let steps = read.steps.as_slice();
+    let verdict = audit(notes.alloc, &read.session, steps, read.transcript);
+    if let Some(Verdict::No { line, why }) = notes.made(verdict) {
+        say_line(notes, read.transcript, line);
+        match why {
+            AuditWhy::Form => say_form(notes, read, line),
+            AuditWhy::Partial => notes.say(PARTIAL),
+            AuditWhy::Place => notes.say(PLACE),
+            AuditWhy::Result => say_result(notes, read, line),
+            AuditWhy::Count => notes.say(COUNT),
+        }
+    }
 }
 
 const PARTIAL: &str =
@@ -66,122 +49,67 @@ const PLACE: &str =
 const COUNT: &str =
     "a board's line counts the places that the lines above show, and these are replied, timeout and lost together";
 
-fn sentence(alloc: Global, text: &str) -> Result<String, NoMemory> {
-    Ok(String::from_str(alloc, text)?)
-}
-
-/// The line as it stands in the text.
-fn line_note(alloc: Global, text: &[u8], line: u32) -> Result<String, NoMemory> {
-    let mut number = 0u64;
-    for bytes in text.split_inclusive(|byte| *byte == b'\n') {
-        number = number.saturating_add(1);
-        if number == u64::from(line) {
-            let bytes = bytes.strip_suffix(b"\n".as_slice()).unwrap_or(bytes);
-            let found = shown(
-                alloc,
-                str::from_utf8(bytes).unwrap_or("bytes that are no text"),
-            )?;
-            return Ok(format!(in alloc; "line {line}: {found}")?);
-        }
+/// Says the line as it stands in the text.
+fn say_line(notes: &mut Notes, text: &[u8], line: u32) {
+    let before = line.saturating_sub(1) as usize;
+    match text.split_inclusive(|byte| *byte == b'\n').nth(before) {
+        Some(bytes) => say_shown(notes, line, bytes),
+        None => notes.say_line(u64::from(line), "the transcript ends before it"),
     }
-    Ok(format!(in alloc; "line {line}: the transcript ends before it")?)
 }
 
-/// Which line of a transcript belongs there.
-fn form_note(alloc: Global, read: &Audited<'_>, line: u32) -> Result<String, NoMemory> {
+fn say_shown(notes: &mut Notes, line: u32, bytes: &[u8]) {
+    let bytes = bytes.strip_suffix(b"\n".as_slice()).unwrap_or(bytes);
+    let shown = OneLine(str::from_utf8(bytes).unwrap_or("bytes that are no text"));
+    notes.say(format_args!("line {line}: {shown}"))
+}
+
+/// Says which line of a transcript belongs there.
+fn say_form(notes: &mut Notes, read: &Audited<'_>, line: u32) {
     match what_belongs(read, u64::from(line)) {
-        Belongs::Heading(client) => Ok(format!(in alloc; "here belongs: client {client}")?),
-        Belongs::Operation(client, number, op) => operation_note(alloc, read, client, number, op),
+        Belongs::Heading(client) => notes.say(format_args!("here belongs: client {client}")),
+        Belongs::Operation(client, number, op) => say_operation(notes, read, client, number, op),
         Belongs::Board(position) => {
-            let name = shown(alloc, board_name(read, position))?;
-            Ok(format!(in alloc; "here belongs the line of board {name}")?)
+            let name = OneLine(board_name(read, position));
+            notes.say(format_args!("here belongs the line of board {name}"))
         }
-        Belongs::Nothing => sentence(alloc, "no line belongs here"),
+        Belongs::Nothing => notes.say("no line belongs here"),
     }
 }
 
-fn operation_note(
-    alloc: Global,
-    read: &Audited<'_>,
-    client: usize,
-    number: u64,
-    op: &RegOp,
-) -> Result<String, NoMemory> {
-    let board = shown(alloc, board_name(read, op.board as usize))?;
-    let name = shown(alloc, op.name.as_str())?;
-    let text = format!(in alloc;
+fn say_operation(notes: &mut Notes, read: &Audited<'_>, client: usize, number: u64, op: &RegOp) {
+    let board = OneLine(board_name(read, op.board as usize));
+    let name = OneLine(op.name.as_str());
+    notes.say(format_args!(
         "here belongs operation {number} of client {client}, on {board}:{name}, with a result and places that it can have beside the line of its board"
-    )?;
-    Ok(text)
+    ))
 }
 
-fn board_name<'a>(read: &'a Audited<'_>, position: usize) -> &'a str {
-    match read.session.boards.as_slice().get(position) {
-        Some(board) => board.name.as_str(),
-        None => "",
-    }
-}
-
-/// What belongs in a line, from 1.
-fn what_belongs<'a>(read: &'a Audited<'_>, line: u64) -> Belongs<'a> {
-    let mut before = 0u64;
-    for (client, steps) in read.steps.iter().enumerate() {
-        if line == before.saturating_add(1) {
-            return Belongs::Heading(client + 1);
-        }
-        before = before.saturating_add(1);
-        let count = operations(steps);
-        if line <= before.saturating_add(count) {
-            return operation(client + 1, line - before.min(line), steps);
-        }
-        before = before.saturating_add(count);
-    }
-    let position = (line - before.min(line)) as usize;
-    if position <= read.session.boards.as_slice().len() && position > 0 {
-        return Belongs::Board(position - 1);
-    }
-    Belongs::Nothing
-}
-
-/// How many operations a client has, denied or not.
-fn operations(steps: &Steps) -> u64 {
-    let mut count = 0u64;
-    for step in steps.as_slice() {
-        if !matches!(step, Step::Dispatch) {
-            count = count.saturating_add(1);
-        }
-    }
-    count
-}
-
-/// The operation of this number, from 1.
-fn operation(client: usize, number: u64, steps: &Steps) -> Belongs<'_> {
-    let mut count = 0u64;
-    for step in steps.as_slice() {
-        if let Step::Do(op) | Step::Denied { rule: _, op } = step {
-            count = count.saturating_add(1);
-            if count == number {
-                return Belongs::Operation(client, number, op);
-            }
-        }
-    }
-    Belongs::Nothing
-}
-
-/// What the board gives at the places of a line.
-fn result_note(alloc: Global, read: &Audited<'_>, line: u32) -> Result<String, NoMemory>
+/// Says what the board gives at the places of a line.
+fn say_result(notes: &mut Notes, read: &Audited<'_>, line: u32)
     requires { CanBeAudited read.now.session read.now.steps.items }
 {
     let steps = read.steps.as_slice();
-    let rounds = read.session.settings.rounds();
-    let mut given = String::new(alloc);
-    match result_in_time(alloc, &read.session, steps, read.transcript, line)? {
-        Some(result) => push_result(&mut given, &result)?,
-        None => given.push_str("nothing")?,
+    let given = result_in_time(notes.alloc, &read.session, steps, read.transcript, line);
+    if let Some(given) = notes.made(given)
+        && let Some(text) = notes.made(given_text(notes.alloc, given))
+    {
+        say_given(notes, text.as_str(), read.session.settings.rounds());
     }
-    let given = shown(alloc, given.as_str())?;
-    let text = format!(in alloc;
-        "the registers of its board give at these places: {given}; a timeout tells {rounds} rounds, and operations of one packet are answered, timed out or lost together"
-    )?;
+}
+
+fn given_text(alloc: Global, given: Option<OpResult>) -> Result<String, NoMemory> {
+    let mut text = String::new(alloc);
+    match given {
+        Some(given) => push_result(&mut text, &given)?,
+        None => text.push_str("nothing")?,
+    }
     Ok(text)
+}
+
+fn say_given(notes: &mut Notes, given: &str, rounds: u8) {
+    let given = OneLine(given);
+    notes.say(format_args!(
+        "the registers of its board give at these places: {given}; a timeout tells {rounds} rounds, and operations of one packet are answered, timed out or lost together"
+    ));
 }

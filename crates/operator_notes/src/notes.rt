@@ -1,0 +1,128 @@
+//! Lines that are said.
+
+ghost use Rattle.std.specs.Prelude.{◌≡◌};
+ghost use Rattle.std.specs.Result.{result_ok};
+
+use crate::escaping::OneLine;
+use crate::unread::Unread;
+use ipb_base::NoMemory;
+use std::alloc::Global;
+use std::fmt::Display;
+
+/// So many of many are named, and the others counted.
+const MOST_NAMED: u32 = 10;
+
+/// Lines that are said, one behind another. Where memory ran out for one of them, `finish` tells it.
+#[derive(Drop)]
+pub(crate) struct Notes {
+    pub(crate) alloc: Global,
+    lines: Vec<String>,
+    lacks_memory: bool,
+}
+
+impl Notes {
+    /// None so far.
+    pub(crate) fn new(alloc: Global) -> Notes {
+        Notes {
+            alloc,
+            lines: Vec::new(alloc),
+            lacks_memory: false,
+        }
+    }
+
+    /// The lines, where there was memory for all that was to be said.
+    pub(crate) fn finish(self) -> Result<Vec<String>, NoMemory> {
+        if self.lacks_memory {
+            return Err(NoMemory);
+        }
+        Ok(self.lines)
+    }
+
+    /// Keeps that memory ran out.
+    pub(crate) fn lack_memory(&mut self) {
+        self.lacks_memory = true;
+    }
+
+    /// What was read or made, if it was. Where there was not enough memory for it, that is kept.
+    pub(crate) fn made<T: Drop, E: Unread>(&mut self, made: Result<T, E>) -> Option<T>
+        ensures { result ≡ result_ok made }
+    {
+        match made {
+            Ok(value) => Some(value),
+            Err(unread) => {
+                if unread.lacks_memory() {
+                    self.lacks_memory = true;
+                }
+                None
+            }
+        }
+    }
+
+    /// How many there are.
+    pub(crate) fn count(&self) -> usize {
+        self.lines.len()
+    }
+
+    /// Says a line.
+    pub(crate) fn say<D: Display + Drop>(&mut self, line: D) {
+        if self.push(line).is_err() {
+            self.lacks_memory = true;
+        }
+    }
+
+    fn push<D: Display + Drop>(&mut self, line: D) -> Result<(), NoMemory> {
+        let line = line.to_string(self.alloc)?;
+        Ok(self.lines.push(line)?)
+    }
+
+    /// Says these lines.
+    pub(crate) fn say_each(&mut self, lines: &[&str]) {
+        for line in lines {
+            self.say(*line);
+        }
+    }
+
+    /// Says a rule, and in front of it what breaks it, by its name.
+    pub(crate) fn say_of(&mut self, what: &str, name: &str, rule: &str) {
+        self.say(format_args!("{what} {}: {rule}", OneLine(name)));
+    }
+
+    /// Says a rule on a register, or where there is no name of one, on the table or the board that has it.
+    pub(crate) fn say_in(&mut self, what: &str, name: &str, register: &str, rule: &str) {
+        if register.is_empty() {
+            return self.say_of(what, name, rule);
+        }
+        let name = OneLine(name);
+        let register = OneLine(register);
+        self.say(format_args!("{what} {name}, register {register}: {rule}"));
+    }
+
+    /// Says a rule on a line of an input, by its number from 1.
+    pub(crate) fn say_line(&mut self, line: u64, rule: &str) {
+        self.say(format_args!("line {line}: {rule}"));
+    }
+
+    /// Says the line of one of many, by its number from 1, if it is one of those that are named.
+    pub(crate) fn name<D: Display + Drop>(&mut self, number: u32, line: D) {
+        if number <= MOST_NAMED {
+            self.say(line);
+        }
+    }
+
+    /// Says how many of so many are not named, if any.
+    pub(crate) fn say_others(&mut self, count: u32) {
+        if count > MOST_NAMED {
+            let more = count - MOST_NAMED;
+            self.say(format_args!("and {more} more"));
+        }
+    }
+
+    /// Puts the last line in front of those that stand behind so many.
+    pub(crate) fn put_behind(&mut self, count: usize) {
+        if let Some(lines) = self.lines.as_mut_slice().get_mut(count..)
+            && !lines.is_empty()
+        {
+            lines.rotate_right(1);
+        }
+    }
+}
