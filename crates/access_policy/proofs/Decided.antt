@@ -10,7 +10,7 @@ use Rattle.script_steps.specs.declared.operation.RegOp.{RegOp}
 use Rattle.script_steps.specs.declared.operation.Step.{Step}
 use Rattle.script_steps.specs.declared.operation.Step.TheVariants as steps
 use Rattle.access_policy.specs.Candidates.{Numbered, candidates_from, concerns, first_of, is_of, op_said, said_of, step_said}
-use Rattle.access_policy.specs.Decisions.{access_decision, both, client_matches, decided, decision, decisions, has_access}
+use Rattle.access_policy.specs.Decisions.{access_decision, both, client_matches, decision_from, decision, decisions, has_access}
 use Rattle.access_policy.specs.Decisions.{needs_of, op_decision, said, speaks_of, step_decision}
 use Rattle.access_policy.specs.Names.{NameItem, items_of}
 use Rattle.access_policy.specs.Patterns.{board_matches, items_match}
@@ -35,7 +35,7 @@ kept false access items candidate later = refl
 
 one_access : (access : Access) (client : ℕ) (board : List ℕ) (items : List NameItem) (number : ℕ) (rules : List Rule)
     → first_of access items (candidates_from number rules client board)
-    ≡ decided (speaks_of access client board items) number rules
+    ≡ decision_from (speaks_of access client board items) number rules
 one_access access client board items number [] = refl
 one_access access client board items number (rule ∷ rules) =
     kept (concerns client board rule) access items (record { number = number; rule = rule })

@@ -10,7 +10,7 @@ use Rattle.std.proofs.Common.{◌⊎◌, inl, inr, zero, suc}
 use Rattle.std.proofs.lemmas.Str.Parse.{IsDigitsTest, IsNumeralModel, WeighsDigits, numerals_by_weight}
 use Rattle.ipb_base.specs.Digits.{are_digits, digit_value, digits_in_base, digits_number, is_between, number_in_text}
 use Rattle.ipb_base.specs.Digits.{value_of_digits, word}
-use Rattle.script_lang.specs.Texts.{checked, is_decimal, is_digit}
+use Rattle.script_lang.specs.Texts.{checked_value, is_decimal, is_digit}
 use Rattle.access_policy.specs.Names.{index_in}
 use Rattle.access_policy.specs.declared.limits.TheConstants.{MAX_INDEX}
 
@@ -94,7 +94,7 @@ leads c cs h lead =
     grind (arith, nat_tests)
 
 -- a number that is there is the one that was tested
-checked_is : (test : ℕ → Bool) (found : Option ℕ) (n : ℕ) → checked test found ≡ Some n → found ≡ Some n
+checked_is : (test : ℕ → Bool) (found : Option ℕ) (n : ℕ) → checked_value test found ≡ Some n → found ≡ Some n
 checked_is test None n h = cc
 checked_is test (Some m) n h = by_test (test m) h
   where
@@ -114,7 +114,7 @@ pub index_back : (text : List ℕ) (n : ℕ) → index_in text ≡ Some n → de
 index_back [] n h = cc
 index_back (c ∷ cs) n h =
     let text = c ∷ cs in
-    let tested = when (is_decimal text) (checked (is_between 0 MAX_INDEX) (number_in_text text)) n h in
+    let tested = when (is_decimal text) (checked_value (is_between 0 MAX_INDEX) (number_in_text text)) n h in
     let digits = digits_of text tested.0 in
     let number : digits_number 10 10 text ≡ Some n =
     sym (plain text digits) ∙ checked_is (is_between 0 MAX_INDEX) (number_in_text text) n tested.1 in
@@ -172,12 +172,12 @@ index_found n small =
 
 -- an index that was read is one that a node can have
 pub index_small : (text : List ℕ) (n : ℕ) → index_in text ≡ Some n → n ≤ MAX_INDEX
-index_small text n h = by_number (number_in_text text) (when (is_decimal text) (checked (is_between 0 MAX_INDEX) (number_in_text text)) n h).1
+index_small text n h = by_number (number_in_text text) (when (is_decimal text) (checked_value (is_between 0 MAX_INDEX) (number_in_text text)) n h).1
   where
     within : (m : ℕ) (b : Bool) → is_between 0 MAX_INDEX m ≡ b → cond b (Some m) None ≡ Some n → n ≤ MAX_INDEX
     within m true is e = grind (arith, nat_tests)
     within m false is e = cc
 
-    by_number : (found : Option ℕ) → checked (is_between 0 MAX_INDEX) found ≡ Some n → n ≤ MAX_INDEX
+    by_number : (found : Option ℕ) → checked_value (is_between 0 MAX_INDEX) found ≡ Some n → n ≤ MAX_INDEX
     by_number None e = cc
     by_number (Some m) e = within m (is_between 0 MAX_INDEX m) refl e

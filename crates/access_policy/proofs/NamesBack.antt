@@ -9,7 +9,7 @@ use Rattle.std.proofs.lemmas.List.Folds.{list_all-append}
 use Rattle.address_table.specs.Rules.{is_id, is_id_byte}
 use Rattle.node_tree.specs.Names.{dot}
 use Rattle.script_lang.specs.Texts.{cut_at, is_digit}
-use Rattle.access_policy.specs.Names.{IsNameItem, NameItem, bracketed, index_text, indexed, item_of, item_text, items_of}
+use Rattle.access_policy.specs.Names.{IsNameItem, NameItem, in_brackets, index_text, item_with_index, item_of, item_text, items_of}
 use Rattle.access_policy.specs.Names.{name_text, parts_of}
 use Rattle.access_policy.specs.declared.limits.TheConstants.{MAX_INDEX}
 use Rattle.access_policy.proofs.Decimals.{index_found, own}
@@ -68,13 +68,13 @@ digits_of n small = digits_decimal own n (omega (arith, small))
 -- ---- one id
 
 plain_item : (id : List ℕ) → is_id id ≡ true → item_of (id ++ []) ≡ record { id = id; index = None }
-unfolding bracketed indexed
+unfolding in_brackets item_with_index
 plain_item id is =
     rw (append-nil id, cut_none 91 id (all_so is_id_byte (λ byte. not (byte == 91)) no_bracket id (id_bytes id is))) refl
 
 indexed_item : (id : List ℕ) (n : ℕ) → is_id id ≡ true → n ≤ MAX_INDEX
     → item_of (id ++ 91 ∷ (decimal n ++ 93 ∷ [])) ≡ record { id = id; index = Some n }
-unfolding bracketed indexed
+unfolding in_brackets item_with_index
 indexed_item id n is small =
     rw (
       cut_found 91 id (decimal n ++ 93 ∷ []) (all_so is_id_byte (λ byte. not (byte == 91)) no_bracket id (id_bytes id is)),

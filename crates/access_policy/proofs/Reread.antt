@@ -10,7 +10,7 @@ use Rattle.address_table.specs.Limits.{longest_id}
 use Rattle.address_table.specs.Rules.{is_id, is_id_byte}
 use Rattle.node_tree.specs.Names.{dot}
 use Rattle.script_lang.specs.Texts.{◌>>=◌, cut_at, is_digit}
-use Rattle.access_policy.specs.Names.{bracketed, index_in, index_text, parts_of}
+use Rattle.access_policy.specs.Names.{in_brackets, index_in, index_text, parts_of}
 use Rattle.access_policy.specs.Spelling.{IsBoardPattern, IsItemPattern, IsPattern, board_in, board_text, index_pattern}
 use Rattle.access_policy.specs.Spelling.{indexed_in, is_last, is_rest, item_in, item_text, item_texts, items_in, items_in_parts}
 use Rattle.access_policy.specs.Spelling.{pattern_of, pattern_text}
@@ -66,7 +66,7 @@ not_id id behind =
 
 brackets_read : (id inside : List ℕ) → is_id id ≡ true → IsWithout 93 inside
     → indexed_in (id ++ 91 ∷ (inside ++ 93 ∷ [])) ≡ index_pattern id inside
-unfolding indexed_in bracketed
+unfolding indexed_in in_brackets
 brackets_read id inside is without =
     rw (
       cut_found 91 id (inside ++ 93 ∷ []) (all_so is_id_byte (λ byte. not (byte == 91)) no_bracket id (id_bytes id is)),
@@ -183,7 +183,7 @@ index_kept id inside item is h =
 indexed_kept : (text : List ℕ) (item : ItemPattern) → indexed_in text ≡ Some item → IsItemPattern item
 unfolding indexed_in
 indexed_kept text item h =
-    let parts = bound (bracketed text) _ item h in
+    let parts = bound (in_brackets text) _ item h in
     let named = when (is_id parts.0.0) (index_pattern parts.0.0 parts.0.1) item parts.2 in
     index_kept parts.0.0 parts.0.1 item named.0 named.1
 

@@ -9,7 +9,7 @@ use Rattle.script_steps.specs.declared.operation.Decision.TheVariants.{Allowed, 
 use Rattle.script_steps.specs.declared.operation.RegOp.{RegOp}
 use Rattle.script_steps.specs.declared.operation.Step.{Step}
 use Rattle.script_steps.specs.declared.operation.Step.TheVariants as steps
-use Rattle.access_policy.specs.Decisions.{access_decision, all_needed, both, decided, decision, needs_of, said}
+use Rattle.access_policy.specs.Decisions.{access_decision, all_needed, both, decision_from, decision, needs_of, said}
 use Rattle.access_policy.specs.Decisions.{speaks_of, step_decision}
 use Rattle.access_policy.specs.Names.{items_of}
 use Rattle.access_policy.specs.declared.policy.Access.{Access}
@@ -33,12 +33,12 @@ first_number true number rule later past h k = omega (arith, h, said_number numb
 first_number false number rule later past h k = k
 
 decided_number : (speaks : Rule → Bool) (number : ℕ) (rules : List Rule) → 0 < number
-    → told (decided speaks number rules) < number + length rules
+    → told (decision_from speaks number rules) < number + length rules
 decided_number speaks number [] some = omega (arith, some)
 decided_number speaks number (rule ∷ rules) some =
-    let later : told (decided speaks (number + 1) rules) < number + 1 + length rules =
+    let later : told (decision_from speaks (number + 1) rules) < number + 1 + length rules =
     decided_number speaks (number + 1) rules (omega arith) in
-    first_number (speaks rule) number rule (decided speaks (number + 1) rules) (number + suc (length rules)) (omega arith)
+    first_number (speaks rule) number rule (decision_from speaks (number + 1) rules) (number + suc (length rules)) (omega arith)
     (omega (arith, later))
 
 both_numbers : (a b : Decision) (past : ℕ) → told a < past → told b < past → told (both a b) < past

@@ -8,7 +8,7 @@ use Rattle.std.proofs.lemmas.Slice.Eq.{bytes_eq-Decides}
 use Rattle.address_table.specs.Rules.{is_id}
 use Rattle.node_tree.specs.Names.{dot}
 use Rattle.script_lang.specs.Texts.{◌>>=◌, cut_at}
-use Rattle.access_policy.specs.Names.{bracketed, closed, index_in, parts_of}
+use Rattle.access_policy.specs.Names.{in_brackets, before_last_byte, index_in, parts_of}
 use Rattle.access_policy.specs.Spelling.{board_in, board_text, index_pattern, indexed_in, is_last, is_rest, item_in, item_text}
 use Rattle.access_policy.specs.Spelling.{item_texts, items_in, items_in_parts, pattern_of, pattern_text}
 use Rattle.access_policy.specs.declared.policy.BoardPattern.{BoardPattern}
@@ -64,18 +64,18 @@ cut_back cut [] parts h = cc
 cut_back cut (byte ∷ text) parts h =
     cut_by (byte == cut) cut byte text (cut_at cut text) parts (same_byte byte cut) (cut_back cut text) h
 
-closed_back : (parts : List ℕ × List ℕ) (inside : List ℕ) → closed parts ≡ Some inside
+closed_back : (parts : List ℕ × List ℕ) (inside : List ℕ) → before_last_byte parts ≡ Some inside
     → parts.0 ++ 93 ∷ parts.1 ≡ inside ++ 93 ∷ []
 closed_back (before, []) inside h = ap (λ xs. xs ++ 93 ∷ []) (same_some before inside h)
 closed_back (before, byte ∷ rest) inside h = cc
 
-bracketed_back : (text : List ℕ) (parts : List ℕ × List ℕ) → bracketed text ≡ Some parts
+bracketed_back : (text : List ℕ) (parts : List ℕ × List ℕ) → in_brackets text ≡ Some parts
     → parts.0 ++ 91 ∷ (parts.1 ++ 93 ∷ []) ≡ text
-unfolding bracketed
+unfolding in_brackets
 bracketed_back text parts h =
     let first = bound (cut_at 91 text) _ parts h in
     let second = bound (cut_at 93 first.0.1) _ parts first.2 in
-    let third = bound (closed second.0) _ parts second.2 in
+    let third = bound (before_last_byte second.0) _ parts second.2 in
     let now : List ℕ × List ℕ = (first.0.0, third.0) in
     let is : now ≡ parts = same_some now parts third.2 in
     ap (λ p. p.0 ++ 91 ∷ (p.1 ++ 93 ∷ [])) (sym is)
@@ -112,7 +112,7 @@ index_item id inside item h = by_star (pick (bytes_eq inside (codes "*")) (Some 
 indexed_back : (text : List ℕ) (item : ItemPattern) → indexed_in text ≡ Some item → item_text item ≡ text
 unfolding indexed_in
 indexed_back text item h =
-    let parts = bound (bracketed text) _ item h in
+    let parts = bound (in_brackets text) _ item h in
     let named = when (is_id parts.0.0) (index_pattern parts.0.0 parts.0.1) item parts.2 in
     index_item parts.0.0 parts.0.1 item named.1 ∙ bracketed_back text parts.0 parts.1
 

@@ -22,9 +22,9 @@ pub record Numbered : Type 0 where
   pub number : ℕ
   pub rule : Rule
 
-abbrev pub numbered : ℕ → List Rule → List Numbered
-numbered number [] = []
-numbered number (rule ∷ rules) = record { number = number; rule = rule } ∷ numbered (number + 1) rules
+abbrev pub with_numbers : ℕ → List Rule → List Numbered
+with_numbers number [] = []
+with_numbers number (rule ∷ rules) = record { number = number; rule = rule } ∷ with_numbers (number + 1) rules
 
 -- a rule speaks of the client and the board
 abbrev pub concerns : ℕ → List ℕ → Rule → Bool
@@ -33,7 +33,7 @@ concerns client board rule = client_matches rule.client client && board_matches 
 -- the rules that speak of a client and a board
 abbrev pub candidates_from : ℕ → List Rule → ℕ → List ℕ → List Numbered
 candidates_from number policy client board =
-    filter (λ (candidate : Numbered). concerns client board candidate.rule) (numbered number policy)
+    filter (λ (candidate : Numbered). concerns client board candidate.rule) (with_numbers number policy)
 
 -- the ids of a name that is cut or not
 abbrev pub ids_of : RegisterName → List NameItem

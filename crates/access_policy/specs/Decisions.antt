@@ -6,7 +6,7 @@ use Rattle.address_table.specs.declared.kinds.Permission.{Permission}
 use Rattle.address_table.specs.declared.kinds.Permission.TheVariants.{R, W, Rw}
 use Rattle.board_node.specs.declared.spec.BoardSpec.{BoardSpec}
 use Rattle.script_lang.specs.Operations.{may_read, may_write}
-use Rattle.script_steps.specs.Rulings.{ruled}
+use Rattle.script_steps.specs.Rulings.{steps_under_policy}
 use Rattle.script_steps.specs.declared.operation.Decision.{Decision}
 use Rattle.script_steps.specs.declared.operation.Decision.TheVariants.{Allowed, Denied}
 use Rattle.script_steps.specs.declared.operation.RegOp.{RegOp}
@@ -51,13 +51,13 @@ said number Deny = Denied number
 
 -- What the first rule that speaks of an access says, where the rules are counted from a number on; an access of which
 -- no rule speaks is denied by rule 0.
-abbrev pub decided : (Rule → Bool) → ℕ → List Rule → Decision
-decided speaks number [] = Denied 0
-decided speaks number (rule ∷ rules) =
-    if speaks rule then said number rule.effect else decided speaks (number + 1) rules
+abbrev pub decision_from : (Rule → Bool) → ℕ → List Rule → Decision
+decision_from speaks number [] = Denied 0
+decision_from speaks number (rule ∷ rules) =
+    if speaks rule then said number rule.effect else decision_from speaks (number + 1) rules
 
 abbrev pub access_decision : List Rule → ℕ → List ℕ → List NameItem → Access → Decision
-access_decision policy client board items access = decided (speaks_of access client board items) 1 policy
+access_decision policy client board items access = decision_from (speaks_of access client board items) 1 policy
 
 -- ---- what an operation needs
 
@@ -113,7 +113,7 @@ names_of boards = map (λ (board : BoardSpec). board.name) boards
 abbrev pub ruled_from : List Rule → List (List ℕ) → ℕ → List (List Step) → List (List Step)
 ruled_from policy boards client [] = []
 ruled_from policy boards client (steps ∷ scripts) =
-    ruled steps (decisions policy client boards steps) ∷ ruled_from policy boards (client + 1) scripts
+    steps_under_policy steps (decisions policy client boards steps) ∷ ruled_from policy boards (client + 1) scripts
 
 -- the steps of all clients, from client 1 on; without a policy they stay as they are
 abbrev pub ruled_scripts : Option (List Rule) → List (List ℕ) → List (List Step) → List (List Step)

@@ -14,16 +14,16 @@ pub record NameItem : Type 0 where
   pub index : Option ℕ
 
 -- what stands before a byte that is the last one of a text
-abbrev pub closed : List ℕ × List ℕ → Option (List ℕ)
-closed (inside, []) = Some inside
-closed (inside, byte ∷ bytes) = None
+abbrev pub before_last_byte : List ℕ × List ℕ → Option (List ℕ)
+before_last_byte (inside, []) = Some inside
+before_last_byte (inside, byte ∷ bytes) = None
 
 -- `ID[INSIDE]`: what stands before the first bracket, and what stands in brackets behind it, up to the end
-unfoldable pub bracketed : List ℕ → Option (List ℕ × List ℕ)
-bracketed text = do
+unfoldable pub in_brackets : List ℕ → Option (List ℕ × List ℕ)
+in_brackets text = do
   parts ← cut_at 91 text
   behind ← cut_at 93 parts.1
-  inside ← closed behind
+  inside ← before_last_byte behind
   Some (parts.0, inside)
 
 -- the index that digits write: decimal, without leading zeros
@@ -31,15 +31,15 @@ abbrev pub index_in : List ℕ → Option ℕ
 index_in digits = decimal_between 0 MAX_INDEX digits
 
 -- an id with an index, as it stands between dots
-unfoldable pub indexed : List ℕ → Option NameItem
-indexed text = do
-  parts ← bracketed text
+unfoldable pub item_with_index : List ℕ → Option NameItem
+item_with_index text = do
+  parts ← in_brackets text
   index ← index_in parts.1
   Some (record { id = parts.0; index = Some index })
 
 -- what stands between dots: an id with an index where it is written so, else all of it is the id
 abbrev pub item_of : List ℕ → NameItem
-item_of text = unwrap_or (indexed text) (record { id = text; index = None })
+item_of text = unwrap_or (item_with_index text) (record { id = text; index = None })
 
 -- what stands between the dots of a text
 abbrev pub parts_of : List ℕ → List (List ℕ)

@@ -67,9 +67,9 @@ abbrev pub needed_keys : List (List ℕ)
 needed_keys = codes "access" ∷ codes "effect" ∷ codes "name" ∷ []
 
 -- each of these keys that is not there
-abbrev pub absent : List (List ℕ) → Members → List Way
-absent [] ms = []
-absent (key ∷ keys) ms = if has_key key ms then absent keys ms else (Key key ∷ []) ∷ absent keys ms
+abbrev pub absent_keys : List (List ℕ) → Members → List Way
+absent_keys [] ms = []
+absent_keys (key ∷ keys) ms = if has_key key ms then absent_keys keys ms else (Key key ∷ []) ∷ absent_keys keys ms
 
 -- the keys that are there, in byte order
 abbrev pub keys_faults : Members → List Way
@@ -77,7 +77,7 @@ keys_faults no_members = []
 keys_faults (member key value ms) = below (Key key) (unless (may_stand key value)) ++ keys_faults ms
 
 abbrev pub rule_faults : Data → List Way
-rule_faults (table ms) = keys_faults ms ++ absent needed_keys ms
+rule_faults (table ms) = keys_faults ms ++ absent_keys needed_keys ms
 rule_faults value = here
 
 -- the rules from a position on

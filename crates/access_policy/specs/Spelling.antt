@@ -19,7 +19,7 @@ use Rattle.access_policy.specs.declared.policy.ItemPattern.{ItemPattern}
 use Rattle.access_policy.specs.declared.policy.ItemPattern.TheVariants.{Any, Id, Indexed, AnyIndex}
 use Rattle.access_policy.specs.declared.policy.Pattern.{Pattern}
 use Rattle.access_policy.specs.declared.policy.Rule.{Rule}
-use Rattle.access_policy.specs.Names.{bracketed, index_in, index_text, parts_of}
+use Rattle.access_policy.specs.Names.{in_brackets, index_in, index_text, parts_of}
 
 -- ---- as written
 
@@ -73,7 +73,7 @@ index_pattern id inside =
 
 unfoldable pub indexed_in : List ℕ → Option ItemPattern
 indexed_in text = do
-  parts ← bracketed text
+  parts ← in_brackets text
   if is_id parts.0 then index_pattern parts.0 parts.1 else None
 
 -- one item: `*`, `id`, `id[n]` or `id[*]`

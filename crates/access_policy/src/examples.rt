@@ -1,5 +1,5 @@
 //! Worked examples of the definitions. These functions do nothing when they run: their clauses are what is proved.
-#![tactic(auto, unfolding(crate::specs::Spelling::pattern_of, crate::specs::Spelling::indexed_in, crate::specs::Names::bracketed, crate::specs::Names::indexed, ipb_base::specs::Digits::digit_value))]
+#![tactic(auto, unfolding(crate::specs::Spelling::pattern_of, crate::specs::Spelling::indexed_in, crate::specs::Names::in_brackets, crate::specs::Names::item_with_index, ipb_base::specs::Digits::digit_value))]
 
 ghost use Rattle.std.specs.Prelude.{◌≡◌, true, false, [], ◌∷◌, codes, Some, None};
 ghost use Rattle.address_table.specs.declared.kinds.Permission.TheVariants.{R, W, Rw};

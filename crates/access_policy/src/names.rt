@@ -68,9 +68,9 @@ pub(crate) fn index_in(digits: &str) -> Option<u32>
 }
 
 /// What stands before the first bracket, and what stands in brackets behind it, up to the end.
-#[tactic(auto, unfolding(crate::specs::Names::bracketed))]
+#[tactic(auto, unfolding(crate::specs::Names::in_brackets))]
 pub(crate) fn bracketed(text: &str) -> Option<(&str, &str)>
-    ensures { option_map (λ parts. (parts.0.now, parts.1.now)) result ≡ spec.bracketed text.now }
+    ensures { option_map (λ parts. (parts.0.now, parts.1.now)) result ≡ spec.in_brackets text.now }
 {
     let (id, behind) = cut_at('[', text)?;
     let (inside, after) = cut_at(']', behind)?;
@@ -81,9 +81,9 @@ pub(crate) fn bracketed(text: &str) -> Option<(&str, &str)>
 }
 
 /// An id with an index, as it stands between dots.
-#[tactic(auto, unfolding(crate::specs::Names::indexed))]
+#[tactic(auto, unfolding(crate::specs::Names::item_with_index))]
 fn indexed(text: &str) -> Option<NamePart<'_>>
-    ensures { result ≡ spec.indexed text.now }
+    ensures { result ≡ spec.item_with_index text.now }
 {
     let (id, inside) = bracketed(text)?;
     let index = index_in(inside)?;

@@ -153,7 +153,7 @@ fn value_at<'a>(members: &'a Table, key: &str) -> Option<&'a Value>
 
 /// The first needed key that a rule does not have.
 fn first_absent(members: &Table) -> Option<&'static str>
-    ensures { let lacking = spec.absent spec.needed_keys (table_view members.now) in
+    ensures { let lacking = spec.absent_keys spec.needed_keys (table_view members.now) in
         MatchOption result (lacking ≡ []) (λ key. slice_get lacking 0 ≡ Some (Key key.now ∷ [])) }
 {
     if value_at(members, "access").is_none() {
@@ -169,8 +169,8 @@ fn first_absent(members: &Table) -> Option<&'static str>
 }
 
 fn check_absent(alloc: Global, members: &Table) -> Result<(), Misfit>
-    ensures none { OnOk result (spec.absent spec.needed_keys (table_view members.now) ≡ []) }
-    ensures first { IfErr result (TellsFirst (spec.absent spec.needed_keys (table_view members.now))) }
+    ensures none { OnOk result (spec.absent_keys spec.needed_keys (table_view members.now) ≡ []) }
+    ensures first { IfErr result (TellsFirst (spec.absent_keys spec.needed_keys (table_view members.now))) }
 {
     match first_absent(members) {
         Some(key) => Err(misfit_at(alloc, key)),

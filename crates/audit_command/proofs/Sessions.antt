@@ -9,7 +9,7 @@ use Rattle.board_bus.specs.Ranges.{refusal_of}
 use Rattle.board_node.specs.declared.spec.BoardSpec.{BoardSpec}
 use Rattle.board_node.specs.declared.spec.LinkSpec.{LinkSpec}
 use Rattle.board_node.specs.declared.spec.LinkSpec.TheVariants.{Sim, Udp}
-use Rattle.script_steps.specs.Rulings.{Asked, asked}
+use Rattle.script_steps.specs.Rulings.{Asked, asked_operations}
 use Rattle.script_steps.specs.declared.operation.Step.{Step}
 use Rattle.script_steps.specs.declared.operation.Step.TheVariants.{Do, Denied, Dispatch}
 use Rattle.script_lang.specs.Limits.{IsWithin, KeepsRules, LinkKeepsRules}
@@ -39,7 +39,7 @@ operations_count : (number : ℕ) (asks : List Asked) → length (operations_fro
 operations_count number [] = refl
 operations_count number (ask ∷ asks) = ap suc (operations_count (number + 1) asks)
 
-asked_few : (steps : List Step) → length (asked steps) ≤ length steps
+asked_few : (steps : List Step) → length (asked_operations steps) ≤ length steps
 asked_few [] = omega arith
 asked_few (Do op ∷ steps) = let few = asked_few steps in omega (arith, few)
 asked_few (Denied rule op ∷ steps) = let few = asked_few steps in omega (arith, few)
@@ -52,8 +52,8 @@ clients_few client (steps ∷ scripts) short =
     let few = clients_few (client + 1) scripts short.1 in
     let one = short.0 in
     let asks = asked_few steps in
-    let count = operations_count 1 (asked steps) in
-    let all = length-append (operations_from 1 (asked steps)) (clients_from (client + 1) scripts) in
+    let count = operations_count 1 (asked_operations steps) in
+    let all = length-append (operations_from 1 (asked_operations steps)) (clients_from (client + 1) scripts) in
     omega (arith, few, one, asks, count, all)
 
 -- a policy leaves as many scripts as there were

@@ -10,14 +10,14 @@ use Rattle.transaction_codec.specs.declared.request.Request.{Request}
 use Rattle.transaction_codec.specs.Request.{AreRequests, IsRequest, requests_words}
 use Rattle.world_model.proofs.Lists.{get_front}
 use Rattle.mtu_packer.specs.declared.packed.Piece.{Piece}
-use Rattle.mtu_packer.specs.Cutting.{cut}
+use Rattle.mtu_packer.specs.Cutting.{cut_pieces}
 use Rattle.mtu_packer.specs.Packing.{requests_from, body_requests, body_words, AreReadable}
-use Rattle.mtu_packer.specs.Packed.{piece_at, pieces_at, Contents, IsPacked, packed}
+use Rattle.mtu_packer.specs.Packed.{piece_at, pieces_at, Contents, IsPacked, packed_contents}
 use Rattle.script_steps.specs.declared.operation.RegOp.{RegOp}
 use Rattle.script_steps.specs.declared.operation.Step.{Step}
 use Rattle.script_steps.specs.declared.operation.Step.TheVariants.{Do, Denied, Dispatch}
 use Rattle.script_plans.specs.declared.planned.PieceAt.{PieceAt}
-use Rattle.script_plans.specs.Plan.{ClientBodies, no_bodies, moved, begun, dispatches, operations, ops_on, plan}
+use Rattle.script_plans.specs.Plan.{ClientBodies, no_bodies, piece_behind, into_next_dispatch, dispatches, operations, ops_on, plan}
 use Rattle.script_plans.specs.Plan.{with_dispatch, all_dispatches}
 use Rattle.board_history.proofs.Lists.{Both, all_at, both_append, both_map, both_same, get_back}
 use Rattle.board_history.proofs.Asking.{heads}
@@ -34,7 +34,7 @@ pub record IsRequested (bodies : List (List ℕ)) (one : Op) (body index : ℕ) 
 -- so of each piece of an operation, in packets of so many words
 abbrev pub AreRequested : List (List ℕ) → ℕ → Op → List PieceAt → Type 0
 AreRequested bodies payload op pieces =
-    Both (λ (one : Op) (p : PieceAt). IsRequested bodies one p.body p.index) (cut payload op) pieces
+    Both (λ (one : Op) (p : PieceAt). IsRequested bodies one p.body p.index) (cut_pieces payload op) pieces
 
 -- a number of a transaction has 12 bits
 pub low_index : (bodies : List (List ℕ)) (one : Op) (body index : ℕ) → IsRequested bodies one body index
@@ -72,7 +72,7 @@ requested_in parts readable body index one (Some part) is here =
 -- the same where pieces are counted within one packing
 abbrev ArePieces : List (List ℕ) → ℕ → Op → List Piece → Type 0
 ArePieces bodies payload op pieces =
-    Both (λ (one : Op) (p : Piece). IsRequested bodies one p.body p.index) (cut payload op) pieces
+    Both (λ (one : Op) (p : Piece). IsRequested bodies one p.body p.index) (cut_pieces payload op) pieces
 
 each_requested : (parts : List (List Op)) → AreReadable parts → (ones : List Op) (places : List Piece)
     → map (piece_at parts) places ≡ map Some ones
@@ -88,15 +88,15 @@ each_requested parts readable (one ∷ ones) (p ∷ ps) e =
 
 ops_requested : (parts : List (List Op)) → AreReadable parts → (payload : ℕ) (ops : List Op)
     (pieces : List (List Piece))
-    → map (pieces_at parts) pieces ≡ map (λ op. map Some (cut payload op)) ops
+    → map (pieces_at parts) pieces ≡ map (λ op. map Some (cut_pieces payload op)) ops
     → Both (ArePieces (map body_words parts) payload) ops pieces
 ops_requested parts readable payload [] [] e = tt
 ops_requested parts readable payload [] (ps ∷ pieces) e = absurd cc
 ops_requested parts readable payload (op ∷ ops) [] e = absurd cc
 ops_requested parts readable payload (op ∷ ops) (ps ∷ pieces) e =
-    let both = heads (pieces_at parts ps) (map Some (cut payload op)) (map (pieces_at parts) pieces)
-    (map (λ op. map Some (cut payload op)) ops) e in (
-      each_requested parts readable (cut payload op) ps both.head,
+    let both = heads (pieces_at parts ps) (map Some (cut_pieces payload op)) (map (pieces_at parts) pieces)
+    (map (λ op. map Some (cut_pieces payload op)) ops) e in (
+      each_requested parts readable (cut_pieces payload op) ps both.head,
       ops_requested parts readable payload ops pieces both.tail,
     )
 
@@ -131,38 +131,38 @@ module _ (bodies more : List (List ℕ)) where
       → AreRequested (bodies ++ more) payload op ps
   all_front payload op ps is =
       both_same (λ (one : Op) (p : PieceAt). IsRequested bodies one p.body p.index)
-      (λ (one : Op) (p : PieceAt). IsRequested (bodies ++ more) one p.body p.index) (cut payload op) ps
+      (λ (one : Op) (p : PieceAt). IsRequested (bodies ++ more) one p.body p.index) (cut_pieces payload op) ps
       requested_front is
 
   all_back : (payload : ℕ) (op : Op) (ps : List Piece) → ArePieces more payload op ps
-      → AreRequested (bodies ++ more) payload op (map (moved (length bodies)) ps)
+      → AreRequested (bodies ++ more) payload op (map (piece_behind (length bodies)) ps)
   all_back payload op ps is =
       both_map (λ (one : Op) (p : Piece). IsRequested more one p.body p.index)
-      (λ (one : Op) (p : PieceAt). IsRequested (bodies ++ more) one p.body p.index) (moved (length bodies))
-      (cut payload op) ps requested_back is
+      (λ (one : Op) (p : PieceAt). IsRequested (bodies ++ more) one p.body p.index) (piece_behind (length bodies))
+      (cut_pieces payload op) ps requested_back is
 
 dispatches_requested : (payload board : ℕ) (ds : List (List RegOp)) (all : ClientBodies) (ops : List Op)
-    → AllByRecursion (λ dispatch. IsPacked (ops_on board dispatch) payload (packed payload (ops_on board dispatch))) ds
+    → AllByRecursion (λ dispatch. IsPacked (ops_on board dispatch) payload (packed_contents payload (ops_on board dispatch))) ds
     → Both (AreRequested all.bodies payload) ops all.pieces
     → Both (AreRequested (fold with_dispatch all
-    (map (λ dispatch. packed payload (ops_on board dispatch)) ds)).bodies payload)
+    (map (λ dispatch. packed_contents payload (ops_on board dispatch)) ds)).bodies payload)
     (ops ++ flat_map (ops_on board) ds)
-    (fold with_dispatch all (map (λ dispatch. packed payload (ops_on board dispatch)) ds)).pieces
+    (fold with_dispatch all (map (λ dispatch. packed_contents payload (ops_on board dispatch)) ds)).pieces
 dispatches_requested payload board [] all ops is both =
     subst (λ (xs : List Op). Both (AreRequested all.bodies payload) xs all.pieces) (sym (append-nil ops)) both
 dispatches_requested payload board (d ∷ ds) all ops is both =
-    let c = packed payload (ops_on board d) in
+    let c = packed_contents payload (ops_on board d) in
     let next = with_dispatch all c in
     let here : Both (AreRequested next.bodies payload) (ops ++ ops_on board d) next.pieces =
     both_append (AreRequested next.bodies payload) ops all.pieces (ops_on board d)
-    (map (λ pieces. map (moved (length all.bodies)) pieces) c.pieces)
+    (map (λ pieces. map (piece_behind (length all.bodies)) pieces) c.pieces)
     (both_same (AreRequested all.bodies payload) (AreRequested next.bodies payload) ops all.pieces
     (λ op ps. all_front all.bodies c.bodies payload op ps) both)
     (both_map (ArePieces c.bodies payload) (AreRequested next.bodies payload)
-    (λ pieces. map (moved (length all.bodies)) pieces) (ops_on board d) c.pieces
+    (λ pieces. map (piece_behind (length all.bodies)) pieces) (ops_on board d) c.pieces
     (λ op ps. all_back all.bodies c.bodies payload op ps)
     (contents_requested payload (ops_on board d) c is.0)) in
-    let all_of = fold with_dispatch next (map (λ dispatch. packed payload (ops_on board dispatch)) ds) in
+    let all_of = fold with_dispatch next (map (λ dispatch. packed_contents payload (ops_on board dispatch)) ds) in
     subst (λ (xs : List Op). Both (AreRequested all_of.bodies payload) xs all_of.pieces)
     (append_assoc ops (ops_on board d) (flat_map (ops_on board) ds))
     (dispatches_requested payload board ds next (ops ++ ops_on board d) is.1 here)
@@ -178,7 +178,7 @@ one_and_more board op ops =
     ]
 
 begun_ops : (board : ℕ) (op : RegOp) (ds : List (List RegOp))
-    → flat_map (ops_on board) (begun op ds) ≡ ops_on board (op ∷ []) ++ flat_map (ops_on board) ds
+    → flat_map (ops_on board) (into_next_dispatch op ds) ≡ ops_on board (op ∷ []) ++ flat_map (ops_on board) ds
 begun_ops board op [] = refl
 begun_ops board op (d ∷ later) =
     ap (λ (xs : List Op). xs ++ flat_map (ops_on board) later) (one_and_more board op d)
@@ -195,7 +195,7 @@ ops_dispatched board (Denied rule op ∷ steps) = ops_dispatched board steps
 ops_dispatched board (Dispatch ∷ steps) = ops_dispatched board steps
 
 pub plan_requested : (payload board : ℕ) (steps : List Step)
-    → AllByRecursion (λ dispatch. IsPacked (ops_on board dispatch) payload (packed payload (ops_on board dispatch)))
+    → AllByRecursion (λ dispatch. IsPacked (ops_on board dispatch) payload (packed_contents payload (ops_on board dispatch)))
     (dispatches steps)
     → Both (AreRequested (all_dispatches (plan payload board steps)).bodies payload)
     (ops_on board (operations steps)) (all_dispatches (plan payload board steps)).pieces

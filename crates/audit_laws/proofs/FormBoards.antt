@@ -10,7 +10,7 @@ use Rattle.std.proofs.lemmas.Option.{same_Some, slice_get-map, slice_get_cases}
 use Rattle.transaction_codec.specs.declared.request.Op.{Op}
 use Rattle.transaction_codec.specs.declared.request.Op.TheVariants as ops
 use Rattle.transaction_codec.specs.Request.{op_count}
-use Rattle.mtu_packer.specs.Cutting.{CanBeCut, cut, piece_count, piece_limit}
+use Rattle.mtu_packer.specs.Cutting.{CanBeCut, cut_pieces, piece_count, piece_limit}
 use Rattle.mtu_packer.proofs.Pieces.{piece_limit-some}
 use Rattle.board_bus.specs.Cells.{HoldsWords}
 use Rattle.board_bus.proofs.Openings.{opening-words}
@@ -24,7 +24,7 @@ use Rattle.script_steps.specs.declared.operation.RegOp.{RegOp}
 use Rattle.script_steps.specs.declared.operation.Step.{Step}
 use Rattle.script_steps.specs.Executable.{AreExecutable}
 use Rattle.script_steps.specs.Packing.{HaveFewPieces}
-use Rattle.script_steps.specs.Rulings.{Asked, allowed, asked}
+use Rattle.script_steps.specs.Rulings.{Asked, allowed_operations, asked_operations}
 use Rattle.script_plans.specs.declared.greeting.Greeting.{Greeting}
 use Rattle.script_plans.specs.declared.greeting.Greeting.TheVariants.{Live, Silent, Down}
 use Rattle.script_plans.specs.declared.planned.PieceAt.{PieceAt}
@@ -42,7 +42,7 @@ use Rattle.transcript_reader.specs.Results.{CanShowLive, CanShowUnless}
 use Rattle.transcript_reader.specs.Shown.{greeting_in, greetings_in}
 use Rattle.board_history.specs.History.{bodies_by_client, outcomes_by_client}
 use Rattle.board_history.specs.Order.{order}
-use Rattle.board_history.specs.Runs.{greeting_of, opening_of}
+use Rattle.board_history.specs.Runs.{greeting_of, opens_with}
 use Rattle.board_history.proofs.Lists.{all_at, both_at}
 use Rattle.board_history.proofs.Asking.{op_at}
 use Rattle.board_history.proofs.Spelled.{Spelling, parts_spelled}
@@ -87,7 +87,7 @@ payload_here (Sim mtu buffers first ranges fates) payload here packets = record 
 }
 payload_here (Udp address port wait) payload here packets = absurd here
 
-opens : (link : LinkSpec) → IsLinkHere link → LinkNamesWords link → HoldsWords (opening_of link)
+opens : (link : LinkSpec) → IsLinkHere link → LinkNamesWords link → HoldsWords (opens_with link)
 opens (Sim mtu buffers first ranges fates) here words = opening-words ranges words
 opens (Udp address port wait) here words = absurd here
 
@@ -174,7 +174,7 @@ module _ (laws : Laws) (settings : Limits) (few_rounds : settings.rounds < 2 ^ 8
       subst (IsAsTold settings spec run link) greeted over.as_told in
       let is = payload_here spec.link payload here live.any_link.packets in
       let there = told_there link.telling tells in
-      let true' = at_some (IsTrueRun settings (opening_of spec.link) run link.held) (board_there link.telling)
+      let true' = at_some (IsTrueRun settings (opens_with spec.link) run link.held) (board_there link.telling)
       there.0 there.1 live.told in
       let plans : map (λ (p : ClientPart). p.planned) run.parts ≡ plans_on board (Live payload) scripts =
       over.scripts'.plans ∙ ap (λ (g : Greeting). plans_on board g scripts) greeted in
@@ -189,7 +189,7 @@ module _ (laws : Laws) (settings : Limits) (few_rounds : settings.rounds < 2 ^ 8
         told = is.told;
         plans = plans;
         packed' = packed;
-        fits = board_fits laws.answering (opening_of spec.link) settings.rounds (length (outcomes_on run)) run.parts
+        fits = board_fits laws.answering (opens_with spec.link) settings.rounds (length (outcomes_on run)) run.parts
             (opens spec.link here words) few_rounds few asks shape live.any_link.one_order
             (omega (arith, sent, laws.sends run shape)) true'.replies true'.late live.any_link.tells;
         few = few;
@@ -294,7 +294,7 @@ module _ (laws : Laws) (scripts : List (List Step)) where
       subst (λ (p : ClientBodies). HasPieces p payload k op.op) (sym found.2)
       (record { pieces = both.0; at' = both.1; requested = both.2 }) in
       let fits = all_at IsFitPart run.parts client part live.fits found.1 in
-      let shows = pieces_show laws.each_is laws.joins part fits (cut payload op.op) has.pieces has.requested in
+      let shows = pieces_show laws.each_is laws.joins part fits (cut_pieces payload op.op) has.pieces has.requested in
       let shown : CanShowLive payload op (by_pieces part op (Some has.pieces)) =
       pieces_can_show (piece_result (ends_of part)) (piece_place (ends_of part)) payload op has.pieces live.low
       (some_pieces payload op.op live.low can) shows in
@@ -316,11 +316,11 @@ module _ (laws : Laws) (scripts : List (List Step)) where
       (op : RegOp) (denied : Option ℕ)
       → ((payload : ℕ) → run.greeting ≡ Live payload → IsLive spec op.board scripts run payload)
       → slice_get scripts client ≡ Some steps
-      → before ++ record { op = op; denied = denied } ∷ later ≡ asked steps → CutUnlessDenied op denied
+      → before ++ record { op = op; denied = denied } ∷ later ≡ asked_operations steps → CutUnlessDenied op denied
       → CanShowUnless denied (greeting_in spec (board_line run)) op (shown_behind run client before op denied)
   ask_can spec run client steps before later op None live at same can =
       let ask : Asked = record { op = op; denied = None } in
-      let ops : allowed before ++ op ∷ allowed later ≡ operations steps =
-      sym (allowed-append before (ask ∷ later)) ∙ (ap allowed same ∙ asked_allowed steps) in
-      told_can spec run client steps (allowed before) (allowed later) op run.greeting refl live at ops can
+      let ops : allowed_operations before ++ op ∷ allowed_operations later ≡ operations steps =
+      sym (allowed-append before (ask ∷ later)) ∙ (ap allowed_operations same ∙ asked_allowed steps) in
+      told_can spec run client steps (allowed_operations before) (allowed_operations later) op run.greeting refl live at ops can
   ask_can spec run client steps before later op (Some rule) live at same can = refl

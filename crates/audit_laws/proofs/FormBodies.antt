@@ -6,9 +6,9 @@ use Rattle.std.proofs.lemmas.Bool.{cases_Bool}
 use Rattle.std.proofs.lemmas.Grind.{flat_map-append}
 use Rattle.std.proofs.lemmas.List.{length-map}
 use Rattle.transaction_codec.specs.declared.request.Op.{Op}
-use Rattle.mtu_packer.specs.Cutting.{cut}
+use Rattle.mtu_packer.specs.Cutting.{cut_pieces}
 use Rattle.mtu_packer.specs.Packing.{body_words, parts_from, parts_in, parts_of, takes}
-use Rattle.mtu_packer.specs.Packed.{packed}
+use Rattle.mtu_packer.specs.Packed.{packed_contents}
 use Rattle.script_steps.specs.declared.operation.RegOp.{RegOp}
 use Rattle.script_steps.specs.declared.operation.Step.{Step}
 use Rattle.script_steps.specs.declared.operation.Step.TheVariants.{Do, Denied, Dispatch}
@@ -37,19 +37,19 @@ few_parts payload [] = omega arith
 few_parts payload (op ∷ pieces) = omega (arith, dealt payload (op ∷ []) pieces)
 
 few_from : (payload board : ℕ) (ds : List (List RegOp)) (all : ClientBodies)
-    → length (fold with_dispatch all (map (λ dispatch. packed payload (ops_on board dispatch)) ds)).bodies
-    ≤ length all.bodies + length (flat_map (cut payload) (flat_map (ops_on board) ds))
+    → length (fold with_dispatch all (map (λ dispatch. packed_contents payload (ops_on board dispatch)) ds)).bodies
+    ≤ length all.bodies + length (flat_map (cut_pieces payload) (flat_map (ops_on board) ds))
 few_from payload board [] all = omega arith
 few_from payload board (d ∷ ds) all =
-    let here = packed payload (ops_on board d) in
+    let here = packed_contents payload (ops_on board d) in
     omega (
       arith,
       few_from payload board ds (with_dispatch all here),
       length-append all.bodies here.bodies,
       length-map (parts_of payload (ops_on board d)) body_words,
-      few_parts payload (flat_map (cut payload) (ops_on board d)),
-      ap length (flat_map-append (cut payload) (ops_on board d) (flat_map (ops_on board) ds)),
-      length-append (flat_map (cut payload) (ops_on board d)) (flat_map (cut payload) (flat_map (ops_on board) ds)),
+      few_parts payload (flat_map (cut_pieces payload) (ops_on board d)),
+      ap length (flat_map-append (cut_pieces payload) (ops_on board d) (flat_map (ops_on board) ds)),
+      length-append (flat_map (cut_pieces payload) (ops_on board d)) (flat_map (cut_pieces payload) (flat_map (ops_on board) ds)),
     )
 
 -- ---- those on one board are some of all
@@ -75,7 +75,7 @@ client_few payload board steps low few =
     omega (
       arith,
       few_from payload board (dispatches steps) no_bodies,
-      ap (λ (xs : List Op). length (flat_map (cut payload) xs)) (ops_dispatched board steps),
+      ap (λ (xs : List Op). length (flat_map (cut_pieces payload) xs)) (ops_dispatched board steps),
       few (ops_on board (operations steps)) payload (selected board steps) low,
     )
 

@@ -10,7 +10,7 @@ use Rattle.script_steps.specs.declared.operation.RegOp.{RegOp}
 use Rattle.script_steps.specs.declared.operation.Step.{Step}
 use Rattle.script_steps.specs.declared.operation.Step.TheVariants.{Do, Denied, Dispatch}
 use Rattle.script_steps.specs.Executable.{AreExecutable, CanBeDone}
-use Rattle.script_steps.specs.Rulings.{Asked, asked, asked_in}
+use Rattle.script_steps.specs.Rulings.{Asked, asked_operations, asked_in}
 use Rattle.script_plans.specs.declared.greeting.Greeting.{Greeting}
 use Rattle.script_plans.specs.declared.board_run.BoardRun.{BoardRun}
 use Rattle.transcript.specs.declared.line.OpLine.{OpLine}
@@ -37,9 +37,9 @@ step_cut (Do op) asks can all = (can.cut', all)
 step_cut (Denied rule op) asks can all = (tt, all)
 step_cut Dispatch asks can all = all
 
-steps_cut : (steps : List Step) → AreExecutable steps → AllByRecursion IsCut (asked steps)
+steps_cut : (steps : List Step) → AreExecutable steps → AllByRecursion IsCut (asked_operations steps)
 steps_cut [] can = tt
-steps_cut (step ∷ steps) can = step_cut step (asked steps) can.0 (steps_cut steps can.1)
+steps_cut (step ∷ steps) can = step_cut step (asked_operations steps) can.0 (steps_cut steps can.1)
 
 -- ---- operations on boards that are there
 
@@ -73,10 +73,10 @@ module _ (runs : List BoardRun) (client : ℕ) where
 
 -- a client's lines show a rule or none for each operation
 client_there : (runs : List BoardRun) (client : ℕ) (steps : List Step)
-    → rules_shown (client_lines runs client steps) ≡ rules_of steps → AllByRecursion (IsThere runs) (asked steps)
+    → rules_shown (client_lines runs client steps) ≡ rules_of steps → AllByRecursion (IsThere runs) (asked_operations steps)
 client_there runs client steps same =
-    all_there runs client [] (asked steps)
-    (sym (length-map (client_lines runs client steps) _) ∙ ap length same ∙ length-map (asked steps) _)
+    all_there runs client [] (asked_operations steps)
+    (sym (length-map (client_lines runs client steps) _) ∙ ap length same ∙ length-map (asked_operations steps) _)
 
 -- ---- the lines are those of what they show
 
@@ -112,11 +112,11 @@ module _ (boards : List BoardSpec) (runs : List BoardRun)
   clients_are client (steps ∷ scripts) same =
       let both = heads (rules_shown (client_lines runs client steps)) (rules_of steps)
       (map rules_shown (lines_from runs (client + 1) scripts)) (map rules_of scripts) same in
-      let here = lines_are client [] (asked steps) (client_there runs client steps both.head) in
+      let here = lines_are client [] (asked_operations steps) (client_there runs client steps both.head) in
       let rest = lines_from runs (client + 1) scripts in
       ap (λ (first : List OpLine). first ∷ rest) here
       ∙ ap (λ (others : List (List OpLine)).
-      lines_under boards 1 (asked steps) (map showing_in (client_lines runs client steps)) ∷ others)
+      lines_under boards 1 (asked_operations steps) (map showing_in (client_lines runs client steps)) ∷ others)
       (clients_are (client + 1) scripts both.tail)
 
 -- ---- each operation shows what it can
@@ -125,13 +125,13 @@ module _ (boards : List BoardSpec) (runs : List BoardRun)
 abbrev pub Look : List Greeting → List (List Step) → List BoardRun → Type 0
 Look told scripts runs =
     (client : ℕ) (steps : List Step) (before later : List Asked) (ask : Asked) (run : BoardRun)
-    → slice_get scripts client ≡ Some steps → before ++ ask ∷ later ≡ asked steps → IsCut ask
+    → slice_get scripts client ≡ Some steps → before ++ ask ∷ later ≡ asked_operations steps → IsCut ask
     → slice_get runs ask.op.board ≡ Some run → CanShowIn told ask (shown_behind run client before ask.op ask.denied)
 
 module _ (told : List Greeting) (scripts : List (List Step)) (runs : List BoardRun) (look : Look told scripts runs)
   where
     lines_can : (client : ℕ) (steps : List Step) → slice_get scripts client ≡ Some steps → (before asks : List Asked)
-        → before ++ asks ≡ asked steps → AllByRecursion IsCut asks → AllByRecursion (IsThere runs) asks
+        → before ++ asks ≡ asked_operations steps → AllByRecursion IsCut asks → AllByRecursion (IsThere runs) asks
         → AllZip (CanShowIn told) asks (map showing_in (lines_behind runs client before asks))
     lines_can client steps at before [] same cut there = tt
     lines_can client steps at before (ask ∷ asks) same cut there =
@@ -151,7 +151,7 @@ module _ (told : List Greeting) (scripts : List (List Step)) (runs : List BoardR
         (map rules_shown (lines_from runs (client + 1) rest)) (map rules_of rest) same in
         let first : client + 0 ≡ client = omega arith in (
           lines_can client steps (subst (λ (c : ℕ). slice_get scripts c ≡ Some steps) first (at 0 steps refl)) []
-              (asked steps) refl (steps_cut steps can.0) (client_there runs client steps both.head),
+              (asked_operations steps) refl (steps_cut steps can.0) (client_there runs client steps both.head),
           clients_can (client + 1) rest
               (λ j s h.
               let next : client + suc j ≡ client + 1 + j = omega arith in

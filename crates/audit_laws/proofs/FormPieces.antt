@@ -32,7 +32,7 @@ use Rattle.transcript.specs.declared.line.OpResult.{OpResult}
 use Rattle.transcript.specs.declared.line.OpResult.TheVariants.{Value, Done, Was, Error, Skipped, TimedOut, Late}
 use Rattle.transcript.specs.declared.line.OpResult.TheVariants.{Unsent, LinkLost, Garbled, Denied}
 use Rattle.transcript.specs.Claims.{HasWordsLate, IsByte, IsInRange, IsPrinted, IsPrintedLate, IsPrintedPlace}
-use Rattle.transcript.specs.Ends.{answered, end_of, ends_of, late_at, late_of, piece_place, piece_result, place_at}
+use Rattle.transcript.specs.Ends.{answer_result, end_of, ends_of, late_at, late_of, piece_place, piece_result, place_at}
 use Rattle.transcript.specs.Ends.{place_in, result_in, told_at, told_by, told_of}
 use Rattle.transcript.proofs.EndsInOrder.{ends_at}
 use Rattle.transcript_reader.specs.Results.{IsPlaceless}
@@ -133,7 +133,7 @@ pub record IsTold (one : Op) (r : OpResult) : Type 0 where
   pub other : r ≢ Unsent
 
 answer_told : (tid : ℕ) (one : Op) (a : Answer) → IsAnswerTo (record { tid = tid; op = one }) a → IsFitAnswer a
-    → IsTold one (answered (Some a))
+    → IsTold one (answer_result (Some a))
 answer_told tid one (answer.Values words) is fits =
     let same = is.1 ∙ read_count one is.0 in
     record { came = same; late = same; printed = fits; printed_late = fits; other = λ e. absurd cc }
@@ -163,7 +163,7 @@ Joins = (body reply : List ℕ) (list : List Answer) → AreWords body → AreWo
 module _ (each_is : EachIsThat) (joins : Joins) (requests : List Request) (ranges : AreRequests requests)
     (one : Op) (index : ℕ) (at : slice_get requests index ≡ Some (record { tid = index; op = one })) where
   at_index : (words : List ℕ) (list : List Answer) → IsJoined (requests_words requests) words list
-      → IsTold one (answered (slice_get list index))
+      → IsTold one (answer_result (slice_get list index))
   at_index words list joined =
       elim (slice_get_cases list index).1 [
         | inl (a, within, there, again) ↦

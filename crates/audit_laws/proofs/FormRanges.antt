@@ -19,7 +19,7 @@ use Rattle.lane_record.specs.Outcomes.{TellsRounds, place_of}
 use Rattle.lane_record.specs.Lists.{CountsFrom}
 use Rattle.script_plans.specs.declared.board_run.ClientPart.{ClientPart}
 use Rattle.transcript.specs.Claims.{HasWordsLate, IsInRange}
-use Rattle.board_history.specs.Order.{Placed, all_placed, bodies_of, by_place, places_of, placed, with_place}
+use Rattle.board_history.specs.Order.{Placed, all_placed, bodies_in, by_place, places_of, bodies_with_places, with_place}
 use Rattle.board_history.specs.Parts.{AreBeside, IsLateReplyOf, IsReplyOf}
 use Rattle.board_history.specs.Answering.{AsksRequests}
 use Rattle.board_history.proofs.Answering.{spelled_words}
@@ -60,15 +60,15 @@ place_words body None words = tt
 place_words body (Some place) words = (words, tt)
 
 client_words : (bodies : List (List ℕ)) (outcomes : List Outcome) → AllByRecursion SpellsRequests bodies
-    → AllByRecursion HasBody (placed bodies outcomes)
+    → AllByRecursion HasBody (bodies_with_places bodies outcomes)
 client_words [] outcomes spelled = tt
 client_words (b ∷ bodies) [] spelled = tt
 client_words (b ∷ bodies) (o ∷ outcomes) spelled = AllByRecursion-append HasBody (with_place b (place_of o))
-    (placed bodies outcomes) (place_words b (place_of o) (spelled_words b spelled.0))
+    (bodies_with_places bodies outcomes) (place_words b (place_of o) (spelled_words b spelled.0))
     (client_words bodies outcomes spelled.1)
 
-abbrev bodies_in : List ClientPart → List (List (List ℕ))
-bodies_in parts = map (λ (p : ClientPart). p.planned.bodies) parts
+abbrev bodies_of_parts : List ClientPart → List (List (List ℕ))
+bodies_of_parts parts = map (λ (p : ClientPart). p.planned.bodies) parts
 
 abbrev outcomes_in : List ClientPart → List (List Outcome)
 outcomes_in parts = map (λ (p : ClientPart). p.outcomes) parts
@@ -77,13 +77,13 @@ abbrev lates_in : List ClientPart → List (List (Option (List ℕ)))
 lates_in parts = map (λ (p : ClientPart). p.lates) parts
 
 all_words : (parts : List ClientPart) → AllByRecursion AsksRequests parts
-    → AllByRecursion HasBody (all_placed (bodies_in parts) (outcomes_in parts))
+    → AllByRecursion HasBody (all_placed (bodies_of_parts parts) (outcomes_in parts))
 all_words [] asks = tt
-all_words (p ∷ parts) asks = AllByRecursion-append HasBody (placed p.planned.bodies p.outcomes)
-    (all_placed (bodies_in parts) (outcomes_in parts)) (client_words p.planned.bodies p.outcomes asks.0)
+all_words (p ∷ parts) asks = AllByRecursion-append HasBody (bodies_with_places p.planned.bodies p.outcomes)
+    (all_placed (bodies_of_parts parts) (outcomes_in parts)) (client_words p.planned.bodies p.outcomes asks.0)
     (all_words parts asks.1)
 
-words_of : (ps : List Placed) → AllByRecursion HasBody ps → AllByRecursion AreWords (bodies_of ps)
+words_of : (ps : List Placed) → AllByRecursion HasBody ps → AllByRecursion AreWords (bodies_in ps)
 words_of [] all = tt
 words_of (p ∷ ps) all = (all.0, words_of ps all.1)
 
@@ -132,14 +132,14 @@ module _ (rounds : ℕ) (few_rounds : rounds < 2 ^ 8) (most : ℕ) (few : most <
   -- ---- the bodies of a client
 
   outcomes_fit : (bodies : List (List ℕ)) (outcomes : List Outcome) → length outcomes ≡ length bodies
-      → AllByRecursion (IsUpTo most) (placed bodies outcomes) → AllByRecursion (IsReplyOf replies) outcomes
+      → AllByRecursion (IsUpTo most) (bodies_with_places bodies outcomes) → AllByRecursion (IsReplyOf replies) outcomes
       → AllByRecursion (TellsRounds rounds) outcomes → AllByRecursion IsInRange outcomes
   outcomes_fit bodies [] long low is tells = tt
   outcomes_fit [] (o ∷ outcomes) long low is tells = absurd (omega (arith, long))
   outcomes_fit (b ∷ bodies) (o ∷ outcomes) long low is tells = (
-    outcome_fits b o (front_of_all (IsUpTo most) (with_place b (place_of o)) (placed bodies outcomes) low) is.0 tells.0,
+    outcome_fits b o (front_of_all (IsUpTo most) (with_place b (place_of o)) (bodies_with_places bodies outcomes) low) is.0 tells.0,
     outcomes_fit bodies outcomes (omega (arith, long))
-        (back_of_all (IsUpTo most) (with_place b (place_of o)) (placed bodies outcomes) low) is.1 tells.1,
+        (back_of_all (IsUpTo most) (with_place b (place_of o)) (bodies_with_places bodies outcomes) low) is.1 tells.1,
   )
 
   lates_fit : (outcomes : List Outcome) (lates : List (Option (List ℕ)))
@@ -152,14 +152,14 @@ module _ (rounds : ℕ) (few_rounds : rounds < 2 ^ 8) (most : ℕ) (few : most <
 
   parts_fit : (parts : List ClientPart)
       → AllByRecursion (λ (p : ClientPart). length p.outcomes ≡ length p.planned.bodies) parts
-      → AllByRecursion (IsUpTo most) (all_placed (bodies_in parts) (outcomes_in parts))
+      → AllByRecursion (IsUpTo most) (all_placed (bodies_of_parts parts) (outcomes_in parts))
       → AllByRecursion (AllByRecursion (IsReplyOf replies)) (outcomes_in parts)
       → AreBeside (AreBeside (IsLateReplyOf replies)) (outcomes_in parts) (lates_in parts)
       → AllByRecursion (AllByRecursion (TellsRounds rounds)) (outcomes_in parts) → AllByRecursion IsFitPart parts
   parts_fit [] long low is late tells = tt
   parts_fit (p ∷ parts) long low is late tells =
-      let mine = placed p.planned.bodies p.outcomes in
-      let rest = all_placed (bodies_in parts) (outcomes_in parts) in (
+      let mine = bodies_with_places p.planned.bodies p.outcomes in
+      let rest = all_placed (bodies_of_parts parts) (outcomes_in parts) in (
         record {
           long = long.0;
           outcomes' = outcomes_fit p.planned.bodies p.outcomes long.0 (front_of_all (IsUpTo most) mine rest low) is.0
@@ -172,12 +172,12 @@ module _ (rounds : ℕ) (few_rounds : rounds < 2 ^ 8) (most : ℕ) (few : most <
 -- ---- of a board
 
 -- what each body of a client came to, by how many there are
-pub each_long : (parts : List ClientPart) → map length (outcomes_in parts) ≡ map length (bodies_in parts)
+pub each_long : (parts : List ClientPart) → map length (outcomes_in parts) ≡ map length (bodies_of_parts parts)
     → AllByRecursion (λ (p : ClientPart). length p.outcomes ≡ length p.planned.bodies) parts
 each_long [] same = tt
 each_long (p ∷ parts) same =
     let both = heads (length p.outcomes) (length p.planned.bodies) (map length (outcomes_in parts))
-    (map length (bodies_in parts)) same in
+    (map length (bodies_of_parts parts)) same in
     (both.head, each_long parts both.tail)
 
 -- the bus that opens with words answers words
@@ -187,19 +187,19 @@ AnsweringEach = (cells : CellMap) (bodies : List (List ℕ)) → HoldsWords cell
 
 pub board_fits : AnsweringEach → (opening : CellMap) (rounds most : ℕ) (parts : List ClientPart) → HoldsWords opening
     → rounds < 2 ^ 8 → most < 2 ^ 64 → AllByRecursion AsksRequests parts
-    → map length (outcomes_in parts) ≡ map length (bodies_in parts)
-    → CountsFrom 1 (places_of (by_place (all_placed (bodies_in parts) (outcomes_in parts))))
-    → length (by_place (all_placed (bodies_in parts) (outcomes_in parts))) ≤ most
+    → map length (outcomes_in parts) ≡ map length (bodies_of_parts parts)
+    → CountsFrom 1 (places_of (by_place (all_placed (bodies_of_parts parts) (outcomes_in parts))))
+    → length (by_place (all_placed (bodies_of_parts parts) (outcomes_in parts))) ≤ most
     → AllByRecursion (AllByRecursion (IsReplyOf
-    (replay opening (bodies_of (by_place (all_placed (bodies_in parts) (outcomes_in parts))))).replies))
+    (replay opening (bodies_in (by_place (all_placed (bodies_of_parts parts) (outcomes_in parts))))).replies))
     (outcomes_in parts)
     → AreBeside (AreBeside (IsLateReplyOf
-    (replay opening (bodies_of (by_place (all_placed (bodies_in parts) (outcomes_in parts))))).replies))
+    (replay opening (bodies_in (by_place (all_placed (bodies_of_parts parts) (outcomes_in parts))))).replies))
     (outcomes_in parts) (lates_in parts)
     → AllByRecursion (AllByRecursion (TellsRounds rounds)) (outcomes_in parts) → AllByRecursion IsFitPart parts
 board_fits answering opening rounds most parts holds few_rounds few asks same counts low replies late tells =
-    let all = all_placed (bodies_in parts) (outcomes_in parts) in
-    let bodies = bodies_of (by_place all) in
+    let all = all_placed (bodies_of_parts parts) (outcomes_in parts) in
+    let bodies = bodies_in (by_place all) in
     let are = words_of (by_place all) (all_sorted HasBody all (all_words parts asks)) in
     let words = answers_words bodies (replay opening bodies).replies (answering opening bodies holds are) in
     parts_fit rounds few_rounds most few (replay opening bodies).replies words parts (each_long parts same)

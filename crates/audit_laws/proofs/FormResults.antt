@@ -14,7 +14,7 @@ use Rattle.std.proofs.lemmas.List.Sums.{sum_by-cons}
 use Rattle.ipb_base.specs.Word.{IsWord, AreWords}
 use Rattle.ipb_base.proofs.AllLemmas.{AllByRecursion-append}
 use Rattle.masked_fields.specs.Field.{field, shift}
-use Rattle.mtu_packer.specs.Cutting.{cut, piece, piece_count}
+use Rattle.mtu_packer.specs.Cutting.{cut_pieces, piece, piece_count}
 use Rattle.mtu_packer.proofs.AnyLemmas.{any_at}
 use Rattle.mtu_packer.proofs.Asking.{cut_count}
 use Rattle.mtu_packer.proofs.Pieces.{length-cut}
@@ -33,7 +33,7 @@ use Rattle.transcript.specs.declared.line.OpResult.TheVariants.{Value, Done, Was
 use Rattle.transcript.specs.declared.line.OpResult.TheVariants.{Unsent, LinkLost, Garbled, Denied}
 use Rattle.transcript.specs.Claims.{IsPrinted, IsPrintedLate, IsPrintedPlace}
 use Rattle.transcript.specs.Ends.{late_of}
-use Rattle.transcript.specs.Results.{combined, first_not_done, is_good, shown, shown_late, shown_not_done, values_in}
+use Rattle.transcript.specs.Results.{combined_result, first_not_done, is_good, shown_result, shown_late, shown_not_done, values_in}
 use Rattle.transcript.specs.Results.{word_before}
 use Rattle.transcript_reader.specs.Results.{CanBeLate, CanComeTo, CanRead, CanShowLive, IsPlaceless, ShowsWord}
 use Rattle.board_history.proofs.Lists.{Both}
@@ -65,14 +65,14 @@ module _ (payload : ℕ) (low : 16 ≤ payload) (op : Op) where
   numbers = range_with_len 0 (piece_count payload op)
 
   by_count : ((k : ℕ) → values_done (piece payload op k) ≡ op_count (piece payload op k))
-      → sum_by values_done (cut payload op) ≡ op_count op
+      → sum_by values_done (cut_pieces payload op) ≡ op_count op
   by_count same = same_sum payload op values_done op_count same numbers ∙ cut_count payload op low
 
-  by_none : ((k : ℕ) → values_done (piece payload op k) ≡ 0) → sum_by values_done (cut payload op) ≡ 0
+  by_none : ((k : ℕ) → values_done (piece payload op k) ≡ 0) → sum_by values_done (cut_pieces payload op) ≡ 0
   by_none none = no_sum payload op values_done none numbers
 
 -- the pieces answer as many words as the operation
-pub done_count : (payload : ℕ) (op : Op) → 16 ≤ payload → sum_by values_done (cut payload op) ≡ values_done op
+pub done_count : (payload : ℕ) (op : Op) → 16 ≤ payload → sum_by values_done (cut_pieces payload op) ≡ values_done op
 done_count payload (ops.Read base count) low = by_count payload low (ops.Read base count) (λ k. refl)
 done_count payload (ops.ReadPort base count) low = by_count payload low (ops.ReadPort base count) (λ k. refl)
 done_count payload (ops.Write base words) low = by_none payload low (ops.Write base words) (λ k. refl)
@@ -93,7 +93,7 @@ abbrev with_verb : RegOp → Verb → RegOp
 with_verb op verb = record op { verb = verb }
 
 shown_words : (payload : ℕ) (op : RegOp) (verb : Verb) (words : List ℕ) → length words ≡ values_done op.op
-    → AreWords words → CanComeTo payload (with_verb op verb) (shown verb op.mask words)
+    → AreWords words → CanComeTo payload (with_verb op verb) (shown_result verb op.mask words)
 shown_words payload op Read words long fits =
     (tt, length-map words (λ word. field word op.mask) ∙ long, fields_show op.mask words fits)
 shown_words payload op Write words long fits = tt
@@ -105,7 +105,7 @@ shown_words payload op RmwSum [] long fits = tt
 shown_words payload op RmwSum (word ∷ words) long fits = tt
 
 late_words : (payload : ℕ) (op : RegOp) (verb : Verb) (words : List ℕ) → CanRead payload op.op (length words)
-    → AreWords words → CanBeLate payload (with_verb op verb) (late_of (shown verb op.mask words))
+    → AreWords words → CanBeLate payload (with_verb op verb) (late_of (shown_result verb op.mask words))
 late_words payload op Read words can fits = (
   tt,
   subst (CanRead payload op.op) (sym (length-map words (λ word. field word op.mask))) can,
@@ -121,9 +121,9 @@ late_words payload op RmwSum (word ∷ words) can fits = tt
 
 -- ---- a piece that was not done, among those of the operation
 
-module _ (payload : ℕ) (op : RegOp) (k : ℕ) (one : Op) (at : slice_get (cut payload op.op) k ≡ Some one) where
-  among : (P : Op → Type 0) → P one → Any P (cut payload op.op)
-  among P holds = any_at P (cut payload op.op) k one at holds
+module _ (payload : ℕ) (op : RegOp) (k : ℕ) (one : Op) (at : slice_get (cut_pieces payload op.op) k ≡ Some one) where
+  among : (P : Op → Type 0) → P one → Any P (cut_pieces payload op.op)
+  among P holds = any_at P (cut_pieces payload op.op) k one at holds
 
   late_shows : (answer : LateAnswer) → CameLate one answer → IsPrintedLate answer
       → CanBeLate payload op (shown_late op.verb op.mask answer)
@@ -189,7 +189,7 @@ fields_fit : (words : List ℕ) (mask : ℕ) → AreWords words → AreWords (ma
 fields_fit [] mask fits = tt
 fields_fit (word ∷ words) mask fits = (field_fits word mask fits.0, fields_fit words mask fits.1)
 
-words_printed : (verb : Verb) (mask : ℕ) (words : List ℕ) → AreWords words → IsPrinted (shown verb mask words)
+words_printed : (verb : Verb) (mask : ℕ) (words : List ℕ) → AreWords words → IsPrinted (shown_result verb mask words)
 words_printed Read mask words fits = fields_fit words mask fits
 words_printed Write mask words fits = tt
 words_printed ReadBlock mask words fits = fits
@@ -210,9 +210,9 @@ late_printed other fits = tt
 answer_printed : (verb : Verb) (mask : ℕ) (answer : LateAnswer) → IsPrintedLate answer
     → IsPrintedLate (shown_late verb mask answer)
 answer_printed verb mask (late_answer.Value words) fits =
-    late_printed (shown verb mask words) (words_printed verb mask words fits)
+    late_printed (shown_result verb mask words) (words_printed verb mask words fits)
 answer_printed verb mask late_answer.Done fits =
-    late_printed (shown verb mask []) (words_printed verb mask [] tt)
+    late_printed (shown_result verb mask []) (words_printed verb mask [] tt)
 answer_printed verb mask other fits = fits
 
 not_done_printed : (verb : Verb) (mask : ℕ) (r : OpResult) → IsPrinted r → IsPrinted (shown_not_done verb mask r)
@@ -295,29 +295,29 @@ module _ (f : PieceAt → OpResult) (g : PieceAt → List (ℕ × ℕ)) where
   -- ---- what the operation shows
 
   module _ (payload : ℕ) (low : 16 ≤ payload) (op : RegOp) (pieces : List PieceAt)
-      (shows : ShowEach (cut payload op.op) pieces) where
+      (shows : ShowEach (cut_pieces payload op.op) pieces) where
     comes_by : (found : Option OpResult) → first_not_done (map f pieces) ≡ found
         → CanComeTo payload op (unwrap_or (option_map (shown_not_done op.verb op.mask) found)
-        (shown op.verb op.mask (flat_map values_in (map f pieces))))
+        (shown_result op.verb op.mask (flat_map values_in (map f pieces))))
     comes_by None is =
-        let done = all_done (cut payload op.op) pieces shows is in
+        let done = all_done (cut_pieces payload op.op) pieces shows is in
         shown_words payload op op.verb (flat_map values_in (map f pieces)) (done.long ∙ done_count payload op.op low)
         done.fits
     comes_by (Some r) is =
-        let found = not_done (cut payload op.op) pieces r shows is in
+        let found = not_done (cut_pieces payload op.op) pieces r shows is in
         not_done_shows payload op found.number found.one found.there r found.bad found.came found.printed
 
-    pub comes_to : CanComeTo payload op (combined op.verb op.mask (map f pieces))
+    pub comes_to : CanComeTo payload op (combined_result op.verb op.mask (map f pieces))
     comes_to = comes_by (first_not_done (map f pieces)) refl
 
     printed_by : (found : Option OpResult) → first_not_done (map f pieces) ≡ found
         → IsPrinted (unwrap_or (option_map (shown_not_done op.verb op.mask) found)
-        (shown op.verb op.mask (flat_map values_in (map f pieces))))
+        (shown_result op.verb op.mask (flat_map values_in (map f pieces))))
     printed_by None is = words_printed op.verb op.mask (flat_map values_in (map f pieces))
-        (all_done (cut payload op.op) pieces shows is).fits
-    printed_by (Some r) is = not_done_printed op.verb op.mask r (not_done (cut payload op.op) pieces r shows is).printed
+        (all_done (cut_pieces payload op.op) pieces shows is).fits
+    printed_by (Some r) is = not_done_printed op.verb op.mask r (not_done (cut_pieces payload op.op) pieces r shows is).printed
 
-    pub is_printed : IsPrinted (combined op.verb op.mask (map f pieces))
+    pub is_printed : IsPrinted (combined_result op.verb op.mask (map f pieces))
     is_printed = printed_by (first_not_done (map f pieces)) refl
 
   -- ---- places
@@ -351,7 +351,7 @@ module _ (f : PieceAt → OpResult) (g : PieceAt → List (ℕ × ℕ)) where
   -- an operation without a place is as its first piece
   placeless_by : (verb : Verb) (mask : ℕ) (one : Op) (ones : List Op) (pieces : List PieceAt)
       → ShowEach (one ∷ ones) pieces → flat_map g pieces ≡ []
-      → IsPlaceless (combined verb mask (map f pieces))
+      → IsPlaceless (combined_result verb mask (map f pieces))
   placeless_by verb mask one ones [] shows none = absurd shows
   placeless_by verb mask one ones (p ∷ ps) shows none =
       elim shows.0.placed [
@@ -387,7 +387,7 @@ before_sent : (words : List ℕ) → word_before words ≢ Unsent
 before_sent [] e = absurd cc
 before_sent (word ∷ words) e = absurd cc
 
-words_sent : (verb : Verb) (mask : ℕ) (words : List ℕ) → shown verb mask words ≢ Unsent
+words_sent : (verb : Verb) (mask : ℕ) (words : List ℕ) → shown_result verb mask words ≢ Unsent
 words_sent Read mask words e = absurd cc
 words_sent Write mask words e = absurd cc
 words_sent ReadBlock mask words e = absurd cc
@@ -412,29 +412,29 @@ sent_by verb mask (r ∷ rs) otherwise all last =
 -- ---- the whole
 
 op_shows : (f : PieceAt → OpResult) (g : PieceAt → List (ℕ × ℕ)) (payload : ℕ) (op : RegOp) (pieces : List PieceAt)
-    (ones : List Op) → cut payload op.op ≡ ones → 16 ≤ payload → 1 ≤ piece_count payload op.op
+    (ones : List Op) → cut_pieces payload op.op ≡ ones → 16 ≤ payload → 1 ≤ piece_count payload op.op
     → ShowEach f g ones pieces
-    → CanShowLive payload op (combined op.verb op.mask (map f pieces), flat_map g pieces)
+    → CanShowLive payload op (combined_result op.verb op.mask (map f pieces), flat_map g pieces)
 op_shows f g payload op pieces [] is low some shows =
     absurd (omega (arith, some, length-cut payload op.op, ap length is))
 op_shows f g payload op pieces (one ∷ ones) is low some shows =
-    let each : ShowEach f g (cut payload op.op) pieces = subst (λ xs. ShowEach f g xs pieces) (sym is) shows in
+    let each : ShowEach f g (cut_pieces payload op.op) pieces = subst (λ xs. ShowEach f g xs pieces) (sym is) shows in
     let long = length-cut payload op.op in
     record {
       comes_to = comes_to f g payload low op pieces each;
       printed = is_printed f g payload low op pieces each;
       places' = places_printed f g (one ∷ ones) pieces shows;
-      few = omega (arith, few_places f g (cut payload op.op) pieces each, long);
+      few = omega (arith, few_places f g (cut_pieces payload op.op) pieces each, long);
       placeless = λ none. placeless_by f g op.verb op.mask one ones pieces shows none;
-      sent = λ all. sent_by op.verb op.mask (map f pieces) (shown op.verb op.mask (flat_map values_in (map f pieces)))
-          (all_sent f g (cut payload op.op) pieces each (all ∙ sym long))
+      sent = λ all. sent_by op.verb op.mask (map f pieces) (shown_result op.verb op.mask (flat_map values_in (map f pieces)))
+          (all_sent f g (cut_pieces payload op.op) pieces each (all ∙ sym long))
           (words_sent op.verb op.mask (flat_map values_in (map f pieces)));
     }
 
 -- What an operation shows whose pieces show what they can.
 pub pieces_can_show : (f : PieceAt → OpResult) (g : PieceAt → List (ℕ × ℕ)) (payload : ℕ) (op : RegOp)
     (pieces : List PieceAt) → 16 ≤ payload → 1 ≤ piece_count payload op.op
-    → Both (λ (one : Op) (p : PieceAt). Shows one (f p) (g p)) (cut payload op.op) pieces
-    → CanShowLive payload op (combined op.verb op.mask (map f pieces), flat_map g pieces)
+    → Both (λ (one : Op) (p : PieceAt). Shows one (f p) (g p)) (cut_pieces payload op.op) pieces
+    → CanShowLive payload op (combined_result op.verb op.mask (map f pieces), flat_map g pieces)
 pieces_can_show f g payload op pieces low some shows =
-    op_shows f g payload op pieces (cut payload op.op) refl low some shows
+    op_shows f g payload op pieces (cut_pieces payload op.op) refl low some shows

@@ -22,7 +22,7 @@ use Rattle.transcript.specs.Results.{op_places, op_result}
 use Rattle.board_history.specs.History.{bodies_by_client, lates_by_client, outcomes_by_client}
 use Rattle.board_history.specs.Order.{Placed, order}
 use Rattle.board_history.specs.Parts.{AreBeside, AreLateRepliesOf, AreRepliesOf, HasOneOrder}
-use Rattle.board_history.specs.Runs.{greeting_of, opening_of}
+use Rattle.board_history.specs.Runs.{greeting_of, opens_with}
 use Rattle.lane_history.specs.Links.{IsBoardOf, LinkReport, board_there}
 use Rattle.lane_history.specs.Runs.{AreRunsOver, IsAsTold, IsLiveRun, IsRunOver, IsTrueRun, TellsPayload}
 use Rattle.lane_history.proofs.Told.{at_some, told_there}
@@ -102,9 +102,9 @@ pub record IsToldBoard (spec : BoardSpec) (board : ℕ) (scripts : List (List St
   pub plans : map (λ (part : ClientPart). part.planned) run.parts ≡ plans_on board (greeting_of spec.link) scripts
   -- its bodies have one order, and its replies and late answers are those of the bus
   pub one_order : HasOneOrder (bodies_by_client run) (outcomes_by_client run)
-  pub replies : AreRepliesOf (opening_of spec.link) (order (bodies_by_client run) (outcomes_by_client run))
+  pub replies : AreRepliesOf (opens_with spec.link) (order (bodies_by_client run) (outcomes_by_client run))
       (outcomes_by_client run)
-  pub late : AreLateRepliesOf (opening_of spec.link) (order (bodies_by_client run) (outcomes_by_client run))
+  pub late : AreLateRepliesOf (opens_with spec.link) (order (bodies_by_client run) (outcomes_by_client run))
       (outcomes_by_client run) (lates_by_client run)
 
 pub told_board : (session : Session) (spec : BoardSpec) (board : ℕ) (scripts : List (List Step)) (run : BoardRun)
@@ -114,7 +114,7 @@ told_board session spec board scripts run link payload is tells live =
     let as_live : IsLiveRun session.settings spec payload run link =
     subst (IsAsTold session.settings spec run link) live is.as_told in
     let there = told_there link.telling tells in
-    let true_run = at_some (IsTrueRun session.settings (opening_of spec.link) run link.held)
+    let true_run = at_some (IsTrueRun session.settings (opens_with spec.link) run link.held)
     (board_there link.telling) there.0 there.1 as_live.told in
     let greeting = told_greeting spec.link link payload is.board' tells as_live.any_link.packets in
     record {

@@ -15,10 +15,10 @@ use Rattle.script_plans.specs.declared.planned.PieceAt.{PieceAt}
 use Rattle.transcript.specs.declared.body_end.BodyEnd.{BodyEnd}
 use Rattle.transcript.specs.declared.body_end.Told.{Told}
 use Rattle.transcript.specs.declared.body_end.Told.TheVariants as told
-use Rattle.transcript.specs.Ends.{answered, ends_of, told_at}
+use Rattle.transcript.specs.Ends.{answer_result, ends_of, told_at}
 use Rattle.transcript.specs.Ends.{result_in as ended_in}
 use Rattle.transcript.specs.Lines.{by_pieces, in_part, showing}
-use Rattle.transcript.specs.Results.{combined, shown, word_before}
+use Rattle.transcript.specs.Results.{combined_result, shown_result, word_before}
 use Rattle.run_audit.specs.declared.fate.Fate.{Fate}
 use Rattle.run_audit.specs.declared.fate.Fate.TheVariants as fate
 use Rattle.run_audit.specs.Results.{fate_in}
@@ -58,7 +58,7 @@ word_fate : (words : List ℕ) → fate_in (word_before words) ≡ fate.Answered
 word_fate [] = refl
 word_fate (word ∷ words) = refl
 
-shown_fate : (verb' : Verb) (mask : ℕ) (words : List ℕ) → fate_in (shown verb' mask words) ≡ fate.Answered
+shown_fate : (verb' : Verb) (mask : ℕ) (words : List ℕ) → fate_in (shown_result verb' mask words) ≡ fate.Answered
 shown_fate verb.Read mask words = refl
 shown_fate verb.Write mask words = refl
 shown_fate verb.ReadBlock mask words = refl
@@ -67,7 +67,7 @@ shown_fate verb.RmwBits mask words = word_fate words
 shown_fate verb.RmwSum mask words = word_fate words
 
 answered_fate : (verb' : Verb) (mask : ℕ) (one : Option Answer)
-    → fate_in (combined verb' mask (answered one ∷ [])) ≡ fate.Answered
+    → fate_in (combined_result verb' mask (answer_result one ∷ [])) ≡ fate.Answered
 answered_fate verb' mask None = refl
 answered_fate verb' mask (Some (answer.Values words)) = shown_fate verb' mask _
 answered_fate verb' mask (Some answer.Done) = shown_fate verb' mask _
@@ -75,7 +75,7 @@ answered_fate verb' mask (Some (answer.Fault code after)) = refl
 answered_fate verb' mask (Some answer.Skipped) = refl
 
 told_fate : (verb' : Verb) (mask : ℕ) (one : Told) (index : ℕ)
-    → fate_in (combined verb' mask (told_at one index ∷ [])) ≡ fate_told one
+    → fate_in (combined_result verb' mask (told_at one index ∷ [])) ≡ fate_told one
 told_fate verb' mask (told.Answered list) index = answered_fate verb' mask (slice_get list index)
 told_fate verb' mask told.Garbled index = refl
 told_fate verb' mask (told.TimedOut rounds) index = refl
@@ -84,7 +84,7 @@ told_fate verb' mask told.Unsent index = refl
 told_fate verb' mask told.LinkLost index = refl
 
 ended_fate : (verb' : Verb) (mask : ℕ) (end : Option BodyEnd) (index : ℕ)
-    → fate_in (combined verb' mask (ended_in end index ∷ [])) ≡ fate_ended end
+    → fate_in (combined_result verb' mask (ended_in end index ∷ [])) ≡ fate_ended end
 ended_fate verb' mask None index = refl
 ended_fate verb' mask (Some end) index = told_fate verb' mask end.told index
 

@@ -6,14 +6,14 @@ use Rattle.std.specs.Option.{option_map}
 use Rattle.std.proofs.lemmas.List.{length-map}
 use Rattle.ipb_base.proofs.AllLemmas.{AllByRecursion-append}
 use Rattle.script_steps.specs.declared.operation.Step.{Step}
-use Rattle.script_steps.specs.Rulings.{Asked, allowed, asked}
+use Rattle.script_steps.specs.Rulings.{Asked, allowed_operations, asked_operations}
 use Rattle.script_plans.specs.declared.board_run.BoardRun.{BoardRun}
 use Rattle.script_plans.specs.Plan.{count_on}
 use Rattle.transcript.specs.declared.line.OpLine.{OpLine}
 use Rattle.transcript.specs.Claims.{rule_in, rules_of, rules_shown}
 use Rattle.transcript.specs.Lines.{client_lines, line_of, shown_behind, transcript_of}
 use Rattle.transcript.specs.Lines.{lines_behind as printed_behind, lines_from as printed_from}
-use Rattle.run_audit.specs.AskedLines.{AskedLine, asked_lines, lines_behind, lines_from}
+use Rattle.run_audit.specs.AskedLines.{AskedLine, asked_lines, asked_behind, asked_from}
 use Rattle.audit_laws.specs.Audited.{showing_in, shown_of}
 
 -- What is known of an operation and its line, where all lines of the run are so.
@@ -24,7 +24,7 @@ pub record IsShownLine (Q : OpLine → Type 0) (scripts : List (List Step)) (run
   pub before : List Asked
   pub run : BoardRun
   pub there : slice_get runs asking.ask.op.board ≡ Some run
-  pub counted : asking.number ≡ count_on asking.ask.op.board (allowed before)
+  pub counted : asking.number ≡ count_on asking.ask.op.board (allowed_operations before)
   pub shown : asking.shows ≡ shown_behind run asking.client before asking.ask.op asking.ask.denied
   pub holds : Q (line_of asking.client before asking.ask run)
 
@@ -51,8 +51,8 @@ module _ (Q : OpLine → Type 0) (scripts : List (List Step)) (runs : List Board
         → length (option_to_list (option_map (line_of client before ask) found) ++ later) ≡ suc (length asks)
         → AllByRecursion Q (option_to_list (option_map (line_of client before ask) found) ++ later)
         → (length later ≡ length asks → AllByRecursion Q later → AllByRecursion (IsShownLine Q scripts runs)
-        (lines_behind (line + 1) client (before ++ ask ∷ []) asks (map showing_in later)))
-        → AllByRecursion (IsShownLine Q scripts runs) (lines_behind line client before (ask ∷ asks)
+        (asked_behind (line + 1) client (before ++ ask ∷ []) asks (map showing_in later)))
+        → AllByRecursion (IsShownLine Q scripts runs) (asked_behind line client before (ask ∷ asks)
         (map showing_in (option_to_list (option_map (line_of client before ask) found) ++ later)))
     line_shown line before ask asks None later there few same all rest = absurd (omega (arith, few, same))
     line_shown line before ask asks (Some run) later there few same all rest = (
@@ -72,7 +72,7 @@ module _ (Q : OpLine → Type 0) (scripts : List (List Step)) (runs : List Board
     lines_shown : (line : ℕ) (before asks : List Asked)
         → length (printed_behind runs client before asks) ≡ length asks
         → AllByRecursion Q (printed_behind runs client before asks) → AllByRecursion (IsShownLine Q scripts runs)
-        (lines_behind line client before asks (map showing_in (printed_behind runs client before asks)))
+        (asked_behind line client before asks (map showing_in (printed_behind runs client before asks)))
     lines_shown line before [] same all = tt
     lines_shown line before (ask ∷ asks) same all =
         line_shown line before ask asks (slice_get runs ask.op.board)
@@ -87,23 +87,23 @@ module _ (Q : OpLine → Type 0) (scripts : List (List Step)) (runs : List Board
       → map rules_shown (printed_from runs client rest) ≡ map rules_of rest
       → AllByRecursion (AllByRecursion Q) (printed_from runs client rest)
       → AllByRecursion (IsShownLine Q scripts runs)
-      (lines_from line client rest (map (map showing_in) (printed_from runs client rest)))
+      (asked_from line client rest (map (map showing_in) (printed_from runs client rest)))
   clients_shown line client [] at rules all = tt
   clients_shown line client (steps ∷ rest) at rules all =
       let lines = client_lines runs client steps in
       let none : client + 0 ≡ client = omega arith in
       let first : rules_shown lines ≡ rules_of steps = cc in
       let others : map rules_shown (printed_from runs (client + 1) rest) ≡ map rules_of rest = cc in
-      let same : length lines ≡ length (asked steps) =
+      let same : length lines ≡ length (asked_operations steps) =
       sym (length-map lines (λ (shown : OpLine). rule_in shown.result)) ∙ ap length first
-      ∙ length-map (asked steps) (λ (ask : Asked). ask.denied) in
+      ∙ length-map (asked_operations steps) (λ (ask : Asked). ask.denied) in
       AllByRecursion-append (IsShownLine Q scripts runs)
-      (lines_behind (line + 1) client [] (asked steps) (map showing_in lines))
-      (lines_from (line + 1 + length (asked steps)) (client + 1) rest
+      (asked_behind (line + 1) client [] (asked_operations steps) (map showing_in lines))
+      (asked_from (line + 1 + length (asked_operations steps)) (client + 1) rest
       (map (map showing_in) (printed_from runs (client + 1) rest)))
       (lines_shown client steps (subst (λ (c : ℕ). slice_get scripts c ≡ Some steps) none (at 0 steps refl)) (line + 1)
-      [] (asked steps) same all.0)
-      (clients_shown (line + 1 + length (asked steps)) (client + 1) rest
+      [] (asked_operations steps) same all.0)
+      (clients_shown (line + 1 + length (asked_operations steps)) (client + 1) rest
       (λ j script there.
       let next : client + suc j ≡ client + 1 + j = omega arith in
       subst (λ (c : ℕ). slice_get scripts c ≡ Some script) next (at (suc j) script there))

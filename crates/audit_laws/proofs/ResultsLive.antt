@@ -21,13 +21,13 @@ use Rattle.transcript.specs.Ends.{ends_of}
 use Rattle.transcript.specs.Lines.{Showing}
 use Rattle.transcript.specs.Results.{op_result}
 use Rattle.board_history.specs.History.{bodies_by_client, outcomes_by_client}
-use Rattle.board_history.specs.Order.{Placed, bodies_of, order, places_of}
+use Rattle.board_history.specs.Order.{Placed, bodies_in, order, places_of}
 use Rattle.board_history.specs.Parts.{AreBeside, IsLateReplyOf, IsReplyOf}
-use Rattle.board_history.specs.Runs.{greeting_of, opening_of}
+use Rattle.board_history.specs.Runs.{greeting_of, opens_with}
 use Rattle.board_history.proofs.Lists.{all_at}
 use Rattle.lane_history.specs.Runs.{IsUngarbledResult, ShowsRounds}
 use Rattle.run_audit.specs.AskedLines.{AskedLine, asked_of, greeting_at, pieces_shown}
-use Rattle.run_audit.specs.Replay.{place_shown, replayed, shown_order}
+use Rattle.run_audit.specs.Replay.{place_shown, replay_of_board, shown_order}
 use Rattle.run_audit.specs.Results.{Agrees}
 use Rattle.audit_laws.proofs.ResultsBoards.{IsToldBoard, beside_at, part_again, part_at, shows_live}
 use Rattle.audit_laws.proofs.ResultsMatching.{matching_agrees}
@@ -77,16 +77,16 @@ module _ (boards : List BoardSpec) (scripts : List (List Step)) (lines : List As
       → slice_get run.parts asking.client ≡ Some part → slice_get part.planned.pieces asking.number ≡ Some pieces
       → IsUngarbledResult (op_result (ends_of part) asking.ask.op pieces)
       → ShowsRounds rounds (op_result (ends_of part) asking.ask.op pieces)
-      → Agrees rounds pieces (replayed boards scripts lines spec asking.ask.op.board) asking
+      → Agrees rounds pieces (replay_of_board boards scripts lines spec asking.ask.op.board) asking
       (op_result (ends_of part) asking.ask.op pieces)
   unfolding order_again
   live_agrees rounds part pieces at has clear told =
       let board = asking.ask.op.board in
       let client = asking.client in
-      let opening = opening_of spec.link in
+      let opening = opens_with spec.link in
       let shown = pieces_shown boards scripts board lines in
       let plans = plans_on board (greeting_of spec.link) scripts in
-      let again = replayed boards scripts lines spec board in
+      let again = replay_of_board boards scripts lines spec board in
       let part' = part_again opening order_again shown client part.planned in
       let planned : slice_get plans client ≡ Some part.planned =
       ap (λ (ps : List ClientBodies). slice_get ps client) (sym is.plans)
@@ -95,16 +95,16 @@ module _ (boards : List BoardSpec) (scripts : List (List Step)) (lines : List As
       part_at opening order_again shown plans client part.planned planned in
       let counts : CountsFrom 1 (places_of order_again) =
       subst (λ (o : List Placed). CountsFrom 1 (places_of o)) (sym same_order) is.one_order in
-      let replies : AllByRecursion (IsReplyOf (replay opening (bodies_of order_again)).replies) part.outcomes =
-      subst (λ (o : List Placed). AllByRecursion (IsReplyOf (replay opening (bodies_of o)).replies) part.outcomes)
+      let replies : AllByRecursion (IsReplyOf (replay opening (bodies_in order_again)).replies) part.outcomes =
+      subst (λ (o : List Placed). AllByRecursion (IsReplyOf (replay opening (bodies_in o)).replies) part.outcomes)
       (sym same_order)
-      (all_at (AllByRecursion (IsReplyOf (replay opening (bodies_of (order (bodies_by_client run)
+      (all_at (AllByRecursion (IsReplyOf (replay opening (bodies_in (order (bodies_by_client run)
       (outcomes_by_client run)))).replies)) (outcomes_by_client run) client part.outcomes is.replies
       (get_map (λ (p : ClientPart). p.outcomes) run.parts client part at)) in
-      let late : AreBeside (IsLateReplyOf (replay opening (bodies_of order_again)).replies) part.outcomes part.lates =
-      subst (λ (o : List Placed). AreBeside (IsLateReplyOf (replay opening (bodies_of o)).replies) part.outcomes
+      let late : AreBeside (IsLateReplyOf (replay opening (bodies_in order_again)).replies) part.outcomes part.lates =
+      subst (λ (o : List Placed). AreBeside (IsLateReplyOf (replay opening (bodies_in o)).replies) part.outcomes
       part.lates) (sym same_order)
-      (beside_at (IsLateReplyOf (replay opening (bodies_of (order (bodies_by_client run)
+      (beside_at (IsLateReplyOf (replay opening (bodies_in (order (bodies_by_client run)
       (outcomes_by_client run)))).replies) (λ (p : ClientPart). p.outcomes) (λ (p : ClientPart). p.lates) run.parts
       client part is.late at) in
       let places : (j : ℕ) (outcome : Outcome) → slice_get part.outcomes j ≡ Some outcome

@@ -19,7 +19,7 @@ use Rattle.transcript.specs.declared.line.OpResult.{OpResult}
 use Rattle.transcript.specs.declared.line.OpResult.TheVariants.{Value, Done, Was, Error, Skipped, TimedOut, Late}
 use Rattle.transcript.specs.declared.line.OpResult.TheVariants.{Unsent, LinkLost, Garbled, Denied}
 use Rattle.transcript.specs.Ends.{late_of, piece_result}
-use Rattle.transcript.specs.Results.{combined, first_not_done, is_good, op_result, shown, shown_late, shown_not_done}
+use Rattle.transcript.specs.Results.{combined_result, first_not_done, is_good, op_result, shown_result, shown_late, shown_not_done}
 use Rattle.transcript.specs.Results.{values_in, word_before}
 use Rattle.transcript.specs.Steps.{ends_on}
 use Rattle.run_audit.specs.AskedLines.{AskedLine}
@@ -124,23 +124,23 @@ first_bad ends again (p ∷ ps) all = elim (cases_Bool (is_good (piece_result en
 ]
 
 all_combined : (verb' : Verb) (mask : ℕ) (rs : List OpResult) → list_all is_good rs ≡ true
-    → combined verb' mask rs ≡ shown verb' mask (flat_map values_in rs)
+    → combined_result verb' mask rs ≡ shown_result verb' mask (flat_map values_in rs)
 all_combined verb' mask rs good =
     ap (λ (o : Option OpResult). unwrap_or (option_map (shown_not_done verb' mask) o)
-    (shown verb' mask (flat_map values_in rs))) (all_done rs good)
+    (shown_result verb' mask (flat_map values_in rs))) (all_done rs good)
 
 fault_combined : (verb' : Verb) (mask : ℕ) (front : List OpResult) (r : OpResult) (back : List OpResult)
     → list_all is_good front ≡ true → is_good r ≡ false
-    → combined verb' mask (front ++ r ∷ back) ≡ shown_not_done verb' mask r
+    → combined_result verb' mask (front ++ r ∷ back) ≡ shown_not_done verb' mask r
 fault_combined verb' mask front r back good bad =
     ap (λ (o : Option OpResult). unwrap_or (option_map (shown_not_done verb' mask) o)
-    (shown verb' mask (flat_map values_in (front ++ r ∷ back)))) (not_done front r back good bad)
+    (shown_result verb' mask (flat_map values_in (front ++ r ∷ back)))) (not_done front r back good bad)
 
 fault_result : (ends : List BodyEnd) (op : RegOp) (before : List PieceAt) (piece : PieceAt) (behind : List PieceAt)
     → list_all is_good (map (piece_result ends) before) ≡ true → is_good (piece_result ends piece) ≡ false
     → op_result ends op (before ++ piece ∷ behind) ≡ shown_not_done op.verb op.mask (piece_result ends piece)
 fault_result ends op before piece behind good bad =
-    ap (combined op.verb op.mask) (map-append (piece_result ends) before (piece ∷ behind))
+    ap (combined_result op.verb op.mask) (map-append (piece_result ends) before (piece ∷ behind))
     ∙ fault_combined op.verb op.mask (map (piece_result ends) before) (piece_result ends piece)
     (map (piece_result ends) behind) good bad
 
@@ -152,8 +152,8 @@ module _ (rounds : ℕ) (pieces : List PieceAt) (run : BoardRun) (asking : Asked
   word_agrees [] clear same = absurd (clear.in_time refl)
   word_agrees (word ∷ words) clear same = same
 
-  words_agree : (verb' : Verb) (mask : ℕ) (words : List ℕ) → IsUngarbledResult (shown verb' mask words)
-      → result_in run asking ≡ shown verb' mask words → Agrees rounds pieces run asking (shown verb' mask words)
+  words_agree : (verb' : Verb) (mask : ℕ) (words : List ℕ) → IsUngarbledResult (shown_result verb' mask words)
+      → result_in run asking ≡ shown_result verb' mask words → Agrees rounds pieces run asking (shown_result verb' mask words)
   words_agree verb.Read mask words clear same = same
   words_agree verb.Write mask words clear same = same
   words_agree verb.ReadBlock mask words clear same = same
@@ -197,8 +197,8 @@ module _ (rounds : ℕ) (pieces : List PieceAt) (run : BoardRun) (asking : Asked
         let op = asking.ask.op in
         let rs = map (piece_result ends) pieces in
         let all = all_combined op.verb op.mask rs good in
-        let same : result_in run asking ≡ shown op.verb op.mask (flat_map values_in rs) =
-        shows ∙ ap (combined op.verb op.mask) (same_front ends again pieces matches good) ∙ all in
+        let same : result_in run asking ≡ shown_result op.verb op.mask (flat_map values_in rs) =
+        shows ∙ ap (combined_result op.verb op.mask) (same_front ends again pieces matches good) ∙ all in
         subst (Agrees rounds pieces run asking) (sym all)
         (words_agree op.verb op.mask (flat_map values_in rs) (subst IsUngarbledResult all clear) same)
 

@@ -15,8 +15,8 @@ use Rattle.lane_record.specs.declared.outcome.Outcome.TheVariants.{Replied, Time
 use Rattle.lane_record.specs.Lists.{CountsFrom}
 use Rattle.lane_record.specs.Outcomes.{place_of}
 use Rattle.script_plans.specs.declared.planned.PieceAt.{PieceAt}
-use Rattle.transcript.specs.Ends.{answered, ends_with, late_at, late_of, result_in, told_at, told_by, told_of}
-use Rattle.board_history.specs.Order.{Placed, bodies_of, places_of}
+use Rattle.transcript.specs.Ends.{answer_result, ends_with, late_at, late_of, result_in, told_at, told_by, told_of}
+use Rattle.board_history.specs.Order.{Placed, bodies_in, places_of}
 use Rattle.board_history.specs.Parts.{AreBeside, IsLateReplyOf, IsReplyOf}
 use Rattle.run_audit.specs.AskedLines.{ShownPiece}
 use Rattle.run_audit.specs.Replay.{outcomes_from, place_shown, replied_at, reply_at, reply_in}
@@ -44,16 +44,16 @@ reply_found from place (suc k) (p ∷ order) (r ∷ replies) words counts same t
 
 -- places count from 1, so the reply to the body at a place is the reply of that number
 pub reply_placed : (opening : CellMap) (order : List Placed) (place : ℕ) (words : List ℕ)
-    → CountsFrom 1 (places_of order) → IsReplyOf (replay opening (bodies_of order)).replies (Replied place words)
+    → CountsFrom 1 (places_of order) → IsReplyOf (replay opening (bodies_in order)).replies (Replied place words)
     → reply_in opening order place ≡ words
 reply_placed opening order zero words counts there = absurd cc
 reply_placed opening order (suc k) words counts there =
-    reply_found 1 (suc k) k order (replay opening (bodies_of order)).replies words counts
-    (replies_counted opening (bodies_of order) ∙ length-map order (λ (p : Placed). p.body)) there (omega arith)
+    reply_found 1 (suc k) k order (replay opening (bodies_in order)).replies words counts
+    (replies_counted opening (bodies_in order) ∙ length-map order (λ (p : Placed). p.body)) there (omega arith)
 
 -- ---- what is told of a transaction
 
-answered_matches : (one : Option Answer) → Matches (answered one) (answered one)
+answered_matches : (one : Option Answer) → Matches (answer_result one) (answer_result one)
 answered_matches None = refl
 answered_matches (Some (answer.Values words)) = refl
 answered_matches (Some answer.Done) = refl
@@ -73,7 +73,7 @@ late_matches (Some list) index = refl
 
 module _ (opening : CellMap) (order : List Placed) (counts : CountsFrom 1 (places_of order)) where
   abbrev Replies : List (List ℕ)
-  Replies = (replay opening (bodies_of order)).replies
+  Replies = (replay opening (bodies_in order)).replies
 
   body_matches : (body : List ℕ) (outcome : Outcome) (late : Option (List ℕ)) (index : ℕ) → IsReplyOf Replies outcome
       → IsLateReplyOf Replies outcome late

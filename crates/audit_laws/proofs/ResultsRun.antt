@@ -25,7 +25,7 @@ use Rattle.transcript.specs.Ends.{ends_of}
 use Rattle.transcript.specs.Lines.{Showing, denied_by, never_sent, shown_behind, showing}
 use Rattle.transcript.specs.Results.{op_places, op_result}
 use Rattle.run_audit.specs.AskedLines.{AskedLine, asked_of, pieces_of, pieces_unless}
-use Rattle.run_audit.specs.Replay.{replayed}
+use Rattle.run_audit.specs.Replay.{replay_of_board}
 use Rattle.run_audit.specs.Results.{Agrees, IsReplayed, IsWithin, TellApart, fate_in}
 use Rattle.audit_laws.proofs.ResultsBoards.{IsToldBoard, over_at, shows_live, told_board}
 use Rattle.audit_laws.proofs.ResultsFates.{fate_on, showing_fate}
@@ -113,7 +113,7 @@ module _ (session : Session) (scripts : List (List Step)) (runs : List BoardRun)
     module _ (spec : BoardSpec) (spec_at : slice_get session.boards asking.ask.op.board ≡ Some spec) where
       abbrev AgreesWith : Showing → Type 0
       AgreesWith shows = Agrees session.settings.rounds (pieces_of session.boards scripts asking)
-          (replayed session.boards scripts lines spec asking.ask.op.board) asking shows.0
+          (replay_of_board session.boards scripts lines spec asking.ask.op.board) asking shows.0
 
       pieces_agree : (part : ClientPart) (payload : ℕ) (found : Option (List PieceAt)) → asking.ask.denied ≡ None
           → is.run.greeting ≡ Live payload → slice_get is.run.parts asking.client ≡ Some part
@@ -137,7 +137,7 @@ module _ (session : Session) (scripts : List (List Step)) (runs : List BoardRun)
           (subst (λ (s : Showing). ShowsRounds session.settings.rounds s.0) shows of_rounds) in
           subst AgreesWith (sym shows)
           (subst (λ (ps : List PieceAt). Agrees session.settings.rounds ps
-          (replayed session.boards scripts lines spec board) asking (op_result (ends_of part) op pieces)) (sym same)
+          (replay_of_board session.boards scripts lines spec board) asking (op_result (ends_of part) op pieces)) (sym same)
           agrees)
 
       part_agrees : (payload : ℕ) (found : Option ClientPart) → asking.ask.denied ≡ None

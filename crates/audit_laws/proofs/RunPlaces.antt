@@ -12,7 +12,7 @@ use Rattle.lane_record.specs.declared.outcome.Outcome.{Outcome}
 use Rattle.lane_record.specs.Lists.{CountsFrom}
 use Rattle.lane_record.specs.Outcomes.{place_of}
 use Rattle.script_plans.specs.declared.board_run.ClientPart.{ClientPart}
-use Rattle.board_history.specs.Order.{Placed, RisesFrom, all_placed, by_place, insert, order, placed, places_of, with_place}
+use Rattle.board_history.specs.Order.{Placed, RisesFrom, all_placed, by_place, insert, order, bodies_with_places, places_of, with_place}
 use Rattle.board_history.specs.Parts.{HasOneOrder, KeepsScripts}
 use Rattle.board_history.proofs.OwnPlaces.{AreApart, IsApart, counting_apart, sorted_apart}
 use Rattle.board_history.proofs.Sorting.{sorted_all}
@@ -44,14 +44,14 @@ here_all P body (Some n) rest place is all = subst P (same_Some n place is) all.
 
 client_all : (P : ℕ → Type 0) (bodies : List (List ℕ)) (outcomes : List Outcome) (k place : ℕ)
     → length outcomes ≡ length bodies → place_at outcomes k ≡ Some place
-    → AllByRecursion (λ (p : Placed). P p.place) (placed bodies outcomes) → P place
+    → AllByRecursion (λ (p : Placed). P p.place) (bodies_with_places bodies outcomes) → P place
 client_all P bodies [] k place long is all = absurd cc
 client_all P [] (o ∷ outcomes) k place long is all = absurd (omega arith)
 client_all P (b ∷ bodies) (o ∷ outcomes) zero place long is all =
-    here_all P b (place_of o) (placed bodies outcomes) place is all
+    here_all P b (place_of o) (bodies_with_places bodies outcomes) place is all
 client_all P (b ∷ bodies) (o ∷ outcomes) (suc k) place long is all =
     client_all P bodies outcomes k place (omega arith) is
-    (back_of_all (λ (p : Placed). P p.place) (with_place b (place_of o)) (placed bodies outcomes) all)
+    (back_of_all (λ (p : Placed). P p.place) (with_place b (place_of o)) (bodies_with_places bodies outcomes) all)
 
 parts_all : (P : ℕ → Type 0) (parts : List ClientPart) (client k place : ℕ) → IsInShape parts
     → place_in_parts parts client k ≡ Some place
@@ -60,12 +60,12 @@ parts_all P [] client k place shape is all = absurd cc
 parts_all P (part ∷ parts) zero k place shape is all =
     let here : length part.outcomes ≡ length part.planned.bodies = cc in
     client_all P part.planned.bodies part.outcomes k place here is
-    (front_of_all (λ (p : Placed). P p.place) (placed part.planned.bodies part.outcomes)
+    (front_of_all (λ (p : Placed). P p.place) (bodies_with_places part.planned.bodies part.outcomes)
     (all_placed (bodies_in parts) (outcomes_in parts)) all)
 parts_all P (part ∷ parts) (suc client) k place shape is all =
     let rest : map length (outcomes_in parts) ≡ map length (bodies_in parts) = cc in
     parts_all P parts client k place rest is
-    (back_of_all (λ (p : Placed). P p.place) (placed part.planned.bodies part.outcomes)
+    (back_of_all (λ (p : Placed). P p.place) (bodies_with_places part.planned.bodies part.outcomes)
     (all_placed (bodies_in parts) (outcomes_in parts)) all)
 
 -- ---- a place of the order is that of a body
@@ -80,11 +80,11 @@ here_found body (Some n) place any =
     ]
 
 client_found : (bodies : List (List ℕ)) (outcomes : List Outcome) (place : ℕ)
-    → Any (IsAt place) (placed bodies outcomes) → (k : ℕ) × (place_at outcomes k ≡ Some place)
+    → Any (IsAt place) (bodies_with_places bodies outcomes) → (k : ℕ) × (place_at outcomes k ≡ Some place)
 client_found [] outcomes place any = absurd (any_nowhere (IsAt place) any)
 client_found (b ∷ bodies) [] place any = absurd (any_nowhere (IsAt place) any)
 client_found (b ∷ bodies) (o ∷ outcomes) place any =
-    elim (any_append (IsAt place) (with_place b (place_of o)) (placed bodies outcomes) any) [
+    elim (any_append (IsAt place) (with_place b (place_of o)) (bodies_with_places bodies outcomes) any) [
       | inl here ↦ (0, here_found b (place_of o) place here)
       | inr later ↦ let found = client_found bodies outcomes place later in (suc found.0, found.1)
     ]
@@ -94,7 +94,7 @@ parts_found : (parts : List ClientPart) (place : ℕ)
     → (client : ℕ) × (k : ℕ) × (place_in_parts parts client k ≡ Some place)
 parts_found [] place any = absurd (any_nowhere (IsAt place) any)
 parts_found (part ∷ parts) place any =
-    elim (any_append (IsAt place) (placed part.planned.bodies part.outcomes)
+    elim (any_append (IsAt place) (bodies_with_places part.planned.bodies part.outcomes)
     (all_placed (bodies_in parts) (outcomes_in parts)) any) [
       | inl here ↦
           let found = client_found part.planned.bodies part.outcomes place here in (0, found.0, found.1)
@@ -164,21 +164,21 @@ abbrev AreOther : List Placed → ℕ → Type 0
 AreOther ps place = AllByRecursion (λ (p : Placed). place ≢ p.place) ps
 
 client_apart : (bodies : List (List ℕ)) (outcomes : List Outcome) (i j place : ℕ) → length outcomes ≡ length bodies
-    → AreApart (placed bodies outcomes) → place_at outcomes i ≡ Some place → place_at outcomes j ≡ Some place → i ≡ j
+    → AreApart (bodies_with_places bodies outcomes) → place_at outcomes i ≡ Some place → place_at outcomes j ≡ Some place → i ≡ j
 client_apart bodies [] i j place long apart is also = absurd cc
 client_apart [] (o ∷ outcomes) i j place long apart is also = absurd (omega arith)
 client_apart (b ∷ bodies) (o ∷ outcomes) zero zero place long apart is also = refl
 client_apart (b ∷ bodies) (o ∷ outcomes) zero (suc j) place long apart is also =
-    let others = here_all (AreOther (placed bodies outcomes)) b (place_of o) [] place is
-    (rw append-nil (across (with_place b (place_of o)) (placed bodies outcomes) apart)) in
+    let others = here_all (AreOther (bodies_with_places bodies outcomes)) b (place_of o) [] place is
+    (rw append-nil (across (with_place b (place_of o)) (bodies_with_places bodies outcomes) apart)) in
     absurd (client_all (λ n. place ≢ n) bodies outcomes j place (omega arith) also others refl)
 client_apart (b ∷ bodies) (o ∷ outcomes) (suc i) zero place long apart is also =
-    let others = here_all (AreOther (placed bodies outcomes)) b (place_of o) [] place also
-    (rw append-nil (across (with_place b (place_of o)) (placed bodies outcomes) apart)) in
+    let others = here_all (AreOther (bodies_with_places bodies outcomes)) b (place_of o) [] place also
+    (rw append-nil (across (with_place b (place_of o)) (bodies_with_places bodies outcomes) apart)) in
     absurd (client_all (λ n. place ≢ n) bodies outcomes i place (omega arith) is others refl)
 client_apart (b ∷ bodies) (o ∷ outcomes) (suc i) (suc j) place long apart is also =
     ap suc (client_apart bodies outcomes i j place (omega arith)
-    (back_apart (with_place b (place_of o)) (placed bodies outcomes) apart) is also)
+    (back_apart (with_place b (place_of o)) (bodies_with_places bodies outcomes) apart) is also)
 
 -- one client has the place, and a later one too
 clients_apart : (part : ClientPart) (parts : List ClientPart) (i client j place : ℕ) → IsInShape (part ∷ parts)
@@ -189,7 +189,7 @@ clients_apart part parts i client j place shape apart is also =
     let rest : map length (outcomes_in parts) ≡ map length (bodies_in parts) = cc in
     let later = all_placed (bodies_in parts) (outcomes_in parts) in
     let others = client_all (AreOther later) part.planned.bodies part.outcomes i place here is
-    (across (placed part.planned.bodies part.outcomes) later apart) in
+    (across (bodies_with_places part.planned.bodies part.outcomes) later apart) in
     parts_all (λ n. place ≢ n) parts client j place rest also others refl
 
 parts_apart : (parts : List ClientPart) (client other i j place : ℕ) → IsInShape parts
@@ -200,7 +200,7 @@ parts_apart (part ∷ parts) zero zero i j place shape apart is also =
     let here : length part.outcomes ≡ length part.planned.bodies = cc in (
       refl,
       client_apart part.planned.bodies part.outcomes i j place here
-          (front_apart (placed part.planned.bodies part.outcomes)
+          (front_apart (bodies_with_places part.planned.bodies part.outcomes)
           (all_placed (bodies_in parts) (outcomes_in parts)) apart) is also,
     )
 parts_apart (part ∷ parts) zero (suc other) i j place shape apart is also =
@@ -210,7 +210,7 @@ parts_apart (part ∷ parts) (suc client) zero i j place shape apart is also =
 parts_apart (part ∷ parts) (suc client) (suc other) i j place shape apart is also =
     let rest : map length (outcomes_in parts) ≡ map length (bodies_in parts) = cc in
     let both = parts_apart parts client other i j place rest
-    (back_apart (placed part.planned.bodies part.outcomes) (all_placed (bodies_in parts) (outcomes_in parts)) apart)
+    (back_apart (bodies_with_places part.planned.bodies part.outcomes) (all_placed (bodies_in parts) (outcomes_in parts)) apart)
     is also in
     (ap suc both.0, both.1)
 
@@ -235,18 +235,18 @@ rises_later from body None rest rises = (from, rises)
 rises_later from body (Some n) rest rises = (n + 1, rises.1)
 
 client_rises : (from : ℕ) (bodies : List (List ℕ)) (outcomes : List Outcome) (i j one other : ℕ)
-    → length outcomes ≡ length bodies → RisesFrom from (places_of (placed bodies outcomes)) → i < j
+    → length outcomes ≡ length bodies → RisesFrom from (places_of (bodies_with_places bodies outcomes)) → i < j
     → place_at outcomes i ≡ Some one → place_at outcomes j ≡ Some other → one < other
 client_rises from bodies [] i j one other long rises less is also = absurd cc
 client_rises from [] (o ∷ outcomes) i j one other long rises less is also = absurd (omega arith)
 client_rises from (b ∷ bodies) (o ∷ outcomes) i zero one other long rises less is also = absurd (omega arith)
 client_rises from (b ∷ bodies) (o ∷ outcomes) zero (suc j) one other long rises less is also =
-    let later = rises_here from one b (place_of o) (placed bodies outcomes) is rises in
+    let later = rises_here from one b (place_of o) (bodies_with_places bodies outcomes) is rises in
     let above = client_all (λ n. one + 1 ≤ n) bodies outcomes j other (omega arith) also
-    (rises_low (one + 1) (one + 1) (placed bodies outcomes) (omega arith) later) in
+    (rises_low (one + 1) (one + 1) (bodies_with_places bodies outcomes) (omega arith) later) in
     omega (arith, above)
 client_rises from (b ∷ bodies) (o ∷ outcomes) (suc i) (suc j) one other long rises less is also =
-    let later = rises_later from b (place_of o) (placed bodies outcomes) rises in
+    let later = rises_later from b (place_of o) (bodies_with_places bodies outcomes) rises in
     client_rises later.0 bodies outcomes i j one other (omega arith) later.1 (omega arith) is also
 
 parts_rise : (parts : List ClientPart) (client i j one other : ℕ) → IsInShape parts

@@ -9,7 +9,7 @@ use Rattle.std.proofs.lemmas.Option.{same_Some}
 use Rattle.board_node.specs.declared.spec.BoardSpec.{BoardSpec}
 use Rattle.node_tree.specs.Maps.{RegisterMap}
 use Rattle.node_tree.specs.declared.register.Register.{Register}
-use Rattle.script_steps.specs.Rulings.{Asked, asked, ruled, ruled_step}
+use Rattle.script_steps.specs.Rulings.{Asked, asked_operations, steps_under_policy, ruled_step}
 use Rattle.script_steps.specs.declared.operation.Decision.{Decision}
 use Rattle.script_steps.specs.declared.operation.Decision.TheVariants as decision
 use Rattle.script_steps.specs.declared.operation.RegOp.{RegOp}
@@ -148,7 +148,7 @@ step_ruled (Denied rule op) said one = one
 step_ruled Dispatch said one = tt
 
 pub steps_ruled : (steps : List Step) (said : List Decision) → AllByRecursion HasLineName steps
-    → AllByRecursion HasLineName (ruled steps said)
+    → AllByRecursion HasLineName (steps_under_policy steps said)
 steps_ruled [] said are = tt
 steps_ruled (step ∷ steps) [] are = are
 steps_ruled (step ∷ steps) (one ∷ said) are = (step_ruled step one are.0, steps_ruled steps said are.1)
@@ -156,13 +156,13 @@ steps_ruled (step ∷ steps) (one ∷ said) are = (step_ruled step one are.0, st
 -- ---- what is asked
 
 steps_asked : (steps : List Step) → AllByRecursion HasLineName steps
-    → AllByRecursion (λ (ask : Asked). IsOneLine ask.op.name) (asked steps)
+    → AllByRecursion (λ (ask : Asked). IsOneLine ask.op.name) (asked_operations steps)
 steps_asked [] are = tt
 steps_asked (Do op ∷ steps) are = (are.0, steps_asked steps are.1)
 steps_asked (Denied rule op ∷ steps) are = (are.0, steps_asked steps are.1)
 steps_asked (Dispatch ∷ steps) are = steps_asked steps are.1
 
 pub all_asked : (scripts : List (List Step)) → AllByRecursion (AllByRecursion HasLineName) scripts
-    → AllByRecursion (λ steps. AllByRecursion (λ (ask : Asked). IsOneLine ask.op.name) (asked steps)) scripts
+    → AllByRecursion (λ steps. AllByRecursion (λ (ask : Asked). IsOneLine ask.op.name) (asked_operations steps)) scripts
 all_asked [] are = tt
 all_asked (steps ∷ scripts) are = (steps_asked steps are.0, all_asked scripts are.1)

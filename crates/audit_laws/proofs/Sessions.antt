@@ -18,7 +18,7 @@ use Rattle.script_lang.proofs.FewPieces.{few_pieces, short_steps}
 use Rattle.script_lang.proofs.Numbers.{between-checked}
 use Rattle.script_steps.specs.Executable.{AreExecutable, CanBeDone}
 use Rattle.script_steps.specs.Packing.{CanBePacked, HaveFewPieces}
-use Rattle.script_steps.specs.Rulings.{ruled}
+use Rattle.script_steps.specs.Rulings.{steps_under_policy}
 use Rattle.script_steps.specs.declared.operation.Decision.{Decision}
 use Rattle.script_steps.specs.declared.operation.Step.{Step}
 use Rattle.script_steps.specs.declared.operation.Step.TheVariants.{Do, Denied, Dispatch}
@@ -67,10 +67,10 @@ all_packed (steps ∷ scripts) are = (steps_packed steps are.0, all_packed scrip
 -- ---- under a policy
 
 abbrev pub LeavesFewPieces : Type 0
-LeavesFewPieces = (steps : List Step) (said : List Decision) → HaveFewPieces steps → HaveFewPieces (ruled steps said)
+LeavesFewPieces = (steps : List Step) (said : List Decision) → HaveFewPieces steps → HaveFewPieces (steps_under_policy steps said)
 
 abbrev pub LeavesTheCount : Type 0
-LeavesTheCount = (steps : List Step) (said : List Decision) → length (ruled steps said) ≡ length steps
+LeavesTheCount = (steps : List Step) (said : List Decision) → length (steps_under_policy steps said) ≡ length steps
 
 abbrev pub KeepsLimits : Type 0
 KeepsLimits = (document : Members) (session : Session) → IsSession document session → IsWithin session

@@ -9,7 +9,7 @@ use Rattle.world_model.proofs.Lists.{either}
 use Rattle.lane_record.specs.declared.outcome.Outcome.{Outcome}
 use Rattle.lane_record.specs.Outcomes.{place_of}
 use Rattle.script_plans.specs.declared.board_run.ClientPart.{ClientPart}
-use Rattle.board_history.specs.Order.{Placed, all_placed, placed, with_place}
+use Rattle.board_history.specs.Order.{Placed, all_placed, bodies_with_places, with_place}
 use Rattle.run_audit.specs.AskedLines.{ShownPiece}
 use Rattle.run_audit.specs.Replay.{all_placed_from, place_shown, placed_from}
 use Rattle.audit_laws.proofs.LinePlaces.{IsShownIn}
@@ -77,7 +77,7 @@ module _ (pieces : List ShownPiece) where
   client_order : (client number : ℕ) (bodies : List (List ℕ)) (outcomes : List Outcome)
       → length outcomes ≡ length bodies
       → ((k : ℕ) → place_shown pieces client (number + k) ≡ option_and_then place_of (slice_get outcomes k))
-      → placed_from pieces client number bodies ≡ placed bodies outcomes
+      → placed_from pieces client number bodies ≡ bodies_with_places bodies outcomes
   client_order client number [] outcomes long same = refl
   client_order client number (body ∷ bodies) [] long same = absurd (omega arith)
   client_order client number (body ∷ bodies) (outcome ∷ outcomes) long same =
@@ -110,4 +110,4 @@ module _ (pieces : List ShownPiece) where
       ap (λ c. place_shown pieces c k) next ∙ same (suc i) k) in
       ap (λ (ps : List Placed). ps ++ all_placed_from pieces (client + 1) (map (λ (p : ClientPart). p.planned) parts))
       first
-      ∙ ap (λ (ps : List Placed). placed part.planned.bodies part.outcomes ++ ps) later
+      ∙ ap (λ (ps : List Placed). bodies_with_places part.planned.bodies part.outcomes ++ ps) later

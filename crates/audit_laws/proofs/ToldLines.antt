@@ -11,7 +11,7 @@ use Rattle.ipb_base.proofs.AllLemmas.{AllByRecursion-append}
 use Rattle.mtu_packer.proofs.AnyLemmas.{any_here, any_later, any_front, any_back}
 use Rattle.script_steps.specs.declared.operation.RegOp.{RegOp}
 use Rattle.script_steps.specs.declared.operation.Step.{Step}
-use Rattle.script_steps.specs.Rulings.{Asked, asked, allowed}
+use Rattle.script_steps.specs.Rulings.{Asked, asked_operations, allowed_operations}
 use Rattle.script_plans.specs.declared.board_run.BoardRun.{BoardRun}
 use Rattle.script_plans.specs.Plan.{count_on, operations}
 use Rattle.script_plans.proofs.Covering.{count_by-append}
@@ -19,7 +19,7 @@ use Rattle.transcript.specs.Claims.{rules_of, rules_shown}
 use Rattle.transcript.specs.Lines.{Showing, showing, shown_behind, denied_by, line_of, client_lines}
 use Rattle.transcript.specs.Lines as printed
 use Rattle.transcript.proofs.Allowed.{allowed-append, asked_allowed}
-use Rattle.run_audit.specs.AskedLines.{AskedLine, lines_behind, lines_from}
+use Rattle.run_audit.specs.AskedLines.{AskedLine, asked_behind, asked_from}
 use Rattle.audit_laws.specs.Audited.{showing_in}
 
 -- ---- what is told
@@ -39,7 +39,7 @@ pub record IsTold (runs : List BoardRun) (asking : AskedLine) : Type 0 where
 
 behind_told : (run : BoardRun) (client : ℕ) (before : List Asked) (op : RegOp) (denied : Option ℕ)
     → shown_behind run client before op denied
-    ≡ told_unless denied (showing run client (count_on op.board (allowed before)) op)
+    ≡ told_unless denied (showing run client (count_on op.board (allowed_operations before)) op)
 behind_told run client before op None = refl
 behind_told run client before op (Some rule) = refl
 
@@ -70,9 +70,9 @@ module _ (runs : List BoardRun) where
       → length (option_to_list (option_map (line_of client before ask) found)
       ++ printed.lines_behind runs client (before ++ ask ∷ []) asks) ≡ suc (length asks)
       → (length (printed.lines_behind runs client (before ++ ask ∷ []) asks) ≡ length asks
-      → AllByRecursion (IsTold runs) (lines_behind (line + 1) client (before ++ ask ∷ []) asks
+      → AllByRecursion (IsTold runs) (asked_behind (line + 1) client (before ++ ask ∷ []) asks
       (map showing_in (printed.lines_behind runs client (before ++ ask ∷ []) asks))))
-      → AllByRecursion (IsTold runs) (lines_behind line client before (ask ∷ asks)
+      → AllByRecursion (IsTold runs) (asked_behind line client before (ask ∷ asks)
       (map showing_in (option_to_list (option_map (line_of client before ask) found)
       ++ printed.lines_behind runs client (before ++ ask ∷ []) asks)))
   next_told line client before ask asks None at count later =
@@ -84,7 +84,7 @@ module _ (runs : List BoardRun) where
 
   client_told : (line client : ℕ) (before asks : List Asked)
       → length (printed.lines_behind runs client before asks) ≡ length asks
-      → AllByRecursion (IsTold runs) (lines_behind line client before asks
+      → AllByRecursion (IsTold runs) (asked_behind line client before asks
       (map showing_in (printed.lines_behind runs client before asks)))
   client_told line client before [] count = tt
   client_told line client before (ask ∷ asks) count =
@@ -93,24 +93,24 @@ module _ (runs : List BoardRun) where
 
   -- where lines show the rules of their operations there is one for each operation
   counted : (client : ℕ) (steps : List Step) → rules_shown (client_lines runs client steps) ≡ rules_of steps
-      → length (client_lines runs client steps) ≡ length (asked steps)
+      → length (client_lines runs client steps) ≡ length (asked_operations steps)
   counted client steps rules =
-      sym (length-map (client_lines runs client steps) _) ∙ ap length rules ∙ length-map (asked steps) _
+      sym (length-map (client_lines runs client steps) _) ∙ ap length rules ∙ length-map (asked_operations steps) _
 
   pub all_told : (line client : ℕ) (scripts : List (List Step))
       → map rules_shown (printed.lines_from runs client scripts) ≡ map rules_of scripts
       → AllByRecursion (IsTold runs)
-      (lines_from line client scripts (map (map showing_in) (printed.lines_from runs client scripts)))
+      (asked_from line client scripts (map (map showing_in) (printed.lines_from runs client scripts)))
   all_told line client [] rules = tt
   all_told line client (steps ∷ scripts) rules =
       let first : rules_shown (client_lines runs client steps) ≡ rules_of steps = cc in
       let rest : map rules_shown (printed.lines_from runs (client + 1) scripts) ≡ map rules_of scripts = cc in
       AllByRecursion-append (IsTold runs)
-      (lines_behind (line + 1) client [] (asked steps) (map showing_in (client_lines runs client steps)))
-      (lines_from (line + 1 + length (asked steps)) (client + 1) scripts
+      (asked_behind (line + 1) client [] (asked_operations steps) (map showing_in (client_lines runs client steps)))
+      (asked_from (line + 1 + length (asked_operations steps)) (client + 1) scripts
       (map (map showing_in) (printed.lines_from runs (client + 1) scripts)))
-      (client_told (line + 1) client [] (asked steps) (counted client steps first))
-      (all_told (line + 1 + length (asked steps)) (client + 1) scripts rest)
+      (client_told (line + 1) client [] (asked_operations steps) (counted client steps first))
+      (all_told (line + 1 + length (asked_operations steps)) (client + 1) scripts rest)
 
 -- ---- each operation has a line
 
@@ -124,15 +124,15 @@ pub record IsAskedFor (client board number : ℕ) (asking : AskedLine) : Type 0 
 module _ (client board number : ℕ) where
   abbrev IsLater : List Asked → List Asked → Type 0
   IsLater before asks =
-      (line : ℕ) (shows : List Showing) → length shows ≡ length asks → count_on board (allowed before) ≤ number
-      → number < count_on board (allowed before) + count_on board (allowed asks)
-      → Any (IsAskedFor client board number) (lines_behind line client before asks shows)
+      (line : ℕ) (shows : List Showing) → length shows ≡ length asks → count_on board (allowed_operations before) ≤ number
+      → number < count_on board (allowed_operations before) + count_on board (allowed_operations asks)
+      → Any (IsAskedFor client board number) (asked_behind line client before asks shows)
 
-  both_counted : (before : List Asked) (ask : Asked) → count_on board (allowed (before ++ ask ∷ []))
-      ≡ count_on board (allowed before) + count_on board (allowed (ask ∷ []))
+  both_counted : (before : List Asked) (ask : Asked) → count_on board (allowed_operations (before ++ ask ∷ []))
+      ≡ count_on board (allowed_operations before) + count_on board (allowed_operations (ask ∷ []))
   both_counted before ask =
       ap (count_on board) (allowed-append before (ask ∷ []))
-      ∙ count_by-append (λ (o : RegOp). o.board == board) (allowed before) (allowed (ask ∷ []))
+      ∙ count_by-append (λ (o : RegOp). o.board == board) (allowed_operations before) (allowed_operations (ask ∷ []))
 
   one_counted : (op : RegOp) (ops : List RegOp)
       → count_on board (op ∷ ops) ≡ cond (op.board == board) 1 0 + count_on board ops
@@ -151,19 +151,19 @@ module _ (client board number : ℕ) where
       let ask : Asked = record { op = op; denied = None } in
       let longer = both_counted before ask in
       let last = one_counted op [] in
-      let all = one_counted op (allowed asks) in
+      let all = one_counted op (allowed_operations asks) in
       elim (cases_Bool (op.board == board)) [
         | inl here ↦
             let same : op.board ≡ board = eqb-true op.board board here in
             let one : cond {A = ℕ} (op.board == board) 1 0 ≡ 1 = ap (λ b. cond {A = ℕ} b 1 0) here in
-            elim (cases_lt (count_on board (allowed before)) number) [
+            elim (cases_lt (count_on board (allowed_operations before)) number) [
               | inl less ↦ any_later (IsAskedFor client board number) _ _
                   (later (line + 1) shows (omega arith) (omega arith) (omega arith))
               | inr more ↦ any_here (IsAskedFor client board number) _ _
                   (record {
                     client' = refl;
                     board' = same;
-                    number' = ap (λ b. count_on b (allowed before)) same ∙ omega arith;
+                    number' = ap (λ b. count_on b (allowed_operations before)) same ∙ omega arith;
                     allowed' = refl;
                   })
             ]
@@ -182,16 +182,16 @@ pub asked_there : (runs : List BoardRun) (line first : ℕ) (scripts : List (Lis
     (board number : ℕ) → map rules_shown (printed.lines_from runs first scripts) ≡ map rules_of scripts
     → slice_get scripts client ≡ Some steps → number < count_on board (operations steps)
     → Any (IsAskedFor (first + client) board number)
-    (lines_from line first scripts (map (map showing_in) (printed.lines_from runs first scripts)))
+    (asked_from line first scripts (map (map showing_in) (printed.lines_from runs first scripts)))
 asked_there runs line first [] client steps board number rules at within = absurd cc
 asked_there runs line first (script ∷ scripts) zero steps board number rules at within =
     let same : script ≡ steps = cc in
     let none : first ≡ first + 0 = omega arith in
     let head : rules_shown (client_lines runs first script) ≡ rules_of script = cc in
     any_front (IsAskedFor (first + 0) board number) _ _
-    (subst (λ n. Any (IsAskedFor n board number) (lines_behind (line + 1) first [] (asked script)
+    (subst (λ n. Any (IsAskedFor n board number) (asked_behind (line + 1) first [] (asked_operations script)
     (map showing_in (client_lines runs first script)))) none
-    (client_there first board number [] (asked script) (line + 1) (map showing_in (client_lines runs first script))
+    (client_there first board number [] (asked_operations script) (line + 1) (map showing_in (client_lines runs first script))
     (length-map (client_lines runs first script) showing_in ∙ counted runs first script head) (omega arith)
     (omega (
       arith,
@@ -202,6 +202,6 @@ asked_there runs line first (script ∷ scripts) (suc client) steps board number
     let tail : map rules_shown (printed.lines_from runs (first + 1) scripts) ≡ map rules_of scripts = cc in
     let next : first + 1 + client ≡ first + suc client = omega arith in
     any_back (IsAskedFor (first + suc client) board number) _ _
-    (subst (λ n. Any (IsAskedFor n board number) (lines_from (line + 1 + length (asked script)) (first + 1) scripts
+    (subst (λ n. Any (IsAskedFor n board number) (asked_from (line + 1 + length (asked_operations script)) (first + 1) scripts
     (map (map showing_in) (printed.lines_from runs (first + 1) scripts)))) next
-    (asked_there runs (line + 1 + length (asked script)) (first + 1) scripts client steps board number tail at within))
+    (asked_there runs (line + 1 + length (asked_operations script)) (first + 1) scripts client steps board number tail at within))

@@ -13,7 +13,7 @@ use Rattle.board_bus.specs.declared.range.Range.{Range}
 use Rattle.board_bus.specs.Cells.{CellMap, IsInOrder, read_word, write_word}
 use Rattle.board_bus.specs.Ranges.{range_cells, opening_bus}
 use Rattle.std.specs.List.{flat_map}
-use Rattle.board_bus.specs.Transactions.{◌>>=◌, write_on, write_words, Modified, modify, of_modifying, masked, added}
+use Rattle.board_bus.specs.Transactions.{◌>>=◌, write_on, write_words, Modified, modify, of_modifying, masked_word, sum_word}
 use Rattle.board_bus.specs.Transactions.{outcome, Transacted, transact}
 use Rattle.board_bus.specs.Bodies.{Executed, run_on, run_first, run_requests, run_body}
 use Rattle.board_bus.proofs.Lookups.{cell_map-in_order, same_cells}
@@ -67,8 +67,8 @@ outcome-in_order cells (ReadPort base count) order = order
 outcome-in_order cells (Write base words) order = writes-in_order cells (enumerate_from base words) order
 outcome-in_order cells (WritePort base words) order = writes-in_order cells (map (λ word. (base, word)) words) order
 outcome-in_order cells (RmwBits base and_term or_term) order =
-    modify-in_order cells base (masked and_term or_term) order
-outcome-in_order cells (RmwSum base addend) order = modify-in_order cells base (added addend) order
+    modify-in_order cells base (masked_word and_term or_term) order
+outcome-in_order cells (RmwSum base addend) order = modify-in_order cells base (sum_word addend) order
 
 run_on-in_order : (first : Transacted) (later : CellMap → Executed) → IsInOrder first.cells
     → IsInOrder (later first.cells).cells → IsInOrder (run_on first later).cells

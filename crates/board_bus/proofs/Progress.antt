@@ -11,7 +11,7 @@ use Rattle.board_bus.specs.declared.addressing.Addressing.TheVariants.{Block, Po
 use Rattle.board_bus.specs.declared.fault.BusFault.{BusFault}
 use Rattle.board_bus.specs.Cells.{CellMap, read_word}
 use Rattle.board_bus.specs.Transactions.{Writing, first_fault, words_read, fault_of_reading, write_words}
-use Rattle.board_bus.specs.Answering.{step_of, addresses, placed}
+use Rattle.board_bus.specs.Answering.{step_of, addresses, with_addresses}
 
 -- the first address, and those that are left
 addresses-more : (addressing : Addressing) (address step count : ℕ) → step ≡ step_of addressing
@@ -75,8 +75,8 @@ after_writing done later = record later { done = done + later.done }
 -- What was written so far and what writing the words that are left does are what writing all does.
 pub record WritesOn (before now : CellMap) (addressing : Addressing) (base address done : ℕ)
     (words left : List ℕ) : Type 0 where
-  pub all : after_writing done (write_words now (placed addressing address left))
-      ≡ write_words before (placed addressing base words)
+  pub all : after_writing done (write_words now (with_addresses addressing address left))
+      ≡ write_words before (with_addresses addressing base words)
 
 -- how far a loop that reads has come: the room did not shrink, and the address is as far as the words read
 pub record ReadingLoop (cells : CellMap) (before out : List ℕ) (room_before room_now : ℕ) (addressing : Addressing)

@@ -11,7 +11,7 @@ use Rattle.transaction_codec.specs.Reply.{reply_words}
 use Rattle.transaction_codec.specs.Answer.{values_done, room_first, room_from, reply_room}
 use Rattle.board_bus.specs.declared.fault.BusFault.{BusFault}
 use Rattle.board_bus.specs.Cells.{CellMap}
-use Rattle.board_bus.specs.Transactions.{Modified, of_modifying, modify, masked, added, outcome, Transacted, transact}
+use Rattle.board_bus.specs.Transactions.{Modified, of_modifying, modify, masked_word, sum_word, outcome, Transacted, transact}
 use Rattle.board_bus.specs.Bodies.{Executed, run_on, run_first, run_requests, run_body}
 use Rattle.board_bus.proofs.Progress.{words_read-length}
 use Rattle.board_bus.proofs.Requests.{run_on-either}
@@ -27,8 +27,8 @@ values_bound cells (ReadPort base count) =
     omega (arith, words_read-length cells (replicate count base), length-replicate count base)
 values_bound cells (Write base words) = lit≤ tt
 values_bound cells (WritePort base words) = lit≤ tt
-values_bound cells (RmwBits base and_term or_term) = modified_values cells (modify cells base (masked and_term or_term))
-values_bound cells (RmwSum base addend) = modified_values cells (modify cells base (added addend))
+values_bound cells (RmwBits base and_term or_term) = modified_values cells (modify cells base (masked_word and_term or_term))
+values_bound cells (RmwSum base addend) = modified_values cells (modify cells base (sum_word addend))
 
 run_on-length : (first : Transacted) (later : CellMap → Executed) (room more : ℕ) → length first.reply.values ≤ room
     → length (later first.cells).reply ≤ more

@@ -21,7 +21,7 @@ use Rattle.board_bus.specs.declared.fault.BusFault.TheVariants.{ReadError, Write
 use Rattle.board_bus.specs.Fault.{fault_code, info_code}
 use Rattle.board_bus.specs.Cells.{Cell, CellMap, cell_at, read_cell, read_word, write_cell, write_word}
 use Rattle.board_bus.specs.Transactions.{Writing, first_fault, words_read, fault_of_reading, of_reading, write_on}
-use Rattle.board_bus.specs.Transactions.{write_words, Modified, modify, of_modifying, masked, added, outcome}
+use Rattle.board_bus.specs.Transactions.{write_words, Modified, modify, of_modifying, masked_word, sum_word, outcome}
 
 -- a read is refused as a read, and a write as a write
 abbrev IsReadFault : ℕ → Type 0
@@ -214,8 +214,8 @@ shape_of cells (WritePort base words) =
     writing-shape cells (WritePort base words) (map (λ word. (base, word)) words)
     (length-map words (λ word. (base, word))) refl (inr refl) (λ code done fault fewer. (fault, fewer, refl))
 shape_of cells (RmwBits base and_term or_term) =
-    modified-shape cells (RmwBits base and_term or_term) (modify cells base (masked and_term or_term)) refl refl
+    modified-shape cells (RmwBits base and_term or_term) (modify cells base (masked_word and_term or_term)) refl refl
     (inl refl) (λ fault. (fault_is_bus_fault fault, refl, refl))
 shape_of cells (RmwSum base addend) =
-    modified-shape cells (RmwSum base addend) (modify cells base (added addend)) refl refl (inr refl) (λ fault.
+    modified-shape cells (RmwSum base addend) (modify cells base (sum_word addend)) refl refl (inr refl) (λ fault.
     (fault_is_bus_fault fault, refl, refl))

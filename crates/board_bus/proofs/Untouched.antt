@@ -10,7 +10,7 @@ use Rattle.transaction_codec.specs.declared.request.Request.{Request}
 use Rattle.transaction_codec.specs.Request.{AreRequests, NoRequestAtFront, requests_words}
 use Rattle.board_bus.specs.declared.fault.BusFault.{BusFault}
 use Rattle.board_bus.specs.Cells.{CellMap, cell_at, read_word, write_word}
-use Rattle.board_bus.specs.Transactions.{◌>>=◌, write_on, write_words, Modified, modify, of_modifying, masked, added}
+use Rattle.board_bus.specs.Transactions.{◌>>=◌, write_on, write_words, Modified, modify, of_modifying, masked_word, sum_word}
 use Rattle.board_bus.specs.Transactions.{outcome, written_by, Transacted, transact}
 use Rattle.board_bus.specs.Reading.{ReadsRequests}
 use Rattle.board_bus.specs.Bodies.{Executed, run_on, run_body}
@@ -70,8 +70,8 @@ outcome-untouched cells (Write base words) q differ =
 outcome-untouched cells (WritePort base words) q differ =
     writes-untouched cells (map (λ word. (base, word)) words) q (port-differs base q words differ)
 outcome-untouched cells (RmwBits base and_term or_term) q differ =
-    modify-untouched cells base q (masked and_term or_term) differ.0
-outcome-untouched cells (RmwSum base addend) q differ = modify-untouched cells base q (added addend) differ.0
+    modify-untouched cells base q (masked_word and_term or_term) differ.0
+outcome-untouched cells (RmwSum base addend) q differ = modify-untouched cells base q (sum_word addend) differ.0
 
 run_on-untouched : (first : Transacted) (later : CellMap → Executed) (q : ℕ)
     → cell_at (later first.cells).cells q ≡ cell_at first.cells q

@@ -19,7 +19,7 @@ use Rattle.board_bus.specs.declared.fault.BusFault.{BusFault}
 use Rattle.board_bus.specs.Cells.{Cell, CellMap, HoldsWords, cell_at, read_cell, read_word, write_cell, write_word}
 use Rattle.board_bus.specs.Cells.{write_fault, unless}
 use Rattle.board_bus.specs.Transactions.{◌>>=◌, words_read, write_on, write_words, Modified, modify, of_modifying}
-use Rattle.board_bus.specs.Transactions.{masked, added, outcome}
+use Rattle.board_bus.specs.Transactions.{masked_word, sum_word, outcome}
 use Rattle.board_bus.proofs.Lookups.{tie_same, tie_apart}
 
 -- what a put cell leaves elsewhere, and puts in its place
@@ -187,7 +187,7 @@ outcome-words cells (WritePort base words) holds fits =
       carried = tt;
     }
 outcome-words cells (RmwBits base and_term or_term) holds fits =
-    modify-words cells base (masked and_term or_term) holds (λ word small.
+    modify-words cells base (masked_word and_term or_term) holds (λ word small.
     or_lt 32 (bit_and word and_term) or_term (omega (arith, small, and_le_l word and_term)) fits.1.1.0)
 outcome-words cells (RmwSum base addend) holds fits =
-    modify-words cells base (added addend) holds (λ word small. mod-lt (word + addend) (lit< tt))
+    modify-words cells base (sum_word addend) holds (λ word small. mod-lt (word + addend) (lit< tt))

@@ -21,9 +21,9 @@ addresses Block base count = range_with_len base count
 addresses Port base count = replicate count base
 
 -- the words of a write, each beside its address
-abbrev pub placed : Addressing → ℕ → List ℕ → List (ℕ × ℕ)
-placed Block base words = enumerate_from base words
-placed Port base words = map (λ word. (base, word)) words
+abbrev pub with_addresses : Addressing → ℕ → List ℕ → List (ℕ × ℕ)
+with_addresses Block base words = enumerate_from base words
+with_addresses Port base words = map (λ word. (base, word)) words
 
 -- the types of such a read and of such a write
 abbrev pub read_type : Addressing → ℕ

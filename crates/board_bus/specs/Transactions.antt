@@ -67,12 +67,12 @@ modify cells address change = do
   Ok (record { before = before; cells = after })
 
 -- (X AND A) OR B. IPbus 2.0, RMW bits.
-abbrev pub masked : ℕ → ℕ → ℕ → ℕ
-masked and_term or_term word = bit_or (bit_and word and_term) or_term
+abbrev pub masked_word : ℕ → ℕ → ℕ → ℕ
+masked_word and_term or_term word = bit_or (bit_and word and_term) or_term
 
 -- X plus the addend modulo 2^32. IPbus 2.0, RMW sum.
-abbrev pub added : ℕ → ℕ → ℕ
-added addend word = (word + addend) % 2 ^ 32
+abbrev pub sum_word : ℕ → ℕ → ℕ
+sum_word addend word = (word + addend) % 2 ^ 32
 
 -- A transaction done: the bus after it, the words done, the refusal that ended it and the words that the reply
 -- carries. IPbus 2.0, transaction header.
@@ -106,8 +106,8 @@ outcome cells (Read base count) = of_reading cells (range_with_len base count)
 outcome cells (ReadPort base count) = of_reading cells (replicate count base)
 outcome cells (Write base words) = of_writing (write_words cells (enumerate_from base words))
 outcome cells (WritePort base words) = of_writing (write_words cells (map (λ word. (base, word)) words))
-outcome cells (RmwBits base and_term or_term) = of_modifying cells (modify cells base (masked and_term or_term))
-outcome cells (RmwSum base addend) = of_modifying cells (modify cells base (added addend))
+outcome cells (RmwBits base and_term or_term) = of_modifying cells (modify cells base (masked_word and_term or_term))
+outcome cells (RmwSum base addend) = of_modifying cells (modify cells base (sum_word addend))
 
 -- How an operation on a block ends: all the words asked for are done, or the first one that is left is refused, and
 -- that refusal is the fault. `access` is what the bus before it gives at each place.

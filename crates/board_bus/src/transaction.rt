@@ -6,9 +6,9 @@ ghost use Rattle.transaction_codec.specs.Request.{IsRequest};
 ghost use Rattle.transaction_codec.specs.Reply.{reply_words};
 ghost use Rattle.board_bus.specs.Fault.{info_code};
 ghost use Rattle.board_bus.specs.Cells.{read_word, write_word};
-ghost use Rattle.board_bus.specs.Transactions.{added, fault_of_reading, masked, modify, of_reading, of_writing};
+ghost use Rattle.board_bus.specs.Transactions.{sum_word, fault_of_reading, masked_word, modify, of_reading, of_writing};
 ghost use Rattle.board_bus.specs.Transactions.{outcome, transact, words_read, write_words};
-ghost use Rattle.board_bus.specs.Answering.{IsModified, addresses, modified_words, outcome_words, placed, read_type};
+ghost use Rattle.board_bus.specs.Answering.{IsModified, addresses, modified_words, outcome_words, with_addresses, read_type};
 ghost use Rattle.board_bus.specs.Answering.{write_type};
 
 use crate::addressing::Addressing::{self, Block, Port};
@@ -120,9 +120,9 @@ impl Bus {
     /// Writes the words of a block or of a port, up to the first that is refused.
     fn write_words(&mut self, addressing: Addressing, base: u32, words: &[u32]) -> Written
         requires count { length words.now < 2 ^ 8 }
-        ensures bus { self.new ≡ (write_words self.old (placed addressing base words.now)).cells }
-        ensures done { result.done ≡ (write_words self.old (placed addressing base words.now)).done }
-        ensures fault { result_err result.ended ≡ (write_words self.old (placed addressing base words.now)).fault }
+        ensures bus { self.new ≡ (write_words self.old (with_addresses addressing base words.now)).cells }
+        ensures done { result.done ≡ (write_words self.old (with_addresses addressing base words.now)).done }
+        ensures fault { result_err result.ended ≡ (write_words self.old (with_addresses addressing base words.now)).fault }
     {
         let step = addressing.step();
         let mut address = u64::from(base);
@@ -156,11 +156,11 @@ impl Bus {
         requires tid { tid < 2 ^ 12 }
         requires count { length words.now < 2 ^ 8 }
         requires room { vec_len out.old < vec_capacity out.old }
-        ensures bus { self.new ≡ (write_words self.old (placed addressing base words.now)).cells }
+        ensures bus { self.new ≡ (write_words self.old (with_addresses addressing base words.now)).cells }
         ensures reply { out.new.items ≡ out.old.items
             ++ outcome_words tid (write_type addressing)
-            (of_writing (write_words self.old (placed addressing base words.now))) }
-        ensures fault { result_err result ≡ (write_words self.old (placed addressing base words.now)).fault }
+            (of_writing (write_words self.old (with_addresses addressing base words.now))) }
+        ensures fault { result_err result ≡ (write_words self.old (with_addresses addressing base words.now)).fault }
         ensures capacity { vec_capacity out.old ≤ vec_capacity out.new }
     {
         let written = self.write_words(addressing, base, words);
@@ -174,7 +174,7 @@ impl Bus {
 
     /// Replaces the word X at an address by (X AND `and_term`) OR `or_term`, and answers X.
     fn mask(&mut self, base: u32, and_term: u32, or_term: u32) -> Result<u32, BusFault>
-        ensures { IsModified self.old self.new result (modify self.old base (masked and_term or_term)) }
+        ensures { IsModified self.old self.new result (modify self.old base (masked_word and_term or_term)) }
     {
         let mut last = 0;
         let before = self.read_near(&mut last, base)?;
@@ -184,7 +184,7 @@ impl Bus {
 
     /// Adds to the word X at an address modulo 2^32, and answers X.
     fn add(&mut self, base: u32, addend: u32) -> Result<u32, BusFault>
-        ensures { IsModified self.old self.new result (modify self.old base (added addend)) }
+        ensures { IsModified self.old self.new result (modify self.old base (sum_word addend)) }
     {
         let mut last = 0;
         let before = self.read_near(&mut last, base)?;

@@ -13,7 +13,7 @@ use Rattle.board_bus.specs.Ranges.{opening_bus}
 use Rattle.board_node.specs.declared.spec.BoardSpec.{BoardSpec}
 use Rattle.board_node.specs.declared.spec.LinkSpec.{LinkSpec}
 use Rattle.board_node.specs.declared.spec.LinkSpec.TheVariants.{Sim, Udp}
-use Rattle.world_model.specs.Board.{Board, executed}
+use Rattle.world_model.specs.Board.{Board, bodies_executed}
 use Rattle.world_model.specs.Settings.{AreLimits, Limits}
 use Rattle.world_core.specs.declared.link.Link.{Ghosts}
 use Rattle.world_core.specs.Receives.{first_status}
@@ -23,7 +23,7 @@ use Rattle.lossy_network.specs.Racks.{telling_for}
 use Rattle.hub_lane.specs.declared.greeting.Greeted.{Greeted}
 use Rattle.hub_lane.specs.declared.greeting.Greeted.TheVariants.{Ready, Silent, Down, NoMemory}
 use Rattle.hub_lane.specs.Greeting.{CanBegin, IfDown, IfReady, IfSilent, StaysFresh, link_of}
-use Rattle.hub_lane.specs.Lanes.{IsGreeted, opened}
+use Rattle.hub_lane.specs.Lanes.{IsGreeted, new_lane}
 use Rattle.lane_history.specs.Links.{IsBoardOf, IsUntouched, LinkReport, board_there}
 use Rattle.board_greeting.specs.Boards.{AreFreshLinks, AreReached, LeavesRoom, IsGreetedAs, IsReached}
 use Rattle.board_greeting.specs.Reports.{shown_by}
@@ -72,9 +72,9 @@ board_of_spec settings (Udp address port wait) (Some u) call = absurd call
 
 untouched_there : (settings : Limits) (spec : LinkSpec) (new : Option Telling)
     → IfTelling (telling_for spec) new (StaysFresh settings)
-    → IfSome (board_there new) (λ (board : Board). executed board ≡ [])
+    → IfSome (board_there new) (λ (board : Board). bodies_executed board ≡ [])
 untouched_there settings (Sim mtu buffers first ranges fates) None call = absurd call
-untouched_there settings (Sim mtu buffers first ranges fates) (Some u) call = ap executed call.same_board
+untouched_there settings (Sim mtu buffers first ranges fates) (Some u) call = ap bodies_executed call.same_board
 untouched_there settings (Udp address port wait) None call = tt
 untouched_there settings (Udp address port wait) (Some u) call = absurd call
 
@@ -95,7 +95,7 @@ second_told P Q (Some t) is = is.1
 
 module _ {L : Type 0} (seen : Ghosts L) (settings : Limits) where
   told_as : (link : L) (board : Greeted L)
-      → IfReady board (λ lane. lane ≡ opened lane.link settings lane.status)
+      → IfReady board (λ lane. lane ≡ new_lane lane.link settings lane.status)
       → IfReady board (λ lane. IfSome (seen.telling lane.link) (IsGreeted settings lane.status))
       → IfSilent board (λ after rounds. (rounds ≡ settings.rounds)
       × (64 * settings.rounds ≤ 64 * seen.quiets after + seen.gots after))
@@ -124,7 +124,7 @@ module _ {L : Type 0} (seen : Ghosts L) (settings : Limits) where
 
   pub is_reached : (spec : BoardSpec) (link : L) (board : Greeted L) → seen.telling link ≡ telling_for spec.link
       → IfTelling (seen.telling link) (seen.telling (link_of board)) (StaysFresh settings)
-      → IfReady board (λ lane. lane ≡ opened lane.link settings lane.status)
+      → IfReady board (λ lane. lane ≡ new_lane lane.link settings lane.status)
       → IfReady board (λ lane. IfSome (seen.telling lane.link) (IsGreeted settings lane.status))
       → IfSilent board (λ after rounds. (rounds ≡ settings.rounds)
       × (64 * settings.rounds ≤ 64 * seen.quiets after + seen.gots after))

@@ -20,7 +20,7 @@ use Rattle.lane_record.specs.Coding.{Head}
 use Rattle.lane_history.specs.Links.{IsBoardOf, LinkReport, board_there}
 use Rattle.lane_history.specs.Lanes.{IsSoundLane}
 use Rattle.lane_history.specs.Runs.{TellsPayload}
-use Rattle.board_history.specs.Runs.{opening_of as opens_with}
+use Rattle.board_history.specs.Runs.{opens_with}
 use Rattle.board_greeting.specs.Reports.{OpenedWith}
 use Rattle.hub_lane.specs.Heard.{HasHeard, HasListened}
 use Rattle.hub_lane.specs.Lanes.{BoardStatus, HasToldStatus, IsGreeted, IsLane, LaneState, opening_of}

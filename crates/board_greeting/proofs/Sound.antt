@@ -9,7 +9,7 @@ use Rattle.ipb_base.specs.Numbers.{payload_of}
 use Rattle.board_bus.specs.Cells.{CellMap}
 use Rattle.board_bus.specs.Bodies.{replay}
 use Rattle.world_model.specs.declared.offered.Offered.{Offered}
-use Rattle.world_model.specs.Board.{Board, executed}
+use Rattle.world_model.specs.Board.{Board, bodies_executed}
 use Rattle.world_model.specs.Places.{at_place}
 use Rattle.world_model.specs.Facts.{bodies_of}
 use Rattle.world_model.specs.Hub.{Hub}
@@ -81,9 +81,9 @@ front_longer done sent all one two =
 
 reply_is : (opening : CellMap) (t : Telling) (outcomes : List (Option Outcome)) (k : ℕ) (outcome : Outcome)
     → OpenedWith opening t → AreRightReplies t outcomes → slice_get outcomes k ≡ Some (Some outcome)
-    → IsReplyOf (replay opening (executed t.told.board)).replies outcome
+    → IsReplyOf (replay opening (bodies_executed t.told.board)).replies outcome
 reply_is opening t outcomes k (Replied place words) opened right there =
-    subst (λ (o : CellMap). IsReplyOf (replay o (executed t.told.board)).replies (Replied place words)) opened
+    subst (λ (o : CellMap). IsReplyOf (replay o (bodies_executed t.told.board)).replies (Replied place words)) opened
     (right.right k place words there)
 reply_is opening t outcomes k (TimedOut place rounds) opened right there = tt
 reply_is opening t outcomes k Unsent opened right there = tt
@@ -93,15 +93,15 @@ true_of : TrueLaw → (stopped : Bool) (limits : Limits) (hub : Hub) (queue : Li
     (outcomes : List (Option Outcome)) (lates : List (Option (List ℕ))) (opening : CellMap) (t : Telling)
     → OpenedWith opening t → hub.sent ++ queue ≡ offers_from 0 cs outcomes
     → IsStanding stopped limits hub outcomes lates t
-    → IsTrueOf opening cs outcomes lates (executed t.told.board)
+    → IsTrueOf opening cs outcomes lates (bodies_executed t.told.board)
 true_of law stopped limits hub queue cs outcomes lates opening t opened same standing =
     let truth = law stopped limits hub outcomes lates t standing in
     record {
-      front = front_longer (executed t.told.board) (bodies_of hub.sent) (bodies_offered cs outcomes) truth.in_order
+      front = front_longer (bodies_executed t.told.board) (bodies_of hub.sent) (bodies_offered cs outcomes) truth.in_order
           (sent_offered hub.sent queue cs outcomes same);
       replies = λ k outcome there. reply_is opening t outcomes k outcome opened truth.replied there;
       late = λ place words came.
-          subst (λ (o : CellMap). at_place (replay o (executed t.told.board)).replies place ≡ Some words) opened
+          subst (λ (o : CellMap). at_place (replay o (bodies_executed t.told.board)).replies place ≡ Some words) opened
           (truth.late.right place words came);
     }
 
@@ -190,7 +190,7 @@ sound_lane law each settings status hub items outcomes lates give_ups down spent
       tells = is.tells;
       late = is.late.timed_out;
       told = shown (IsStanding (down || spent) settings hub outcomes lates) (OpenedWith opening)
-          (λ (board : Board). IsTrueOf opening (claims items) outcomes lates (executed board)) link.telling
+          (λ (board : Board). IsTrueOf opening (claims items) outcomes lates (bodies_executed board)) link.telling
           is.standing opened
           (λ t standing opens. true_of law (down || spent) settings hub (cond down [] hub.queue) (claims items) outcomes
           lates opening t opens is.agrees.offered standing);

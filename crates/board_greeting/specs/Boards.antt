@@ -16,15 +16,15 @@ use Rattle.board_bus.specs.Cells.{CellMap}
 use Rattle.board_bus.specs.Ranges.{opening_bus}
 use Rattle.board_node.specs.declared.spec.LinkSpec.{LinkSpec}
 use Rattle.board_node.specs.declared.spec.LinkSpec.TheVariants.{Sim, Udp}
-use Rattle.hub_lane.specs.Lanes.{BoardStatus, IsGreeted, LaneState, opened, opening_of}
+use Rattle.hub_lane.specs.Lanes.{BoardStatus, IsGreeted, LaneState, new_lane, opening_of}
 use Rattle.lane_history.specs.Links.{IsBoardOf, IsUntouched, LinkReport, board_there}
 use Rattle.lane_history.specs.Lanes.{IsSoundLane}
 use Rattle.lane_history.specs.Runs.{IsDownRun, IsSilentRun, TellsPayload}
-use Rattle.board_history.specs.Runs.{opening_of as opens_with}
+use Rattle.board_history.specs.Runs.{opens_with}
 
 -- a lane before its first entry, over a link that tells this
 pub record IsReadyLane {L : Type 0} (settings : Limits) (lane : LaneState L) (telling : Option Telling) : Type 0 where
-  pub opened' : lane ≡ opened lane.link settings lane.status
+  pub opened' : lane ≡ new_lane lane.link settings lane.status
   pub greeted : IfSome telling (IsGreeted settings lane.status)
 
 -- not that of a live board

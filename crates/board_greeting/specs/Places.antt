@@ -76,12 +76,12 @@ pub record HasRoomForBoards {L : Type 0} (count : ℕ) (split : Split L) : Type 
 -- ---- put together again
 
 -- the boards in their order: the next lane, and the next results if there are any, belong to the next live place
-abbrev pub rejoined : {L P : Type 0} → List (Place L) → List (LaneState L) → List P → List (Board L P)
-rejoined [] lanes results = []
-rejoined (Live ∷ places) [] results = []
-rejoined (Live ∷ places) (lane ∷ lanes) [] = board.Live lane None ∷ rejoined places lanes []
-rejoined (Live ∷ places) (lane ∷ lanes) (r ∷ results) = board.Live lane (Some r) ∷ rejoined places lanes results
-rejoined (Idle told link ∷ places) lanes results = board.Idle told link ∷ rejoined places lanes results
+abbrev pub boards_in_order : {L P : Type 0} → List (Place L) → List (LaneState L) → List P → List (Board L P)
+boards_in_order [] lanes results = []
+boards_in_order (Live ∷ places) [] results = []
+boards_in_order (Live ∷ places) (lane ∷ lanes) [] = board.Live lane None ∷ boards_in_order places lanes []
+boards_in_order (Live ∷ places) (lane ∷ lanes) (r ∷ results) = board.Live lane (Some r) ∷ boards_in_order places lanes results
+boards_in_order (Idle told link ∷ places) lanes results = board.Idle told link ∷ boards_in_order places lanes results
 
 -- there is a lane for each live place
 abbrev pub HaveLanes : {L : Type 0} → List (Place L) → List (LaneState L) → Type 0

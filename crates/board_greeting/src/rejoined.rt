@@ -30,12 +30,12 @@ pub struct Rejoined<L: Link, C> {
 impl<L: Link, C> Model for Rejoined<L, C> {
     ghost use Rattle.std.specs.Prelude.{List};
     ghost use Rattle.std.specs.Vec.Iter.{into_iter_items};
-    ghost use Rattle.board_greeting.specs.Places.{HaveLanes, rejoined};
+    ghost use Rattle.board_greeting.specs.Places.{HaveLanes, boards_in_order};
     ghost use Rattle.board_greeting.specs.declared.rejoined.Board.{Board};
 
     ghost Value = { List (Board L C) };
 
-    ghost view = { λ r. rejoined (into_iter_items r.places) (into_iter_items r.lanes) (into_iter_items r.came) };
+    ghost view = { λ r. boards_in_order (into_iter_items r.places) (into_iter_items r.lanes) (into_iter_items r.came) };
 
     ghost invariant = { λ r. HaveLanes (into_iter_items r.places) (into_iter_items r.lanes) };
 }
@@ -44,7 +44,7 @@ impl<L: Link, C> Rejoined<L, C> {
     /// All boards: there is a lane for each live place, and `came` has what came of the clients of each, or nothing.
     pub fn of(places: Vec<Place<L>>, lanes: Vec<Lane<L>>, came: Vec<C>) -> Rejoined<L, C>
         requires { spec.HaveLanes places.items lanes.items }
-        ensures { result ≡ spec.rejoined places.items lanes.items came.items }
+        ensures { result ≡ spec.boards_in_order places.items lanes.items came.items }
     {
         Rejoined {
             places: places.into_iter(),

@@ -4,7 +4,7 @@ use Rattle.std.proofs.Common.{subst, arith, append-nil}
 use Rattle.std.specs.List.{AllByRecursion}
 use Rattle.lane_record.specs.declared.outcome.Outcome.{Outcome}
 use Rattle.lane_record.specs.Lists.{CountsFrom}
-use Rattle.board_history.specs.Order.{Placed, RisesFrom, all_placed, by_place, insert, placed, places_of}
+use Rattle.board_history.specs.Order.{Placed, RisesFrom, all_placed, by_place, insert, bodies_with_places, places_of}
 use Rattle.board_history.specs.Parts.{HasOneOrder, KeepsScripts}
 use Rattle.board_history.specs.InTurn.{AreInTurn, IsUsedByOne}
 use Rattle.board_history.proofs.Sorting.{AreAbove, insert_low}
@@ -15,7 +15,7 @@ pub none_placed : (bodies : List (List (List ℕ))) (outcomes : List (List Outco
 none_placed [] outcomes none = refl
 none_placed (bs ∷ later) [] none = refl
 none_placed (bs ∷ later) (os ∷ others) none =
-    ap (λ (cs : List (List ℕ)). placed cs os ++ all_placed later others) none.0 ∙ none_placed later others none.1
+    ap (λ (cs : List (List ℕ)). bodies_with_places cs os ++ all_placed later others) none.0 ∙ none_placed later others none.1
 
 -- so the places of all are those of one
 alone_rises : (bodies : List (List (List ℕ))) (outcomes : List (List Outcome)) → IsUsedByOne bodies
@@ -25,7 +25,7 @@ alone_rises ([] ∷ later) [] one keeps = tt
 alone_rises ((b ∷ bs) ∷ later) [] one keeps = tt
 alone_rises ([] ∷ later) (os ∷ others) one keeps = alone_rises later others one keeps.1
 alone_rises ((b ∷ bs) ∷ later) (os ∷ others) one keeps =
-    let own = placed (b ∷ bs) os in
+    let own = bodies_with_places (b ∷ bs) os in
     let only : own ++ all_placed later others ≡ own =
     ap (λ (ps : List Placed). own ++ ps) (none_placed later others one) ∙ append-nil own in
     subst (λ (ps : List Placed). RisesFrom 1 (places_of ps)) (sym only) keeps.0

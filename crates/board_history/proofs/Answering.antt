@@ -23,7 +23,7 @@ use Rattle.script_plans.specs.Plan.{ClientBodies, AreSpelled}
 use Rattle.lane_record.specs.Outcomes.{place_of}
 use Rattle.transcript.specs.Ends.{told_of, end_of, ends_with, told_by}
 use Rattle.board_history.specs.InTurn.{outcomes_from}
-use Rattle.board_history.specs.Runs.{parts_in_turn, plans_on, greeting_of, opening_of, board_run}
+use Rattle.board_history.specs.Runs.{parts_in_turn, plans_on, greeting_of, opens_with, board_run}
 use Rattle.board_history.specs.Answering.{IsAnswered, AreAnswered, AsksRequests, AskRequests, OpensWithWords}
 use Rattle.board_history.proofs.ReplyWords.{answer_words}
 use Rattle.board_history.proofs.Lists.{Both}
@@ -136,4 +136,4 @@ module _ (answering : Answering) (any : AnsweringAny) (keeping : Keeping) (keepi
       subst (λ (r : BoardRun). AskRequests r → AllByRecursion AreAnswered r.parts) (sym is)
       (λ asks. all-map ToldPart AreAnswered (board_run spec board scripts).parts
       (λ p. ends_answered p.planned.bodies p.outcomes p.lates)
-      (parts_told 1 (opening_of spec.link) (plans_on board (greeting_of spec.link) scripts) opens asks))
+      (parts_told 1 (opens_with spec.link) (plans_on board (greeting_of spec.link) scripts) opens asks))

@@ -14,14 +14,14 @@ use Rattle.transaction_codec.specs.declared.request.Request.{Request}
 use Rattle.transaction_codec.specs.Request.{AreRequests, requests_words}
 use Rattle.world_model.proofs.Lists.{get_front}
 use Rattle.mtu_packer.specs.declared.packed.Piece.{Piece}
-use Rattle.mtu_packer.specs.Cutting.{cut, piece}
+use Rattle.mtu_packer.specs.Cutting.{cut_pieces, piece}
 use Rattle.mtu_packer.specs.Packing.{requests_from, body_requests, body_words, AreReadable}
-use Rattle.mtu_packer.specs.Packed.{piece_at, pieces_at, Contents, IsPacked, packed}
+use Rattle.mtu_packer.specs.Packed.{piece_at, pieces_at, Contents, IsPacked, packed_contents}
 use Rattle.script_steps.specs.declared.operation.RegOp.{RegOp}
 use Rattle.script_steps.specs.declared.operation.Step.{Step}
 use Rattle.script_steps.specs.declared.operation.Step.TheVariants.{Do, Denied, Dispatch}
 use Rattle.script_plans.specs.declared.planned.PieceAt.{PieceAt}
-use Rattle.script_plans.specs.Plan.{ClientBodies, no_bodies, moved, begun, dispatches, operations, ops_on, plan}
+use Rattle.script_plans.specs.Plan.{ClientBodies, no_bodies, piece_behind, into_next_dispatch, dispatches, operations, ops_on, plan}
 use Rattle.script_plans.specs.Plan.{with_dispatch, all_dispatches, count_on}
 use Rattle.script_steps.specs.Executable.{IsRmw}
 use Rattle.board_history.proofs.Readiness.{ArePacked}
@@ -101,7 +101,7 @@ rmw_pieces : (payload : ℕ) (op : Op) (ks : List ℕ)
 rmw_pieces payload op [] = tt
 rmw_pieces payload op (k ∷ ks) = (rmw_piece payload op k, rmw_pieces payload op ks)
 
-rmw_some : (payload : ℕ) (op : Op) → IsRmw op → 0 < length (cut payload op)
+rmw_some : (payload : ℕ) (op : Op) → IsRmw op → 0 < length (cut_pieces payload op)
 rmw_some payload (Read base count) is = absurd is
 rmw_some payload (ReadPort base count) is = absurd is
 rmw_some payload (Write base words) is = absurd is
@@ -110,18 +110,18 @@ rmw_some payload (RmwBits base and_term or_term) is = omega arith
 rmw_some payload (RmwSum base addend) is = omega arith
 
 ops_asked : (parts : List (List Op)) → AreReadable parts → (payload : ℕ) (ops : List Op) (pieces : List (List Piece))
-    → map (pieces_at parts) pieces ≡ map (λ op. map Some (cut payload op)) ops
+    → map (pieces_at parts) pieces ≡ map (λ op. map Some (cut_pieces payload op)) ops
     → Both (ArePieces (map body_words parts)) ops pieces
 ops_asked parts readable payload [] [] e = tt
 ops_asked parts readable payload [] (ps ∷ pieces) e = absurd cc
 ops_asked parts readable payload (op ∷ ops) [] e = absurd cc
 ops_asked parts readable payload (op ∷ ops) (ps ∷ pieces) e =
-    let both = heads (pieces_at parts ps) (map Some (cut payload op)) (map (pieces_at parts) pieces)
-    (map (λ op. map Some (cut payload op)) ops) e in
-    let long : length ps ≡ length (cut payload op) =
-    sym (length-map ps (piece_at parts)) ∙ ap length both.head ∙ length-map (cut payload op) Some in (
+    let both = heads (pieces_at parts ps) (map Some (cut_pieces payload op)) (map (pieces_at parts) pieces)
+    (map (λ op. map Some (cut_pieces payload op)) ops) e in
+    let long : length ps ≡ length (cut_pieces payload op) =
+    sym (length-map ps (piece_at parts)) ∙ ap length both.head ∙ length-map (cut_pieces payload op) Some in (
       record {
-        each' = each_asked parts readable op (cut payload op) ps both.head (rmw_pieces payload op _);
+        each' = each_asked parts readable op (cut_pieces payload op) ps both.head (rmw_pieces payload op _);
         some' = λ is. subst (λ (n : ℕ). 0 < n) (sym long) (rmw_some payload op is);
       },
       ops_asked parts readable payload ops pieces both.tail,
@@ -164,36 +164,36 @@ module _ (bodies more : List (List ℕ)) (op : Op) where
   }
 
   each_back : (ps : List Piece) → AllByRecursion (λ (p : Piece). IsAsked more op p.body p.index) ps
-      → AllByRecursion (λ (p : PieceAt). IsAsked (bodies ++ more) op p.body p.index) (map (moved (length bodies)) ps)
+      → AllByRecursion (λ (p : PieceAt). IsAsked (bodies ++ more) op p.body p.index) (map (piece_behind (length bodies)) ps)
   each_back [] all = tt
   each_back (p ∷ ps) all = (asked_back p.body p.index all.0, each_back ps all.1)
 
-  all_back : (ps : List Piece) → ArePieces more op ps → AreAsked (bodies ++ more) op (map (moved (length bodies)) ps)
+  all_back : (ps : List Piece) → ArePieces more op ps → AreAsked (bodies ++ more) op (map (piece_behind (length bodies)) ps)
   all_back ps is = record {
     each = each_back ps is.each';
-    some = λ rmw. subst (λ (n : ℕ). 0 < n) (sym (length-map ps (moved (length bodies)))) (is.some' rmw);
+    some = λ rmw. subst (λ (n : ℕ). 0 < n) (sym (length-map ps (piece_behind (length bodies)))) (is.some' rmw);
   }
 
 dispatches_asked : (payload board : ℕ) (ds : List (List RegOp)) (all : ClientBodies) (ops : List Op)
-    → AllByRecursion (λ dispatch. IsPacked (ops_on board dispatch) payload (packed payload (ops_on board dispatch))) ds
+    → AllByRecursion (λ dispatch. IsPacked (ops_on board dispatch) payload (packed_contents payload (ops_on board dispatch))) ds
     → Both (AreAsked all.bodies) ops all.pieces
-    → Both (AreAsked (fold with_dispatch all (map (λ dispatch. packed payload (ops_on board dispatch)) ds)).bodies)
+    → Both (AreAsked (fold with_dispatch all (map (λ dispatch. packed_contents payload (ops_on board dispatch)) ds)).bodies)
     (ops ++ flat_map (ops_on board) ds)
-    (fold with_dispatch all (map (λ dispatch. packed payload (ops_on board dispatch)) ds)).pieces
+    (fold with_dispatch all (map (λ dispatch. packed_contents payload (ops_on board dispatch)) ds)).pieces
 dispatches_asked payload board [] all ops is both =
     subst (λ (xs : List Op). Both (AreAsked all.bodies) xs all.pieces) (sym (append-nil ops)) both
 dispatches_asked payload board (d ∷ ds) all ops is both =
-    let c = packed payload (ops_on board d) in
+    let c = packed_contents payload (ops_on board d) in
     let next = with_dispatch all c in
     let here : Both (AreAsked next.bodies) (ops ++ ops_on board d) next.pieces =
     both_append (AreAsked next.bodies) ops all.pieces (ops_on board d)
-    (map (λ pieces. map (moved (length all.bodies)) pieces) c.pieces)
+    (map (λ pieces. map (piece_behind (length all.bodies)) pieces) c.pieces)
     (both_same (AreAsked all.bodies) (AreAsked next.bodies) ops all.pieces
     (λ op ps. all_front all.bodies c.bodies op ps) both)
-    (both_map (ArePieces c.bodies) (AreAsked next.bodies) (λ pieces. map (moved (length all.bodies)) pieces)
+    (both_map (ArePieces c.bodies) (AreAsked next.bodies) (λ pieces. map (piece_behind (length all.bodies)) pieces)
     (ops_on board d) c.pieces (λ op ps. all_back all.bodies c.bodies op ps)
     (contents_asked payload (ops_on board d) c is.0)) in
-    let all_of = fold with_dispatch next (map (λ dispatch. packed payload (ops_on board dispatch)) ds) in
+    let all_of = fold with_dispatch next (map (λ dispatch. packed_contents payload (ops_on board dispatch)) ds) in
     subst (λ (xs : List Op). Both (AreAsked all_of.bodies) xs all_of.pieces)
     (append_assoc ops (ops_on board d) (flat_map (ops_on board) ds))
     (dispatches_asked payload board ds next (ops ++ ops_on board d) is.1 here)
@@ -209,7 +209,7 @@ one_and_more board op ops =
     ]
 
 begun_ops : (board : ℕ) (op : RegOp) (ds : List (List RegOp))
-    → flat_map (ops_on board) (begun op ds) ≡ ops_on board (op ∷ []) ++ flat_map (ops_on board) ds
+    → flat_map (ops_on board) (into_next_dispatch op ds) ≡ ops_on board (op ∷ []) ++ flat_map (ops_on board) ds
 begun_ops board op [] = refl
 begun_ops board op (d ∷ later) =
     ap (λ (xs : List Op). xs ++ flat_map (ops_on board) later) (one_and_more board op d)

@@ -14,7 +14,7 @@ use Rattle.ipb_base.specs.Numbers.{payload_of}
 use Rattle.transaction_codec.specs.declared.request.Op.{Op}
 use Rattle.script_steps.specs.declared.operation.RegOp.{RegOp}
 use Rattle.script_steps.specs.declared.operation.Step.{Step}
-use Rattle.script_steps.specs.Rulings.{Asked, asked, allowed}
+use Rattle.script_steps.specs.Rulings.{Asked, asked_operations, allowed_operations}
 use Rattle.script_plans.specs.declared.planned.PieceAt.{PieceAt}
 use Rattle.script_plans.specs.declared.greeting.Greeting.{Greeting}
 use Rattle.script_plans.specs.declared.greeting.Greeting.TheVariants.{Live, Silent, Down}
@@ -191,22 +191,22 @@ module _ (P : OpResult → Type 0) (bus : AllowsBus P) (fitting : Fitting P) whe
   pub ask_allowed : (scripts : List (List Step)) (run : BoardRun) (client : ℕ) (steps : List Step)
       (before later : List Asked) (op : RegOp) (denied : Option ℕ) → CanShow P op.board scripts run
       → slice_get scripts client ≡ Some steps
-      → before ++ record { op = op; denied = denied } ∷ later ≡ asked steps → KeepsUnlessDenied op denied
+      → before ++ record { op = op; denied = denied } ∷ later ≡ asked_operations steps → KeepsUnlessDenied op denied
       → P (shown_behind run client before op denied).0
   ask_allowed scripts run client steps before later op None can at asks keeps =
       let ask : Asked = record { op = op; denied = None } in
-      let ops : allowed before ++ op ∷ allowed later ≡ operations steps =
-      sym (allowed-append before (ask ∷ later)) ∙ (ap allowed asks ∙ asked_allowed steps) in
-      showing_allowed scripts run client steps (allowed before) (allowed later) op can at ops keeps
+      let ops : allowed_operations before ++ op ∷ allowed_operations later ≡ operations steps =
+      sym (allowed-append before (ask ∷ later)) ∙ (ap allowed_operations asks ∙ asked_allowed steps) in
+      showing_allowed scripts run client steps (allowed_operations before) (allowed_operations later) op can at ops keeps
   ask_allowed scripts run client steps before later op (Some rule) can at asks keeps = bus (Denied rule) tt
 
 -- Each line is that of an operation that can be executed or is denied, on a board that is there.
 module _ (scripts : List (List Step)) (runs : List BoardRun) (Q : OpLine → Type 0)
     (look : (client : ℕ) (steps : List Step) (before later : List Asked) (ask : Asked) (run : BoardRun)
-    → slice_get scripts client ≡ Some steps → before ++ ask ∷ later ≡ asked steps → AskKeeps ask
+    → slice_get scripts client ≡ Some steps → before ++ ask ∷ later ≡ asked_operations steps → AskKeeps ask
     → slice_get runs ask.op.board ≡ Some run → Q (line_of client before ask run)) where
   lines_hold : (client : ℕ) (steps : List Step) → slice_get scripts client ≡ Some steps → (before asks : List Asked)
-      → before ++ asks ≡ asked steps
+      → before ++ asks ≡ asked_operations steps
       → AllByRecursion AskKeeps asks → AllByRecursion Q (lines_behind runs client before asks)
   lines_hold client steps at before [] same keep = tt
   lines_hold client steps at before (ask ∷ asks) same keep =
@@ -225,7 +225,7 @@ module _ (scripts : List (List Step)) (runs : List BoardRun) (Q : OpLine → Typ
   clients_hold client (steps ∷ rest) at keep =
       let first : client + 0 ≡ client = omega arith in (
         lines_hold client steps
-            (subst (λ (c : ℕ). slice_get scripts c ≡ Some steps) first (at 0 steps refl)) [] (asked steps) refl
+            (subst (λ (c : ℕ). slice_get scripts c ≡ Some steps) first (at 0 steps refl)) [] (asked_operations steps) refl
             keep.0,
         clients_hold (client + 1) rest
             (λ j s h.

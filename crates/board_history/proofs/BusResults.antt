@@ -28,10 +28,10 @@ use Rattle.transcript.specs.declared.line.LateAnswer.{LateAnswer}
 use Rattle.transcript.specs.declared.line.LateAnswer.TheVariants as late_answer
 use Rattle.transcript.specs.declared.line.OpResult.{OpResult}
 use Rattle.transcript.specs.declared.line.OpResult.TheVariants.{Late}
-use Rattle.transcript.specs.Ends.{answered, end_of, ends_of, ends_with, late_at, late_of, piece_result, result_in}
+use Rattle.transcript.specs.Ends.{answer_result, end_of, ends_of, ends_with, late_at, late_of, piece_result, result_in}
 use Rattle.transcript.specs.Ends.{told_at, told_by, told_timed_out, told_of}
-use Rattle.transcript.specs.Results.{is_good, first_not_done, values_in, word_before, shown, shown_not_done, shown_late}
-use Rattle.transcript.specs.Results.{combined}
+use Rattle.transcript.specs.Results.{is_good, first_not_done, values_in, word_before, shown_result, shown_not_done, shown_late}
+use Rattle.transcript.specs.Results.{combined_result}
 use Rattle.script_steps.specs.Executable.{IsRmw, FitsVerb}
 use Rattle.board_history.specs.Lines.{IsBusResult}
 use Rattle.board_history.proofs.Answering.{IsTold}
@@ -119,21 +119,21 @@ one_word (ops.RmwBits base and_term or_term) is = omega arith
 one_word (ops.RmwSum base addend) is = omega arith
 
 answer_fits : (P : OpResult → Type 0) → AllowsBus P → (op : Op) (request : Request) (one : Answer)
-    → (IsRmw op → IsRmw request.op) → IsAnswerTo request one → Fits P op (answered (Some one))
+    → (IsRmw op → IsRmw request.op) → IsAnswerTo request one → Fits P op (answer_result (Some one))
 answer_fits P bus op request (answer.Values words) rmw is = record {
-  allowed = λ v mask fits. bus (answered (Some (answer.Values words))) tt;
+  allowed = λ v mask fits. bus (answer_result (Some (answer.Values words))) tt;
   some = λ asks good. subst (λ (n : ℕ). 0 < n) (sym is.1) (one_word request.op (rmw asks));
 }
 answer_fits P bus op request answer.Done rmw is = record {
-  allowed = λ v mask fits. bus (answered (Some answer.Done)) tt;
+  allowed = λ v mask fits. bus (answer_result (Some answer.Done)) tt;
   some = λ asks good. absurd (no_write request.op (rmw asks) is);
 }
 answer_fits P bus op request (answer.Fault code after) rmw is = record {
-  allowed = λ v mask fits. bus (answered (Some (answer.Fault code after))) tt;
+  allowed = λ v mask fits. bus (answer_result (Some (answer.Fault code after))) tt;
   some = λ asks good. absurd cc;
 }
 answer_fits P bus op request answer.Skipped rmw is = record {
-  allowed = λ v mask fits. bus (answered (Some answer.Skipped)) tt;
+  allowed = λ v mask fits. bus (answer_result (Some answer.Skipped)) tt;
   some = λ asks good. absurd cc;
 }
 
@@ -144,7 +144,7 @@ before_late [] some = absurd (omega arith)
 before_late (word ∷ words) some = tt
 
 shown_words : (v : Verb) (mask : ℕ) (op : Op) (words : List ℕ) → FitsVerb v op → (IsRmw op → 0 < length words)
-    → IsBusAnswer (late_of (shown v mask words))
+    → IsBusAnswer (late_of (shown_result v mask words))
 shown_words verb.Read mask op words fits some = tt
 shown_words verb.Write mask op words fits some = tt
 shown_words verb.ReadBlock mask op words fits some = tt
@@ -153,7 +153,7 @@ shown_words verb.RmwBits mask op words fits some = before_late words (some fits)
 shown_words verb.RmwSum mask op words fits some = before_late words (some fits)
 
 answer_shown : (v : Verb) (mask : ℕ) (op : Op) (request : Request) (one : Answer) → (IsRmw op → IsRmw request.op)
-    → IsAnswerTo request one → FitsVerb v op → IsBusAnswer (shown_late v mask (late_of (answered (Some one))))
+    → IsAnswerTo request one → FitsVerb v op → IsBusAnswer (shown_late v mask (late_of (answer_result (Some one))))
 answer_shown v mask op request (answer.Values words) rmw is fits =
     shown_words v mask op words fits (λ asks. subst (λ (n : ℕ). 0 < n) (sym is.1) (one_word request.op (rmw asks)))
 answer_shown v mask op request answer.Done rmw is fits =
@@ -163,9 +163,9 @@ answer_shown v mask op request answer.Skipped rmw is fits = tt
 
 late_fits : (P : OpResult → Type 0) (rounds : ℕ) → ((one : LateAnswer) → IsBusAnswer one → P (Late rounds one))
     → (op : Op) (request : Request) (one : Answer) → (IsRmw op → IsRmw request.op) → IsAnswerTo request one
-    → Fits P op (Late rounds (late_of (answered (Some one))))
+    → Fits P op (Late rounds (late_of (answer_result (Some one))))
 late_fits P rounds allowed op request one rmw is = record {
-  allowed = λ v mask fits. allowed (shown_late v mask (late_of (answered (Some one))))
+  allowed = λ v mask fits. allowed (shown_late v mask (late_of (answer_result (Some one))))
       (answer_shown v mask op request one rmw is fits);
   some = λ asks good. absurd cc;
 }
@@ -224,7 +224,7 @@ module _ (P : OpResult → Type 0) (bus : AllowsBus P) (one_each : OneEach) (eac
         let fits = answer_fits P bus op asked.request found.0 asked.rmw found.2 in
         subst (λ (o : Outcome). Fits P op (told_at (told_of words o late) index)) (sym is.is)
         (subst (λ (l : Option (List Answer)). Fits P op (told_at (told_by l) index)) (sym is.found)
-        (subst (λ (o : Option Answer). Fits P op (answered o)) (sym found.1) fits))
+        (subst (λ (o : Option Answer). Fits P op (answer_result o)) (sym found.1) fits))
 
     told_timed_out_fits : (bodies : List (List ℕ)) (op : Op) (body index : ℕ) (asked : IsAsked bodies op body index)
         (outcome : Outcome) (late : Option (List ℕ)) → IsToldLate P (requests_words asked.requests) outcome late
@@ -236,7 +236,7 @@ module _ (P : OpResult → Type 0) (bus : AllowsBus P) (one_each : OneEach) (eac
         subst (λ (o : Outcome). Fits P op (told_at (told_of words o late) index)) (sym is.is)
         (subst (λ (l : Option (List ℕ)). Fits P op (told_at (told_timed_out words is.rounds l) index)) (sym is.came)
         (subst (λ (l : Option (List Answer)). Fits P op (Late is.rounds (late_at l index))) (sym is.found)
-        (subst (λ (o : Option Answer). Fits P op (Late is.rounds (late_of (answered o)))) (sym found.1) fits)))
+        (subst (λ (o : Option Answer). Fits P op (Late is.rounds (late_of (answer_result o)))) (sym found.1) fits)))
 
     piece_fits : (bodies : List (List ℕ)) (outcomes : List Outcome) (lates : List (Option (List ℕ))) (op : Op)
         (body index : ℕ) → BothWith (IsFine P) bodies outcomes lates → IsAsked bodies op body index
@@ -296,7 +296,7 @@ before_bus [] some = absurd (omega arith)
 before_bus (word ∷ words) some = tt
 
 shown_bus : (v : Verb) (mask : ℕ) (op : Op) (words : List ℕ) → FitsVerb v op → (IsRmw op → 0 < length words)
-    → IsBusResult (shown v mask words)
+    → IsBusResult (shown_result v mask words)
 shown_bus verb.Read mask op words is some = tt
 shown_bus verb.Write mask op words is some = tt
 shown_bus verb.ReadBlock mask op words is some = tt
@@ -307,11 +307,11 @@ shown_bus verb.RmwSum mask op words is some = before_bus words (some is)
 by_fault : (P : OpResult → Type 0) → AllowsBus P → (v : Verb) (mask : ℕ) (op : Op) (rs : List OpResult)
     (found : Option OpResult) → FitsVerb v op → AllByRecursion (Fits P op) rs → (IsRmw op → 0 < length rs)
     → first_not_done rs ≡ found
-    → P (unwrap_or (option_map (shown_not_done v mask) found) (shown v mask (flat_map values_in rs)))
+    → P (unwrap_or (option_map (shown_not_done v mask) found) (shown_result v mask (flat_map values_in rs)))
 by_fault P bus v mask op rs (Some r) fits all some is = fault_allowed P v mask op rs r fits all is
-by_fault P bus v mask op rs None fits all some is = bus (shown v mask (flat_map values_in rs))
+by_fault P bus v mask op rs None fits all some is = bus (shown_result v mask (flat_map values_in rs))
     (shown_bus v mask op (flat_map values_in rs) fits (λ rmw. some_values P op rs rmw all is (some rmw)))
 
 pub combined_allowed : (P : OpResult → Type 0) → AllowsBus P → (v : Verb) (mask : ℕ) (op : Op) (rs : List OpResult)
-    → FitsVerb v op → AllByRecursion (Fits P op) rs → (IsRmw op → 0 < length rs) → P (combined v mask rs)
+    → FitsVerb v op → AllByRecursion (Fits P op) rs → (IsRmw op → 0 < length rs) → P (combined_result v mask rs)
 combined_allowed P bus v mask op rs fits all some = by_fault P bus v mask op rs (first_not_done rs) fits all some refl

@@ -14,8 +14,8 @@ use Rattle.lane_record.specs.declared.outcome.Outcome.{Outcome}
 use Rattle.lane_record.specs.declared.outcome.Outcome.TheVariants.{Replied, TimedOut, Unsent, LinkLost}
 use Rattle.lane_record.specs.Outcomes.{place_of}
 use Rattle.lane_record.specs.Lists.{CountsFrom}
-use Rattle.board_history.specs.Order.{Placed, with_place, placed, all_placed, insert, by_place, order, places_of}
-use Rattle.board_history.specs.Order.{bodies_of, RisesFrom}
+use Rattle.board_history.specs.Order.{Placed, with_place, bodies_with_places, all_placed, insert, by_place, order, places_of}
+use Rattle.board_history.specs.Order.{bodies_in, RisesFrom}
 use Rattle.board_history.specs.Parts.{HasOneOrder, KeepsScripts, IsExecuted, IsExecutedOnce, IsReplied, AllReplied}
 use Rattle.board_history.specs.Merges.{IsSubsequence, Owned, bodies_by, bodies_owned, IsOfClients, AreSubsequences}
 use Rattle.board_history.specs.Merges.{AreMerged, IsMergeOfSome, IsMergeOfAll}
@@ -144,11 +144,11 @@ one_tag client body (Some place) ts ps e =
     ap (λ (qs : List Placed). record { place = place; body = body } ∷ qs) e
 
 tagged_placed : (client : ℕ) (bodies : List (List ℕ)) (outcomes : List Outcome)
-    → map as_placed (tagged client bodies outcomes) ≡ placed bodies outcomes
+    → map as_placed (tagged client bodies outcomes) ≡ bodies_with_places bodies outcomes
 tagged_placed client [] outcomes = refl
 tagged_placed client (b ∷ bs) [] = refl
 tagged_placed client (b ∷ bs) (o ∷ os) =
-    one_tag client b (place_of o) (tagged client bs os) (placed bs os) (tagged_placed client bs os)
+    one_tag client b (place_of o) (tagged client bs os) (bodies_with_places bs os) (tagged_placed client bs os)
 
 all_tagged_placed : (client : ℕ) (bodies : List (List (List ℕ))) (outcomes : List (List Outcome))
     → map as_placed (all_tagged client bodies outcomes) ≡ all_placed bodies outcomes
@@ -158,9 +158,9 @@ all_tagged_placed client (bs ∷ later) (os ∷ others) =
     map-append as_placed (tagged client bs os) (all_tagged (client + 1) later others)
     ∙ ap (λ (ps : List Placed). ps ++ map as_placed (all_tagged (client + 1) later others))
     (tagged_placed client bs os)
-    ∙ ap (λ (ps : List Placed). placed bs os ++ ps) (all_tagged_placed (client + 1) later others)
+    ∙ ap (λ (ps : List Placed). bodies_with_places bs os ++ ps) (all_tagged_placed (client + 1) later others)
 
-same_bodies : (ts : List Tagged) → bodies_of (map as_placed ts) ≡ bodies_owned (map as_owned ts)
+same_bodies : (ts : List Tagged) → bodies_in (map as_placed ts) ≡ bodies_owned (map as_owned ts)
 same_bodies [] = refl
 same_bodies (t ∷ ts) = ap (λ (bs : List (List ℕ)). t.body ∷ bs) (same_bodies ts)
 
@@ -169,9 +169,9 @@ abbrev pub sorted : List (List (List ℕ)) → List (List Outcome) → List Tagg
 sorted bodies outcomes = tag_sort (all_tagged 1 bodies outcomes)
 
 order_owned : (bodies : List (List (List ℕ))) (outcomes : List (List Outcome))
-    → bodies_of (order bodies outcomes) ≡ bodies_owned (map as_owned (sorted bodies outcomes))
+    → bodies_in (order bodies outcomes) ≡ bodies_owned (map as_owned (sorted bodies outcomes))
 order_owned bodies outcomes =
-    ap bodies_of (sym (sort_placed (all_tagged 1 bodies outcomes) ∙ ap by_place (all_tagged_placed 1 bodies outcomes)))
+    ap bodies_in (sym (sort_placed (all_tagged 1 bodies outcomes) ∙ ap by_place (all_tagged_placed 1 bodies outcomes)))
     ∙ same_bodies (sorted bodies outcomes)
 
 -- ---- sorting keeps each client's
@@ -337,7 +337,7 @@ owned_by client (t ∷ ts) = elim (t.client == client) as
       | false ↦ owned_by client ts
     ]
 
-as_bodies : (ts : List Tagged) → bodies_of (map as_placed ts) ≡ map body_in ts
+as_bodies : (ts : List Tagged) → bodies_in (map as_placed ts) ≡ map body_in ts
 as_bodies [] = refl
 as_bodies (t ∷ ts) = ap (λ (bs : List (List ℕ)). t.body ∷ bs) (as_bodies ts)
 
@@ -346,16 +346,16 @@ sub_skip [] y ys s = tt
 sub_skip (x ∷ xs) y ys s = inr s
 
 first_place : (body : List ℕ) (place : Option ℕ) (ps : List Placed) (bodies : List (List ℕ))
-    → IsSubsequence (bodies_of ps) bodies → IsSubsequence (bodies_of (with_place body place ++ ps)) (body ∷ bodies)
-first_place body None ps bodies s = sub_skip (bodies_of ps) body bodies s
+    → IsSubsequence (bodies_in ps) bodies → IsSubsequence (bodies_in (with_place body place ++ ps)) (body ∷ bodies)
+first_place body None ps bodies s = sub_skip (bodies_in ps) body bodies s
 first_place body (Some place) ps bodies s = inl (refl, s)
 
 -- a client's bodies in the order are those of its bodies that have a place, in its order
 client_bodies : (client : ℕ) (front : List Tagged) (bodies : List (List ℕ)) (later : List (List (List ℕ)))
     (outcomes : List Outcome) (others : List (List Outcome)) → own client front ≡ []
-    → RisesFrom 1 (places_of (placed bodies outcomes))
+    → RisesFrom 1 (places_of (bodies_with_places bodies outcomes))
     → bodies_by client (map as_owned (tag_sort (front ++ all_tagged client (bodies ∷ later) (outcomes ∷ others))))
-    ≡ bodies_of (placed bodies outcomes)
+    ≡ bodies_in (bodies_with_places bodies outcomes)
 client_bodies client front bodies later outcomes others none rises =
     let mine = tagged client bodies outcomes in
     let rest = all_tagged (client + 1) later others in
@@ -369,13 +369,13 @@ client_bodies client front bodies later outcomes others none rises =
     sorted_again 1 mine (subst (λ (ps : List Placed). RisesFrom 1 (places_of ps))
     (sym (tagged_placed client bodies outcomes)) rises) in
     owned_by client (tag_sort all) ∙ ap (map body_in) (own_sorted client all ∙ ap tag_sort only ∙ again)
-    ∙ sym (as_bodies mine) ∙ ap bodies_of (tagged_placed client bodies outcomes)
+    ∙ sym (as_bodies mine) ∙ ap bodies_in (tagged_placed client bodies outcomes)
 
 placed_subsequence : (bodies : List (List ℕ)) (outcomes : List Outcome)
-    → IsSubsequence (bodies_of (placed bodies outcomes)) bodies
+    → IsSubsequence (bodies_in (bodies_with_places bodies outcomes)) bodies
 placed_subsequence [] outcomes = tt
 placed_subsequence (b ∷ bs) [] = tt
-placed_subsequence (b ∷ bs) (o ∷ os) = first_place b (place_of o) (placed bs os) bs (placed_subsequence bs os)
+placed_subsequence (b ∷ bs) (o ∷ os) = first_place b (place_of o) (bodies_with_places bs os) bs (placed_subsequence bs os)
 
 each_sub : (client : ℕ) (front all : List Tagged) (bodies : List (List (List ℕ))) (outcomes : List (List Outcome))
     → all ≡ front ++ all_tagged client bodies outcomes
@@ -472,7 +472,7 @@ executed_some bodies outcomes lates executed shape keeps once =
 
 pub order_whole : (bodies : List (List (List ℕ))) (outcomes : List (List Outcome))
     → map length outcomes ≡ map length bodies → KeepsScripts bodies outcomes → AllReplied outcomes
-    → IsMergeOfAll bodies (bodies_of (order bodies outcomes))
+    → IsMergeOfAll bodies (bodies_in (order bodies outcomes))
 order_whole bodies outcomes shape keeps replied = record {
   owned = map as_owned (sorted bodies outcomes);
   same = order_owned bodies outcomes;
@@ -485,7 +485,7 @@ abbrev pub IsWithin : ℕ → Placed → Type 0
 IsWithin most p = p.place ≤ most
 
 replied_within : (most : ℕ) (bodies : List (List ℕ)) (outcomes : List Outcome) → AllByRecursion IsReplied outcomes
-    → AllByRecursion (IsExecuted most) outcomes → AllByRecursion (IsWithin most) (placed bodies outcomes)
+    → AllByRecursion (IsExecuted most) outcomes → AllByRecursion (IsWithin most) (bodies_with_places bodies outcomes)
 replied_within most [] outcomes replied executed = tt
 replied_within most (b ∷ bs) [] replied executed = tt
 replied_within most (b ∷ bs) (Replied place words ∷ os) replied executed =
@@ -499,7 +499,7 @@ all_within : (most : ℕ) (bodies : List (List (List ℕ))) (outcomes : List (Li
     → AllByRecursion (IsWithin most) (all_placed bodies outcomes)
 all_within most [] outcomes replied executed = tt
 all_within most (bs ∷ later) [] replied executed = tt
-all_within most (bs ∷ later) (os ∷ others) replied executed = AllByRecursion-append (IsWithin most) (placed bs os)
+all_within most (bs ∷ later) (os ∷ others) replied executed = AllByRecursion-append (IsWithin most) (bodies_with_places bs os)
     (all_placed later others) (replied_within most bs os replied.0 executed.0)
     (all_within most later others replied.1 executed.1)
 
@@ -518,13 +518,13 @@ whole_front (x ∷ xs) ys le = ap (λ (zs : List (List ℕ)). x ∷ zs) (whole_f
 pub executed_whole : (bodies : List (List (List ℕ))) (outcomes : List (List Outcome))
     (lates : List (List (Option (List ℕ)))) (executed : List (List ℕ)) → HasOneOrder bodies outcomes
     → AllReplied outcomes → IsExecutedOnce (order bodies outcomes) outcomes lates executed
-    → executed ≡ bodies_of (order bodies outcomes)
+    → executed ≡ bodies_in (order bodies outcomes)
 executed_whole bodies outcomes lates executed one replied once =
     let n = length executed in
     let within = sorting.all_sorted (IsWithin n) (all_placed bodies outcomes)
     (all_within n bodies outcomes replied once.replied) in
     let end = last_within 1 n (order bodies outcomes) one within (omega arith) in
     let count = length-map (order bodies outcomes) (λ (p : Placed). p.body) in
-    let short : length (bodies_of (order bodies outcomes)) ≤ n = omega (arith, end, count) in
+    let short : length (bodies_in (order bodies outcomes)) ≤ n = omega (arith, end, count) in
     whole_front executed once.front.0 (subst (λ (bs : List (List ℕ)). length bs ≤ n) once.front.1 short)
     ∙ sym once.front.1

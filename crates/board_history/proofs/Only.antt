@@ -9,7 +9,7 @@ use Rattle.board_bus.proofs.Bodies.{replay-append-replies}
 use Rattle.lane_record.specs.declared.outcome.Outcome.{Outcome}
 use Rattle.lane_record.specs.declared.outcome.Outcome.TheVariants.{Replied, TimedOut, Unsent, LinkLost}
 use Rattle.lane_record.specs.Lists.{CountsFrom}
-use Rattle.board_history.specs.Order.{Placed, placed, all_placed, order, places_of, bodies_of}
+use Rattle.board_history.specs.Order.{Placed, bodies_with_places, all_placed, order, places_of, bodies_in}
 use Rattle.world_model.specs.Places.{at_place}
 use Rattle.board_history.specs.Parts.{IsReplyOf, IsReplied, AllReplied}
 use Rattle.board_history.specs.InTurn.{outcomes_from, in_turn, AreInTurn}
@@ -21,7 +21,7 @@ use Rattle.board_history.proofs.Turns.{all_of, reply_at, one_later, behind, repl
 
 pub client_placed : (bodies : List (List ℕ)) (outcomes : List Outcome) → length outcomes ≡ length bodies
     → AllByRecursion IsReplied outcomes
-    → bodies_of (placed bodies outcomes) ≡ bodies
+    → bodies_in (bodies_with_places bodies outcomes) ≡ bodies
 client_placed [] outcomes e all = refl
 client_placed (b ∷ bs) [] e all = absurd (omega arith)
 client_placed (b ∷ bs) (Replied place words ∷ os) e all = ap (λ (xs : List (List ℕ)). b ∷ xs)
@@ -43,13 +43,13 @@ one_by_one bodies later outcomes others e = record { first = cc; rest = cc }
 
 clients_placed : (clients : List (List (List ℕ))) (outcomes : List (List Outcome))
     → map length outcomes ≡ map length clients → AllReplied outcomes
-    → bodies_of (all_placed clients outcomes) ≡ all_of clients
+    → bodies_in (all_placed clients outcomes) ≡ all_of clients
 clients_placed [] outcomes e all = refl
 clients_placed (bodies ∷ later) [] e all = absurd cc
 clients_placed (bodies ∷ later) (outcomes ∷ others) e all =
     let lengths = one_by_one bodies later outcomes others e in
-    map-append (λ (p : Placed). p.body) (placed bodies outcomes) (all_placed later others)
-    ∙ ap (λ (bs : List (List ℕ)). bs ++ bodies_of (all_placed later others))
+    map-append (λ (p : Placed). p.body) (bodies_with_places bodies outcomes) (all_placed later others)
+    ∙ ap (λ (bs : List (List ℕ)). bs ++ bodies_in (all_placed later others))
     (client_placed bodies outcomes lengths.first all.0)
     ∙ ap (λ (bs : List (List ℕ)). bodies ++ bs) (clients_placed later others lengths.rest all.1)
 
@@ -63,7 +63,7 @@ pub record IsNext (before : List (List ℕ)) (cells : CellMap) (bodies : List (L
 client_only : (before after : List (List ℕ)) (cells : CellMap) (bodies : List (List ℕ)) (outcomes : List Outcome)
     (later : List Placed)
     → length outcomes ≡ length bodies → AllByRecursion IsReplied outcomes
-    → CountsFrom (length before + 1) (places_of (placed bodies outcomes ++ later))
+    → CountsFrom (length before + 1) (places_of (bodies_with_places bodies outcomes ++ later))
     → AllByRecursion (IsReplyOf (before ++ ((replay cells bodies).replies ++ after))) outcomes
     → IsNext before cells bodies outcomes later
 client_only before after cells [] [] later e all c r =
@@ -78,7 +78,7 @@ client_only before after cells (b ∷ bs) (Replied place words ∷ os) later e a
     let told : at_place (before ++ (reply ∷ ((replay next bs).replies ++ after))) (length before + 1) ≡ Some words =
     subst (λ (k : ℕ). at_place (before ++ (reply ∷ ((replay next bs).replies ++ after))) k ≡ Some words) c.0 r.0 in
     let same : words ≡ reply = let both = sym told ∙ there in cc in
-    let counts = subst (λ (k : ℕ). CountsFrom k (places_of (placed bs os ++ later))) (one_later before reply) c.1 in
+    let counts = subst (λ (k : ℕ). CountsFrom k (places_of (bodies_with_places bs os ++ later))) (one_later before reply) c.1 in
     let replies = subst (λ (rs : List (List ℕ)). AllByRecursion (IsReplyOf rs) os)
     (sym (append_assoc before (reply ∷ []) ((replay next bs).replies ++ after))) r.1 in
     let rest = client_only (before ++ reply ∷ []) after next bs os later (omega arith) all.1 counts replies in
@@ -130,7 +130,7 @@ pub only_in_turn : (opening : CellMap) (clients : List (List (List ℕ))) (outco
 only_in_turn opening clients outcomes lates is all turn =
     let sorted : order clients outcomes ≡ all_placed clients outcomes = sorted_again 1
     (all_placed clients outcomes) turn in
-    let bodies : bodies_of (order clients outcomes) ≡ all_of clients = ap bodies_of sorted
+    let bodies : bodies_in (order clients outcomes) ≡ all_of clients = ap bodies_in sorted
     ∙ clients_placed clients outcomes is.shape all in
     clients_only [] opening clients outcomes is.shape all turn
     (subst (λ (bs : List (List ℕ)). AllByRecursion

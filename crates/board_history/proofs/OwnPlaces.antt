@@ -13,7 +13,7 @@ use Rattle.lane_record.specs.Outcomes.{place_of}
 use Rattle.transcript.specs.Ends.{end_of, ends_of, ends_with}
 use Rattle.script_plans.specs.Claims.{Rises}
 use Rattle.transcript.specs.Claims.{HaveOwnPlaces}
-use Rattle.board_history.specs.Order.{Placed, with_place, placed, all_placed, insert, by_place, order, places_of}
+use Rattle.board_history.specs.Order.{Placed, with_place, bodies_with_places, all_placed, insert, by_place, order, places_of}
 use Rattle.lane_record.specs.Lists.{CountsFrom}
 use Rattle.board_history.specs.Parts.{HasOneOrder}
 use Rattle.board_history.proofs.Sorting.{IsAbove, counts_above, inserted_all, sorted_all}
@@ -71,27 +71,27 @@ placed_there P body (Some other) rest place is all = subst P (same_Some other pl
 
 placed_at : (P : ℕ → Type 0) (bodies : List (List ℕ)) (outcomes : List Outcome) (lates : List (Option (List ℕ)))
     (j : ℕ) (end : BodyEnd) (place : ℕ) → slice_get (ends_with bodies outcomes lates) j ≡ Some end
-    → end.place ≡ Some place → AllByRecursion (λ (p : Placed). P p.place) (placed bodies outcomes) → P place
+    → end.place ≡ Some place → AllByRecursion (λ (p : Placed). P p.place) (bodies_with_places bodies outcomes) → P place
 placed_at P [] outcomes lates j end place there is all = absurd cc
 placed_at P (b ∷ bs) [] lates j end place there is all = absurd cc
 placed_at P (b ∷ bs) (o ∷ os) lates zero end place there is all =
-    placed_there P b (place_of o) (placed bs os) place
+    placed_there P b (place_of o) (bodies_with_places bs os) place
     (ap (λ (e : BodyEnd). e.place) (same_Some (end_of b o (get_or lates 0 None)) end there) ∙ is) all
 placed_at P (b ∷ bs) (o ∷ os) lates (suc j) end place there is all =
     placed_at P bs os (drop 1 lates) j end place there is
-    (back_of_all (λ (p : Placed). P p.place) (with_place b (place_of o)) (placed bs os) all)
+    (back_of_all (λ (p : Placed). P p.place) (with_place b (place_of o)) (bodies_with_places bs os) all)
 
 -- the first body has another place than each later one
 first_apart : (body : List ℕ) (found : Option ℕ) (bs : List (List ℕ)) (os : List Outcome)
     (lates : List (Option (List ℕ))) (j : ℕ) (end : BodyEnd) (place : ℕ) → found ≡ Some place
     → slice_get (ends_with bs os lates) j ≡ Some end → end.place ≡ Some place
-    → AreApart (with_place body found ++ placed bs os) → ⊥
+    → AreApart (with_place body found ++ bodies_with_places bs os) → ⊥
 first_apart body None bs os lates j end place is there also apart = cc
 first_apart body (Some other) bs os lates j end place is there also apart =
     placed_at (λ (n : ℕ). other ≢ n) bs os lates j end place there also apart.0 (same_Some other place is)
 
 client_apart : (bodies : List (List ℕ)) (outcomes : List Outcome) (lates : List (Option (List ℕ)))
-    → AreApart (placed bodies outcomes) → HaveOwnPlaces (ends_with bodies outcomes lates)
+    → AreApart (bodies_with_places bodies outcomes) → HaveOwnPlaces (ends_with bodies outcomes lates)
 client_apart [] outcomes lates apart i j one other place at also is same = absurd cc
 client_apart (b ∷ bs) [] lates apart i j one other place at also is same = absurd cc
 client_apart (b ∷ bs) (o ∷ os) lates apart zero zero one other place at also is same = refl
@@ -102,7 +102,7 @@ client_apart (b ∷ bs) (o ∷ os) lates apart (suc i) zero one other place at a
     absurd (first_apart b (place_of o) bs os (drop 1 lates) i one place
     (ap (λ (e : BodyEnd). e.place) (same_Some (end_of b o (get_or lates 0 None)) other also) ∙ same) at is apart)
 client_apart (b ∷ bs) (o ∷ os) lates apart (suc i) (suc j) one other place at also is same =
-    ap suc (client_apart bs os (drop 1 lates) (back_apart (with_place b (place_of o)) (placed bs os) apart) i j one
+    ap suc (client_apart bs os (drop 1 lates) (back_apart (with_place b (place_of o)) (bodies_with_places bs os) apart) i j one
     other place at also is same)
 
 -- ---- all clients
@@ -113,7 +113,7 @@ parts_apart : (parts : List ClientPart)
     → AllByRecursion (λ (part : ClientPart). HaveOwnPlaces (ends_of part)) parts
 parts_apart [] apart = tt
 parts_apart (part ∷ parts) apart =
-    let here = placed part.planned.bodies part.outcomes in
+    let here = bodies_with_places part.planned.bodies part.outcomes in
     let later = all_placed (map (λ (p : ClientPart). p.planned.bodies) parts)
     (map (λ (p : ClientPart). p.outcomes) parts) in (
       client_apart part.planned.bodies part.outcomes part.lates (front_apart here later apart),

@@ -21,7 +21,7 @@ use Rattle.transcript.specs.Lines.{board_line, lines_from, transcript_of}
 use Rattle.transcript.specs.Shown.{IsShown, EndsAt, HasBodyAt, IsPlaceOn}
 use Rattle.transcript.specs.Shown.{ShowPlacesOf, ShowsAllPlaces}
 use Rattle.transcript.proofs.ShownLines.{planned_there, place_on_live}
-use Rattle.board_history.specs.Order.{Placed, with_place, placed, all_placed, insert, by_place, places_of}
+use Rattle.board_history.specs.Order.{Placed, with_place, bodies_with_places, all_placed, insert, by_place, places_of}
 use Rattle.lane_record.specs.Lists.{CountsFrom}
 use Rattle.board_history.specs.History.{IsOrdered, bodies_by_client, outcomes_by_client}
 use Rattle.board_history.proofs.Sends.{sends_are_the_order}
@@ -46,25 +46,25 @@ placed_here body place (Some n) any = elim (any_cases (IsAt place) (record { pla
 ]
 
 client_placed : (place : ℕ) (bodies : List (List ℕ)) (outcomes : List Outcome) (lates : List (Option (List ℕ)))
-    → Any (EndsAt place) (ends_with bodies outcomes lates) → Any (IsAt place) (placed bodies outcomes)
+    → Any (EndsAt place) (ends_with bodies outcomes lates) → Any (IsAt place) (bodies_with_places bodies outcomes)
 client_placed place [] outcomes lates any = absurd (any_nowhere (EndsAt place) any)
 client_placed place (b ∷ bodies) [] lates any = absurd (any_nowhere (EndsAt place) any)
 client_placed place (b ∷ bodies) (o ∷ outcomes) lates any =
     elim (any_cases (EndsAt place) (end_of b o (get_or lates 0 None)) (ends_with bodies outcomes (drop 1 lates)) any) [
-      | inl here ↦ any_front (IsAt place) (with_place b (place_of o)) (placed bodies outcomes)
+      | inl here ↦ any_front (IsAt place) (with_place b (place_of o)) (bodies_with_places bodies outcomes)
           (here_placed b place (place_of o) here)
-      | inr later ↦ any_back (IsAt place) (with_place b (place_of o)) (placed bodies outcomes)
+      | inr later ↦ any_back (IsAt place) (with_place b (place_of o)) (bodies_with_places bodies outcomes)
           (client_placed place bodies outcomes (drop 1 lates) later)
     ]
 
 placed_client : (place : ℕ) (bodies : List (List ℕ)) (outcomes : List Outcome) (lates : List (Option (List ℕ)))
-    → Any (IsAt place) (placed bodies outcomes) → Any (EndsAt place) (ends_with bodies outcomes lates)
+    → Any (IsAt place) (bodies_with_places bodies outcomes) → Any (EndsAt place) (ends_with bodies outcomes lates)
 placed_client place [] outcomes lates any = absurd (any_nowhere (IsAt place) any)
 placed_client place (b ∷ bodies) [] lates any = absurd (any_nowhere (IsAt place) any)
 placed_client place (b ∷ bodies) (o ∷ outcomes) lates any =
     let end = end_of b o (get_or lates 0 None) in
     let rest = ends_with bodies outcomes (drop 1 lates) in
-    elim (any_append (IsAt place) (with_place b (place_of o)) (placed bodies outcomes) any) [
+    elim (any_append (IsAt place) (with_place b (place_of o)) (bodies_with_places bodies outcomes) any) [
       | inl front ↦ any_here (EndsAt place) end rest (placed_here b place (place_of o) front)
       | inr back ↦ any_later (EndsAt place) end rest (placed_client place bodies outcomes (drop 1 lates) back)
     ]
@@ -79,7 +79,7 @@ parts_placed : (place : ℕ) (parts : List ClientPart) → Any (HasBodyAt place)
     → Any (IsAt place) (all_placed (bodies_in parts) (outcomes_in parts))
 parts_placed place [] any = absurd (any_nowhere (HasBodyAt place) any)
 parts_placed place (part ∷ parts) any =
-    let first = placed part.planned.bodies part.outcomes in
+    let first = bodies_with_places part.planned.bodies part.outcomes in
     let rest = all_placed (bodies_in parts) (outcomes_in parts) in
     elim (any_cases (HasBodyAt place) part parts any) [
       | inl here ↦ any_front (IsAt place) first rest
@@ -91,7 +91,7 @@ placed_parts : (place : ℕ) (parts : List ClientPart)
     → Any (IsAt place) (all_placed (bodies_in parts) (outcomes_in parts)) → Any (HasBodyAt place) parts
 placed_parts place [] any = absurd (any_nowhere (IsAt place) any)
 placed_parts place (part ∷ parts) any =
-    elim (any_append (IsAt place) (placed part.planned.bodies part.outcomes)
+    elim (any_append (IsAt place) (bodies_with_places part.planned.bodies part.outcomes)
     (all_placed (bodies_in parts) (outcomes_in parts)) any) [
       | inl front ↦ any_here (HasBodyAt place) part parts
           (placed_client place part.planned.bodies part.outcomes part.lates front)

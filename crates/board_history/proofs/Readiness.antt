@@ -7,18 +7,18 @@ use Rattle.board_bus.specs.Cells.{HoldsWords}
 use Rattle.board_node.specs.declared.spec.BoardSpec.{BoardSpec}
 use Rattle.board_node.specs.declared.spec.LinkSpec.{LinkSpec}
 use Rattle.board_node.specs.declared.spec.LinkSpec.TheVariants.{Sim, Udp}
-use Rattle.mtu_packer.specs.Packed.{IsPacked, packed}
+use Rattle.mtu_packer.specs.Packed.{IsPacked, packed_contents}
 use Rattle.board_node.specs.OpeningWords.{OpensOnWords, LinkNamesWords}
 use Rattle.script_steps.specs.Executable.{FitsVerb, AreExecutable}
 use Rattle.script_steps.specs.declared.operation.RegOp.{RegOp}
 use Rattle.script_steps.specs.declared.operation.Step.{Step}
 use Rattle.script_steps.specs.declared.operation.Step.TheVariants.{Do, Denied, Dispatch}
-use Rattle.script_steps.specs.Rulings.{Asked, asked, asked_in}
+use Rattle.script_steps.specs.Rulings.{Asked, asked_operations, asked_in}
 use Rattle.script_plans.specs.declared.greeting.Greeting.{Greeting}
 use Rattle.script_plans.specs.declared.greeting.Greeting.TheVariants.{Live, Silent, Down}
 use Rattle.script_plans.specs.Plan.{dispatches, ops_on}
 use Rattle.script_plans.proofs.PackedDispatches.{PacksWords, dispatched, dispatches_packed}
-use Rattle.board_history.specs.Runs.{CanRun, RunsHere, greeting_of, opening_of}
+use Rattle.board_history.specs.Runs.{CanRun, RunsHere, greeting_of, opens_with}
 use Rattle.board_history.specs.Answering.{OpensWithWords}
 
 abbrev pub KeepsVerb : RegOp → Type 0
@@ -33,12 +33,12 @@ abbrev pub AskKeeps : Asked → Type 0
 AskKeeps ask = KeepsUnlessDenied ask.op ask.denied
 
 abbrev pub KeepVerbs : List Step → Type 0
-KeepVerbs steps = AllByRecursion AskKeeps (asked steps)
+KeepVerbs steps = AllByRecursion AskKeeps (asked_operations steps)
 
 -- the operations of each dispatch of a client on a board are packed for packets of `payload` words
 abbrev pub ArePacked : ℕ → ℕ → List Step → Type 0
 ArePacked payload board steps =
-    AllByRecursion (λ dispatch. IsPacked (ops_on board dispatch) payload (packed payload (ops_on board dispatch)))
+    AllByRecursion (λ dispatch. IsPacked (ops_on board dispatch) payload (packed_contents payload (ops_on board dispatch)))
     (dispatches steps)
 
 -- what a client's plan is for a board that told this greeting
@@ -68,7 +68,7 @@ one_verb Dispatch asks can keep = keep
 
 verbs_kept : (steps : List Step) → AreExecutable steps → KeepVerbs steps
 verbs_kept [] can = tt
-verbs_kept (step ∷ steps) can = one_verb step (asked steps) (can.0, tt) (verbs_kept steps can.1)
+verbs_kept (step ∷ steps) can = one_verb step (asked_operations steps) (can.0, tt) (verbs_kept steps can.1)
 
 pub all_verbs_kept : (scripts : List (List Step)) → AllByRecursion AreExecutable scripts
     → AllByRecursion KeepVerbs scripts
@@ -77,7 +77,7 @@ all_verbs_kept (steps ∷ scripts) can = (verbs_kept steps can.0, all_verbs_kept
 
 -- ---- packing
 
-opens : (link : LinkSpec) → RunsHere link → LinkNamesWords link → HoldsWords (opening_of link)
+opens : (link : LinkSpec) → RunsHere link → LinkNamesWords link → HoldsWords (opens_with link)
 opens (Sim mtu buffers first ranges fates) here words = opening-words ranges words
 opens (Udp address port wait) here words = absurd here
 

@@ -8,7 +8,7 @@ use Rattle.script_plans.specs.declared.board_run.ClientPart.{ClientPart}
 use Rattle.script_plans.specs.declared.board_run.BoardRun.{BoardRun}
 use Rattle.lane_record.specs.Outcomes.{place_of, is_sent}
 use Rattle.script_plans.specs.Runs.{outcomes_on}
-use Rattle.board_history.specs.Order.{with_place, placed, all_placed, order}
+use Rattle.board_history.specs.Order.{with_place, bodies_with_places, all_placed, order}
 use Rattle.board_history.specs.History.{bodies_by_client, outcomes_by_client}
 use Rattle.board_history.proofs.Sorting.{sorted_length}
 use Rattle.board_history.proofs.Only.{one_by_one}
@@ -21,14 +21,14 @@ one_sent body (LinkLost (Some place)) = refl
 one_sent body (LinkLost None) = refl
 
 client_sent : (bodies : List (List ℕ)) (outcomes : List Outcome) → length outcomes ≡ length bodies
-    → count_by is_sent outcomes ≡ length (placed bodies outcomes)
+    → count_by is_sent outcomes ≡ length (bodies_with_places bodies outcomes)
 client_sent [] [] e = refl
 client_sent [] (o ∷ os) e = absurd (omega arith)
 client_sent (b ∷ bs) [] e = absurd (omega arith)
 client_sent (b ∷ bs) (o ∷ os) e =
     let here = sum_by-cons (λ (x : Outcome). cond (is_sent x) 1 0) o os in
     let later = client_sent bs os (omega arith) in
-    omega (arith, here, later, one_sent b o, length-append (with_place b (place_of o)) (placed bs os))
+    omega (arith, here, later, one_sent b o, length-append (with_place b (place_of o)) (bodies_with_places bs os))
 
 parts_sent : (parts : List ClientPart)
     → map length (map (λ (p : ClientPart). p.outcomes) parts) ≡ map length
@@ -48,7 +48,7 @@ parts_sent (part ∷ parts) e =
       both,
       client_sent part.planned.bodies part.outcomes lengths.first,
       parts_sent parts lengths.rest,
-      length-append (placed part.planned.bodies part.outcomes) (all_placed bodies outcomes),
+      length-append (bodies_with_places part.planned.bodies part.outcomes) (all_placed bodies outcomes),
     )
 
 pub sends_are_the_order : (run : BoardRun) → map length (outcomes_by_client run) ≡ map length (bodies_by_client run)

@@ -13,7 +13,7 @@ use Rattle.script_plans.specs.Plan.{ClientBodies}
 use Rattle.board_history.specs.Parts.{AllReplied, AreBeside}
 use Rattle.board_history.specs.InTurn.{outcomes_from, in_turn, AreInTurn}
 use Rattle.board_history.specs.History.{IsHistory, bodies_by_client, lates_by_client, outcomes_by_client}
-use Rattle.board_history.specs.Runs.{parts_with, parts_in_turn, plans_on, greeting_of, opening_of, board_run, runs_from}
+use Rattle.board_history.specs.Runs.{parts_with, parts_in_turn, plans_on, greeting_of, opens_with, board_run, runs_from}
 use Rattle.board_history.specs.Runs.{IsRun, AreRuns}
 
 abbrev pub bodies_in : List ClientBodies → List (List (List ℕ))
@@ -73,7 +73,7 @@ module _ (history : (opening : CellMap) (bodies : List (List (List ℕ)))
   pub is_run : (spec : BoardSpec) (board : ℕ) (scripts : List (List Step))
       → IsRun spec board scripts (board_run spec board scripts)
   is_run spec board scripts =
-      let cells = opening_of spec.link in
+      let cells = opens_with spec.link in
       let plans = plans_on board (greeting_of spec.link) scripts in
       let is = shown (λ bs os. IsHistory cells bs os []) cells plans (history cells (bodies_in plans)) in
       let parts = parts_in_turn 1 cells plans in
@@ -121,16 +121,16 @@ module _ (only : (opening : CellMap) (bodies : List (List (List ℕ))) (outcomes
     → AllReplied outcomes → AreInTurn bodies outcomes → outcomes ≡ in_turn 1 opening bodies) where
   pub turn_of : (spec : BoardSpec) (board : ℕ) (scripts : List (List Step)) (run : BoardRun)
       → IsRun spec board scripts run
-      → outcomes_by_client run ≡ in_turn 1 (opening_of spec.link) (bodies_by_client run)
+      → outcomes_by_client run ≡ in_turn 1 (opens_with spec.link) (bodies_by_client run)
   turn_of spec board scripts run is =
-      only (opening_of spec.link) (bodies_by_client run) (outcomes_by_client run) (lates_by_client run) is.history
+      only (opens_with spec.link) (bodies_by_client run) (outcomes_by_client run) (lates_by_client run) is.history
       is.replied is.in_turn
 
   pub only_run : (spec : BoardSpec) (board : ℕ) (scripts : List (List Step)) (run : BoardRun)
       → IsRun spec board scripts run
       → run ≡ board_run spec board scripts
   only_run spec board scripts run is =
-      let cells = opening_of spec.link in
+      let cells = opens_with spec.link in
       let plans : map (λ (p : ClientPart). p.planned) run.parts ≡ plans_on board (greeting_of spec.link) scripts =
       is.plans ∙ ap (λ (told : Greeting). plans_on board told scripts) is.greeting in
       let bodies : bodies_by_client run ≡ bodies_in

@@ -4,7 +4,7 @@ use Rattle.std.specs.List.{AllByRecursion, fold}
 use Rattle.ipb_base.proofs.AllLemmas.{AllByRecursion-append}
 use Rattle.transaction_codec.specs.declared.request.Op.{Op}
 use Rattle.transaction_codec.specs.Request.{SpellsRequests}
-use Rattle.mtu_packer.specs.Packed.{Contents, IsPacked, packed}
+use Rattle.mtu_packer.specs.Packed.{Contents, IsPacked, packed_contents}
 use Rattle.board_node.specs.declared.spec.BoardSpec.{BoardSpec}
 use Rattle.script_steps.specs.declared.operation.RegOp.{RegOp}
 use Rattle.script_steps.specs.declared.operation.Step.{Step}
@@ -24,12 +24,12 @@ Spelling = (ops : List Op) (payload : ℕ) (contents : Contents) → IsPacked op
 
 module _ (spelling : Spelling) where
   spelled_from : (payload board : ℕ) (ds : List (List RegOp)) (all : ClientBodies) → AreSpelled all.bodies
-      → AllByRecursion (λ dispatch. IsPacked (ops_on board dispatch) payload (packed payload (ops_on board dispatch)))
+      → AllByRecursion (λ dispatch. IsPacked (ops_on board dispatch) payload (packed_contents payload (ops_on board dispatch)))
       ds
-      → AreSpelled (fold with_dispatch all (map (λ dispatch. packed payload (ops_on board dispatch)) ds)).bodies
+      → AreSpelled (fold with_dispatch all (map (λ dispatch. packed_contents payload (ops_on board dispatch)) ds)).bodies
   spelled_from payload board [] all spelled is = spelled
   spelled_from payload board (d ∷ ds) all spelled is =
-      let c = packed payload (ops_on board d) in
+      let c = packed_contents payload (ops_on board d) in
       spelled_from payload board ds (with_dispatch all c)
       (AllByRecursion-append SpellsRequests all.bodies c.bodies spelled (spelling (ops_on board d) payload c is.0)) is.1
 

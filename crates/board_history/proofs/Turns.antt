@@ -7,7 +7,7 @@ use Rattle.board_bus.specs.Cells.{CellMap}
 use Rattle.board_bus.specs.Bodies.{run_body, replay}
 use Rattle.board_bus.proofs.Bodies.{replay-append-replies, replay-length}
 use Rattle.lane_record.specs.Lists.{CountsFrom}
-use Rattle.board_history.specs.Order.{Placed, placed, all_placed, order, places_of, bodies_of, RisesFrom}
+use Rattle.board_history.specs.Order.{Placed, bodies_with_places, all_placed, order, places_of, bodies_in, RisesFrom}
 use Rattle.world_model.specs.Places.{at_place}
 use Rattle.board_history.specs.Parts.{KeepsScripts, IsReplyOf, IsExecuted, IsReplied, AllReplied}
 use Rattle.board_history.specs.InTurn.{outcomes_from, in_turn}
@@ -47,7 +47,7 @@ all_replied place cells (bodies ∷ later) =
 
 client_counts : (place : ℕ) (cells : CellMap) (bodies : List (List ℕ)) (later : List Placed)
     → CountsFrom (place + length bodies) (places_of later)
-    → CountsFrom place (places_of (placed bodies (outcomes_from place cells bodies) ++ later))
+    → CountsFrom place (places_of (bodies_with_places bodies (outcomes_from place cells bodies) ++ later))
 client_counts place cells [] later c = subst (λ (k : ℕ). CountsFrom k (places_of later)) (omega arith) c
 client_counts place cells (body ∷ bodies) later c = (
   refl,
@@ -69,7 +69,7 @@ order_is place cells clients =
     sorted_again place (all_placed clients (in_turn place cells clients)) (places_count place cells clients)
 
 client_rises : (low place : ℕ) (cells : CellMap) (bodies : List (List ℕ)) → low ≤ place
-    → RisesFrom low (places_of (placed bodies (outcomes_from place cells bodies)))
+    → RisesFrom low (places_of (bodies_with_places bodies (outcomes_from place cells bodies)))
 client_rises low place cells [] h = tt
 client_rises low place cells (body ∷ bodies) h =
     (h, client_rises (place + 1) (place + 1) (run_body cells body).cells bodies (omega arith))
@@ -86,26 +86,26 @@ scripts_kept place cells (bodies ∷ later) h = (
 -- ---- bodies
 
 client_bodies : (place : ℕ) (cells : CellMap) (bodies : List (List ℕ))
-    → bodies_of (placed bodies (outcomes_from place cells bodies)) ≡ bodies
+    → bodies_in (bodies_with_places bodies (outcomes_from place cells bodies)) ≡ bodies
 client_bodies place cells [] = refl
 client_bodies place cells (body ∷ bodies) = ap (λ (bs : List (List ℕ)). body ∷ bs)
     (client_bodies (place + 1) (run_body cells body).cells bodies)
 
 placed_bodies : (place : ℕ) (cells : CellMap) (clients : List (List (List ℕ)))
-    → bodies_of (all_placed clients (in_turn place cells clients)) ≡ all_of clients
+    → bodies_in (all_placed clients (in_turn place cells clients)) ≡ all_of clients
 placed_bodies place cells [] = refl
 placed_bodies place cells (bodies ∷ later) =
-    map-append (λ (p : Placed). p.body) (placed bodies (outcomes_from place cells bodies))
+    map-append (λ (p : Placed). p.body) (bodies_with_places bodies (outcomes_from place cells bodies))
     (all_placed later (in_turn (place + length bodies) (replay cells bodies).cells later))
-    ∙ ap (λ (bs : List (List ℕ)). bs ++ bodies_of
+    ∙ ap (λ (bs : List (List ℕ)). bs ++ bodies_in
     (all_placed later (in_turn (place + length bodies) (replay cells bodies).cells later)))
     (client_bodies place cells bodies)
     ∙ ap (λ (bs : List (List ℕ)). bodies ++ bs)
     (placed_bodies (place + length bodies) (replay cells bodies).cells later)
 
 pub order_bodies : (place : ℕ) (cells : CellMap) (clients : List (List (List ℕ)))
-    → bodies_of (order clients (in_turn place cells clients)) ≡ all_of clients
-order_bodies place cells clients = ap bodies_of (order_is place cells clients) ∙ placed_bodies place cells clients
+    → bodies_in (order clients (in_turn place cells clients)) ≡ all_of clients
+order_bodies place cells clients = ap bodies_in (order_is place cells clients) ∙ placed_bodies place cells clients
 
 -- ---- replies
 

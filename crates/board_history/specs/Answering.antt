@@ -10,7 +10,7 @@ use Rattle.script_plans.specs.declared.board_run.ClientPart.{ClientPart}
 use Rattle.script_plans.specs.declared.board_run.BoardRun.{BoardRun}
 use Rattle.transcript.specs.Ends.{ends_of}
 use Rattle.script_plans.specs.Plan.{AreSpelled}
-use Rattle.board_history.specs.Runs.{opening_of}
+use Rattle.board_history.specs.Runs.{opens_with}
 
 -- The body has a place, and its board told the answer to each of its transactions: it is not garbled, timed out, unsent
 -- or lost.
@@ -33,4 +33,4 @@ AskRequests run = AllByRecursion AsksRequests run.parts
 
 -- the bus that the board opens with holds words of 32 bits, as every bus of ranges does
 abbrev pub OpensWithWords : BoardSpec → Type 0
-OpensWithWords spec = HoldsWords (opening_of spec.link)
+OpensWithWords spec = HoldsWords (opens_with spec.link)

@@ -3,11 +3,11 @@ use Rattle.std.specs.Prelude.{ℕ, ◌*◌, ◌-◌, ◌^◌, ◌<◌, ◌≤◌
 use Rattle.std.specs.List.{AllByRecursion, count_by, flat_map, list_any}
 use Rattle.lane_record.specs.declared.outcome.Outcome.{Outcome}
 use Rattle.lane_record.specs.Outcomes.{is_given_up, is_timed_out}
-use Rattle.lane_record.specs.Dispatches.{joined}
+use Rattle.lane_record.specs.Dispatches.{outcomes_in_order}
 
 -- how many bodies of all clients were timed out
 abbrev pub time_outs : List (List (List Outcome)) → ℕ
-time_outs clients = count_by is_timed_out (flat_map joined clients)
+time_outs clients = count_by is_timed_out (flat_map outcomes_in_order clients)
 
 -- a dispatch of which a body was timed out or never sent, the link having not failed
 abbrev pub was_given_up : List Outcome → Bool

@@ -15,16 +15,16 @@ with_place body None = []
 with_place body (Some place) = record { place = place; body = body } ∷ []
 
 -- those bodies of one client that have a place, in the client's order
-abbrev pub placed : List (List ℕ) → List Outcome → List Placed
-placed [] outcomes = []
-placed (body ∷ bodies) [] = []
-placed (body ∷ bodies) (outcome ∷ outcomes) = with_place body (place_of outcome) ++ placed bodies outcomes
+abbrev pub bodies_with_places : List (List ℕ) → List Outcome → List Placed
+bodies_with_places [] outcomes = []
+bodies_with_places (body ∷ bodies) [] = []
+bodies_with_places (body ∷ bodies) (outcome ∷ outcomes) = with_place body (place_of outcome) ++ bodies_with_places bodies outcomes
 
 -- those of all clients, client by client
 abbrev pub all_placed : List (List (List ℕ)) → List (List Outcome) → List Placed
 all_placed [] outcomes = []
 all_placed (bodies ∷ later) [] = []
-all_placed (bodies ∷ later) (outcomes ∷ others) = placed bodies outcomes ++ all_placed later others
+all_placed (bodies ∷ later) (outcomes ∷ others) = bodies_with_places bodies outcomes ++ all_placed later others
 
 -- one more among bodies that stand by place
 abbrev pub insert : Placed → List Placed → List Placed
@@ -42,8 +42,8 @@ order bodies outcomes = by_place (all_placed bodies outcomes)
 abbrev pub places_of : List Placed → List ℕ
 places_of order = map (λ (p : Placed). p.place) order
 
-abbrev pub bodies_of : List Placed → List (List ℕ)
-bodies_of order = map (λ (p : Placed). p.body) order
+abbrev pub bodies_in : List Placed → List (List ℕ)
+bodies_in order = map (λ (p : Placed). p.body) order
 
 -- each is greater than the one before, and the first is at least k
 abbrev pub RisesFrom : ℕ → List ℕ → Type 0

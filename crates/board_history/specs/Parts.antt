@@ -8,7 +8,7 @@ use Rattle.lane_record.specs.declared.outcome.Outcome.{Outcome}
 use Rattle.lane_record.specs.declared.outcome.Outcome.TheVariants.{Replied, TimedOut, Unsent, LinkLost}
 use Rattle.lane_record.specs.Lists.{CountsFrom}
 use Rattle.world_model.specs.Places.{at_place}
-use Rattle.board_history.specs.Order.{Placed, placed, order, places_of, bodies_of, RisesFrom}
+use Rattle.board_history.specs.Order.{Placed, bodies_with_places, order, places_of, bodies_in, RisesFrom}
 
 -- The places on a board are 1, 2, 3, .. up to the number of bodies sent, and each belongs to one body.
 abbrev pub HasOneOrder : List (List (List ℕ)) → List (List Outcome) → Type 0
@@ -19,7 +19,7 @@ abbrev pub KeepsScripts : List (List (List ℕ)) → List (List Outcome) → Typ
 KeepsScripts [] outcomes = Unit {0}
 KeepsScripts (bodies ∷ later) [] = Unit {0}
 KeepsScripts (bodies ∷ later) (outcomes ∷ others) =
-    RisesFrom 1 (places_of (placed bodies outcomes)) × KeepsScripts later others
+    RisesFrom 1 (places_of (bodies_with_places bodies outcomes)) × KeepsScripts later others
 
 -- the reply is one of these at its place
 abbrev pub IsReplyOf : List (List ℕ) → Outcome → Type 0
@@ -32,7 +32,7 @@ IsReplyOf replies (LinkLost place) = Unit {0}
 -- place.
 abbrev pub AreRepliesOf : CellMap → List Placed → List (List Outcome) → Type 0
 AreRepliesOf opening order outcomes =
-    AllByRecursion (AllByRecursion (IsReplyOf (replay opening (bodies_of order)).replies)) outcomes
+    AllByRecursion (AllByRecursion (IsReplyOf (replay opening (bodies_in order)).replies)) outcomes
 
 -- ---- late answers
 
@@ -52,7 +52,7 @@ IsLateReplyOf replies other (Some words) = ⊥
 -- by place.
 abbrev pub AreLateRepliesOf : CellMap → List Placed → List (List Outcome) → List (List (Option (List ℕ))) → Type 0
 AreLateRepliesOf opening order outcomes lates =
-    AreBeside (AreBeside (IsLateReplyOf (replay opening (bodies_of order)).replies)) outcomes lates
+    AreBeside (AreBeside (IsLateReplyOf (replay opening (bodies_in order)).replies)) outcomes lates
 
 -- ---- what was executed
 
@@ -73,7 +73,7 @@ IsExecutedLate executed other (Some words) = ⊥
 -- late, is in it.
 pub record IsExecutedOnce (order : List Placed) (outcomes : List (List Outcome))
     (lates : List (List (Option (List ℕ)))) (executed : List (List ℕ)) : Type 0 where
-  pub front : IsPrefix executed (bodies_of order)
+  pub front : IsPrefix executed (bodies_in order)
   pub replied : AllByRecursion (AllByRecursion (IsExecuted (length executed))) outcomes
   pub late : AreBeside (AreBeside (IsExecutedLate (length executed))) outcomes lates
 

@@ -39,16 +39,16 @@ greeting_of (Sim mtu buffers first ranges fates) = Live (payload_of mtu)
 greeting_of (Udp address port wait) = Down
 
 -- the bus that it opens with
-abbrev pub opening_of : LinkSpec → CellMap
-opening_of (Sim mtu buffers first ranges fates) = opening_bus ranges
-opening_of (Udp address port wait) = []
+abbrev pub opens_with : LinkSpec → CellMap
+opens_with (Sim mtu buffers first ranges fates) = opening_bus ranges
+opens_with (Udp address port wait) = []
 
 -- What becomes of the board at a position, from 0, of a session: the clients run one after another from place 1 on.
 abbrev pub board_run : BoardSpec → ℕ → List (List Step) → BoardRun
 board_run spec board scripts = record {
   name = spec.name;
   greeting = greeting_of spec.link;
-  parts = parts_in_turn 1 (opening_of spec.link) (plans_on board (greeting_of spec.link) scripts);
+  parts = parts_in_turn 1 (opens_with spec.link) (plans_on board (greeting_of spec.link) scripts);
 }
 
 -- the boards, the first of which has this position
@@ -73,7 +73,7 @@ pub record IsRun (spec : BoardSpec) (board : ℕ) (scripts : List (List Step)) (
   -- each client asked for the bodies of its script
   pub plans : map (λ (part : ClientPart). part.planned) run.parts ≡ plans_on board run.greeting scripts
   -- the outcomes are one history of the board that opened with its ranges
-  pub history : ShowsHistory (opening_of spec.link) run
+  pub history : ShowsHistory (opens_with spec.link) run
   -- each body was replied to
   pub replied : AllReplied (outcomes_by_client run)
   -- so nothing came late

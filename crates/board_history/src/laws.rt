@@ -11,7 +11,7 @@ ghost use Rattle.script_plans.specs.declared.board_run.ClientPart.{ClientPart};
 ghost use Rattle.transcript.specs.Ends.{ends_of};
 ghost use Rattle.transcript.specs.Claims.{HaveOwnPlaces};
 ghost use Rattle.std.specs.List.{AllByRecursion, count_by};
-ghost use Rattle.board_history.specs.Order.{bodies_of, order};
+ghost use Rattle.board_history.specs.Order.{bodies_in, order};
 ghost use Rattle.board_history.specs.Parts.{AllReplied, HasOneOrder, IsExecutedOnce, KeepsScripts};
 ghost use Rattle.board_history.specs.Merges.{IsMergeOfAll, IsMergeOfSome};
 ghost use Rattle.board_history.specs.InTurn.{AreInTurn, IsUsedByOne, in_turn};
@@ -27,7 +27,7 @@ pub fn clients_in_turn_make_a_history()
     ensures in_turn { (opening : CellMap) (bodies : List (List (List ℕ))) →
         AreInTurn bodies (in_turn 1 opening bodies) }
     ensures order { (opening : CellMap) (bodies : List (List (List ℕ))) →
-        bodies_of (order bodies (in_turn 1 opening bodies)) ≡ flat_map (λ client. client) bodies }
+        bodies_in (order bodies (in_turn 1 opening bodies)) ≡ flat_map (λ client. client) bodies }
     ensures executed { (opening : CellMap) (bodies : List (List (List ℕ))) →
         IsExecutedOnce (order bodies (in_turn 1 opening bodies)) (in_turn 1 opening bodies) []
         (flat_map (λ client. client) bodies) }

@@ -8,7 +8,7 @@ ghost use Rattle.script_steps.specs.declared.operation.Step.{Step};
 ghost use Rattle.board_node.specs.OpeningWords.{OpensOnWords};
 ghost use Rattle.script_steps.specs.Executable.{AreExecutable};
 ghost use Rattle.script_plans.specs.declared.board_run.BoardRun.{BoardRun};
-ghost use Rattle.board_history.specs.Order.{bodies_of, order};
+ghost use Rattle.board_history.specs.Order.{bodies_in, order};
 ghost use Rattle.board_history.specs.History.{bodies_by_client, outcomes_by_client};
 ghost use Rattle.board_history.specs.Runs.{AreRuns, CanRun, IsRun, board_run, runs_from};
 ghost use Rattle.board_history.specs.Answering.{AreAnswered, AskRequests, OpensWithWords};
@@ -53,7 +53,7 @@ pub fn a_session_has_one_run()
 /// The order of a board in a run is the bodies of client 1, then those of client 2, and so on.
 pub fn the_order_is_client_by_client()
     ensures { (spec : BoardSpec) (board : ℕ) (scripts : List (List Step)) (run : BoardRun) →
-        IsRun spec board scripts run → bodies_of (order (bodies_by_client run) (outcomes_by_client run))
+        IsRun spec board scripts run → bodies_in (order (bodies_by_client run) (outcomes_by_client run))
         ≡ flat_map (λ client. client) (bodies_by_client run) }
 {
     a_history_of_clients_in_turn_is_the_only_one();

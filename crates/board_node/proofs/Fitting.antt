@@ -16,8 +16,8 @@ use Rattle.world_model.specs.declared.heard.LogEntry.{LogEntry}
 use Rattle.world_model.specs.declared.heard.DropCause.{DropCause}
 use Rattle.world_model.specs.declared.heard.DropCause.TheVariants.{NotPacket, TooLong, OtherId}
 use Rattle.world_model.specs.Messages.{ToBoard, StatusRequest, ResendRequest, ControlPacket, control_packet, to_board}
-use Rattle.world_model.specs.Board.{Board, Hearing, dropped, execute, expected, hear, hear_control, hear_message}
-use Rattle.world_model.specs.Board.{held, is_too_long, present_bus, send_again}
+use Rattle.world_model.specs.Board.{Board, Hearing, hearing_dropped, execute, expected_identifier, hear, hear_control, hear_message}
+use Rattle.world_model.specs.Board.{held_replies, is_too_long, present_bus, send_again}
 use Rattle.world_model.specs.Board.{tell_status, with_id}
 use Rattle.board_node.specs.Answers.{answer_bytes}
 use Rattle.board_node.specs.View.{FitsMtu}
@@ -45,13 +45,13 @@ fits_bytes mtu packet fit = omega (arith, words_length packet.order (packet_word
 abbrev pub IsFitting : Board → Hearing → Type 0
 IsFitting b h = length (answer_bytes h.answer) ≤ 4 * payload_of b.mtu
 
-none_fits : (b : Board) (cause : DropCause) → IsFitting b (dropped b cause)
+none_fits : (b : Board) (cause : DropCause) → IsFitting b (hearing_dropped b cause)
 none_fits b cause = omega arith
 
 status_fits : (b : Board) → IsMtu b.mtu → IsFitting b (tell_status b)
 status_fits b is =
-    let long : length (packet_bytes (status_reply b.mtu b.buffers (expected b))) ≡ 64 =
-    words_length Big (packet_words (status_reply b.mtu b.buffers (expected b))) in
+    let long : length (packet_bytes (status_reply b.mtu b.buffers (expected_identifier b))) ≡ 64 =
+    words_length Big (packet_words (status_reply b.mtu b.buffers (expected_identifier b))) in
     omega (arith, long, is.0)
 
 found_fits : (P : Packet → Type 0) (id : ℕ) (packets : List Packet) → AllByRecursion P packets
@@ -78,19 +78,19 @@ module _ (room : (cells : CellMap) (body : List ℕ) → length (run_body cells 
       either (IsFitting b) (is_too_long b body) _ _ (λ _. none_fits b TooLong) (λ short.
       either (IsFitting b) (id == 0) _ _
       (λ _. executed_fits b id (record { numbered = false; order = order; body = body }) short) (λ _.
-      either (IsFitting b) (id == expected b) _ _
+      either (IsFitting b) (id == expected_identifier b) _ _
       (λ _. executed_fits b id (record { numbered = true; order = order; body = body }) short)
       (λ _. none_fits b OtherId)))
 
-  said_fits : (b : Board) (m : Option ToBoard) → IsMtu b.mtu → AllByRecursion (FitsMtu b.mtu) (held b)
+  said_fits : (b : Board) (m : Option ToBoard) → IsMtu b.mtu → AllByRecursion (FitsMtu b.mtu) (held_replies b)
       → IsFitting b (hear_message b m)
   said_fits b None is all = none_fits b NotPacket
   said_fits b (Some StatusRequest) is all = status_fits b is
   said_fits b (Some (ResendRequest id)) is all =
-      resent_fits b (with_id id (held b)) (found_fits (FitsMtu b.mtu) id (held b) all)
+      resent_fits b (with_id id (held_replies b)) (found_fits (FitsMtu b.mtu) id (held_replies b) all)
   said_fits b (Some (ControlPacket order id body)) is all = control_fits b order id body
 
-  pub answer_fits : (b : Board) → IsMtu b.mtu → AllByRecursion (FitsMtu b.mtu) (held b) → (datagram : List ℕ)
+  pub answer_fits : (b : Board) → IsMtu b.mtu → AllByRecursion (FitsMtu b.mtu) (held_replies b) → (datagram : List ℕ)
       → length (answer_bytes (hear b datagram).answer) + 28 ≤ b.mtu
   answer_fits b is all datagram =
       let fit = said_fits b (to_board datagram) is all in

@@ -14,7 +14,7 @@ use Rattle.world_model.specs.declared.heard.Heard.TheVariants.{Replied, Resent}
 use Rattle.world_model.specs.declared.heard.DropCause.TheVariants.{NotHeld}
 use Rattle.world_model.specs.declared.heard.LogEntry.{LogEntry}
 use Rattle.world_model.specs.Messages.{ToBoard, ControlPacket, ResendRequest, control_packet, to_board}
-use Rattle.world_model.specs.Board.{Board, Hearing, body_of, dropped, expected, hear, hear_message, held, numbered}
+use Rattle.world_model.specs.Board.{Board, Hearing, body_of, hearing_dropped, expected_identifier, hear, hear_message, held_replies, numbered_count}
 use Rattle.world_model.specs.Board.{numbered_replies, present_bus, replies, send_again, with_id}
 use Rattle.board_node.specs.Hearings.{after, IsAmongLast}
 use Rattle.board_node.proofs.Lists.{differ}
@@ -92,28 +92,28 @@ kept_more b later =
     let all : replies (with_log b (b.log ++ later)) ≡ replies b ++ after_all.replies =
     ap (λ (bodies : List (List ℕ)). (replay b.opening bodies).replies) (map-append body_of b.log later)
     ∙ replies_on b.opening (map body_of b.log) (map body_of later) in (
-      numbered_replies b.first (1 + numbered b.log) later after_all.replies,
+      numbered_replies b.first (1 + numbered_count b.log) later after_all.replies,
       ap (numbered_replies b.first 1 (b.log ++ later)) all
           ∙ joined b.first 1 b.log later (replies b) after_all.replies (as_long b),
     )
 
 -- a reply that was sent is found again, while no more packets were numbered since than there are buffers
 found_again : (b c : Board) (packet : Packet) (rest : List Packet) → 1 ≤ b.first → b.buffers ≤ 64
-    → c.buffers ≡ b.buffers → kept c ≡ kept b ++ packet ∷ rest → packet.id ≡ expected b
-    → numbered c.log ≤ numbered b.log + b.buffers → with_id packet.id (held c) ≡ Some packet
+    → c.buffers ≡ b.buffers → kept c ≡ kept b ++ packet ∷ rest → packet.id ≡ expected_identifier b
+    → numbered_count c.log ≤ numbered_count b.log + b.buffers → with_id packet.id (held_replies c) ≡ Some packet
 found_again b c packet rest from_one few buffers is named_so recent =
     let front = kept b in
-    let count : length front ≡ numbered b.log = kept_count b in
-    let total : length (kept c) ≡ numbered c.log = kept_count c in
+    let count : length front ≡ numbered_count b.log = kept_count b in
+    let total : length (kept c) ≡ numbered_count c.log = kept_count c in
     let n = length (kept c) - c.buffers in
     let within : n ≤ length front = omega (arith, count, total, buffers, recent) in
-    let parts : held c ≡ drop n front ++ packet ∷ rest = ap (λ (ps : List Packet). drop n ps) is
+    let parts : held_replies c ≡ drop n front ++ packet ∷ rest = ap (λ (ps : List Packet). drop n ps) is
     ∙ drop-append-le n front (packet ∷ rest) within in
     let long = ap (λ (ps : List Packet). length ps) is ∙ length-append front (packet ∷ rest) in
     ap (with_id packet.id) parts ∙ skipped packet.id (drop n front) packet rest (λ k p at same.
     let there = dropped_get n front k p at in
     let inside = slice_get_within front (n + k) p there in
-    apart b.first (1 + (n + k)) (numbered b.log + 1) from_one (omega arith) (omega (arith, inside, count))
+    apart b.first (1 + (n + k)) (numbered_count b.log + 1) from_one (omega arith) (omega (arith, inside, count))
     (omega (arith, long, count, buffers, few))
     (sym (named b.first 1 b.log (replies b) (n + k) p there) ∙ (same ∙ named_so))) refl
 
@@ -121,7 +121,7 @@ pub sent_again : (b : Board) (datagram : List ℕ) (later : List (List ℕ)) (or
     (body request : List ℕ) → 1 ≤ b.first → b.buffers ≤ 64
     → to_board datagram ≡ Some (ControlPacket order id body) → (id ≡ 0 → ⊥) → (hear b datagram).heard ≡ Replied
     → to_board request ≡ Some (ResendRequest id)
-    → numbered (after (hear b datagram).board later).log ≤ numbered b.log + b.buffers
+    → numbered_count (after (hear b datagram).board later).log ≤ numbered_count b.log + b.buffers
     → hear (after (hear b datagram).board later) request ≡ record {
       heard = Resent;
       answer =
@@ -144,7 +144,7 @@ sent_again b datagram later order id body request from_one few said not heard as
     ∙ (on.1 ∙ (ap (λ (ps : List Packet). ps ++ on.0) (kept_grows b e id (λ _. w.next))
     ∙ append_assoc (kept b) (packet ∷ []) on.0)) in
     let buffers : c.buffers ≡ b.buffers = ap (λ (x : Board). x.buffers) c_is ∙ same_buffers b' (after b' later) more in
-    let found : with_id id (held c) ≡ Some packet =
+    let found : with_id id (held_replies c) ≡ Some packet =
     found_again b c packet on.0 from_one few buffers now w.next recent in
     ap (hear_message c) asked ∙ (ap (send_again c) found
     ∙ ap (λ (answer : Option (List ℕ)). record { heard = Resent; answer = answer; board = c })
@@ -153,10 +153,10 @@ sent_again b datagram later order id body request from_one few said not heard as
 -- ---- and one that is not
 
 -- each packet that is held is that of one of the last places
-held_place : (b : Board) (k : ℕ) (p : Packet) → slice_get (held b) k ≡ Some p
+held_place : (b : Board) (k : ℕ) (p : Packet) → slice_get (held_replies b) k ≡ Some p
     → (place : ℕ) × IsAmongLast b place × (p.id ≡ identifier_at b.first place)
 held_place b k p at =
-    let total : length (kept b) ≡ numbered b.log = kept_count b in
+    let total : length (kept b) ≡ numbered_count b.log = kept_count b in
     let n = length (kept b) - b.buffers in
     let there = dropped_get n (kept b) k p at in
     let inside = slice_get_within (kept b) (n + k) p there in (
@@ -172,9 +172,9 @@ held_place b k p at =
 
 pub not_held : (b : Board) (request : List ℕ) (id : ℕ) → to_board request ≡ Some (ResendRequest id)
     → ((place : ℕ) → IsAmongLast b place → identifier_at b.first place ≡ id → ⊥)
-    → hear b request ≡ dropped b NotHeld
+    → hear b request ≡ hearing_dropped b NotHeld
 not_held b request id asked none =
-    let nothing : with_id id (held b) ≡ None = missing id (held b) (λ k p at same. let f = held_place b k p at in
+    let nothing : with_id id (held_replies b) ≡ None = missing id (held_replies b) (λ k p at same. let f = held_place b k p at in
     none f.0 f.1 (sym f.2 ∙ same)) in
     ap (hear_message b) asked ∙ ap (send_again b) nothing
 
@@ -204,7 +204,7 @@ some_found id (x ∷ packets) (suc k) p at same =
     ]
 
 heard_found : (b : Board) (request : List ℕ) (id : ℕ) (q : Packet) → to_board request ≡ Some (ResendRequest id)
-    → with_id id (held b) ≡ Some q → (hear b request).heard ≡ Resent
+    → with_id id (held_replies b) ≡ Some q → (hear b request).heard ≡ Resent
 heard_found b request id q asked found =
     ap (λ (m : Option ToBoard). (hear_message b m).heard) asked
     ∙ ap (λ (r : Option Packet). (send_again b r).heard) found
@@ -217,11 +217,11 @@ pub among_last : (b : Board) (request : List ℕ) (id place : ℕ) → to_board 
     → IsAmongLast b place → identifier_at b.first place ≡ id
     → (hear b request).heard ≡ Resent
 among_last b request id place asked is same =
-    let total : length (kept b) ≡ numbered b.log = kept_count b in
+    let total : length (kept b) ≡ numbered_count b.log = kept_count b in
     let n = length (kept b) - b.buffers in
     let k = place - 1 - n in
     let here : n + k ≡ place - 1 = omega (arith, total, is.from_one, is.executed, is.recent) in
     let there = there_is (kept b) (n + k) (omega (arith, here, total, is.from_one, is.executed)) in
     let name = at_last b id place (n + k) there.0 there.1 (omega (arith, here, is.from_one)) same in
-    let found = some_found id (held b) k there.0 (get_dropped n (kept b) k there.0 there.1) name in
+    let found = some_found id (held_replies b) k there.0 (get_dropped n (kept b) k there.0 there.1) name in
     heard_found b request id found.0 asked found.1

@@ -9,7 +9,7 @@ use Rattle.ipb_base.proofs.AllLemmas.{AllByRecursion-append}
 use Rattle.board_bus.specs.Bodies.{run_body}
 use Rattle.world_model.specs.declared.heard.LogEntry.{LogEntry}
 use Rattle.world_model.specs.Messages.{control_packet}
-use Rattle.world_model.specs.Board.{Board, expected, held, last_of, numbered_replies, present_bus, replies, with_id}
+use Rattle.world_model.specs.Board.{Board, expected_identifier, held_replies, last_of, numbered_replies, present_bus, replies, with_id}
 use Rattle.board_node.specs.View.{if_numbered, keeping}
 use Rattle.board_node.proofs.Logs.{all_past, kept_grows, with_entry}
 
@@ -35,10 +35,10 @@ keeping_last true most all packet =
 keeping_last false most all packet =
     ap (λ (packets : List Packet). buffer (last_of most packets) most) (sym (append-nil all))
 
-pub holds_more : (b : Board) (e : LogEntry) (id : ℕ) (ring : Buffer Packet) → ring ≡ buffer (held b) b.buffers
-    → (e.numbered ≡ true → id ≡ expected b)
+pub holds_more : (b : Board) (e : LogEntry) (id : ℕ) (ring : Buffer Packet) → ring ≡ buffer (held_replies b) b.buffers
+    → (e.numbered ≡ true → id ≡ expected_identifier b)
     → keeping ring e.numbered (control_packet e.order id (run_body (present_bus b) e.body).reply)
-    ≡ buffer (held (with_entry b e)) b.buffers
+    ≡ buffer (held_replies (with_entry b e)) b.buffers
 holds_more b e id ring is next =
     let packet = control_packet e.order id (run_body (present_bus b) e.body).reply in
     ap (λ (r : Buffer Packet). keeping r e.numbered packet) is

@@ -10,8 +10,8 @@ use Rattle.board_bus.specs.Cells.{CellMap}
 use Rattle.board_bus.specs.Bodies.{replay, run_body}
 use Rattle.world_model.specs.declared.heard.LogEntry.{LogEntry}
 use Rattle.world_model.specs.Messages.{ToBoard, StatusRequest, ResendRequest, ControlPacket, to_board}
-use Rattle.world_model.specs.Board.{Board, Hearing, body_of, execute, expected, hear, hear_control, hear_message}
-use Rattle.world_model.specs.Board.{held, is_too_long, numbered, present_bus, send_again, with_id}
+use Rattle.world_model.specs.Board.{Board, Hearing, body_of, execute, expected_identifier, hear, hear_control, hear_message}
+use Rattle.world_model.specs.Board.{held_replies, is_too_long, numbered_count, present_bus, send_again, with_id}
 use Rattle.board_node.specs.Hearings.{after, IsQuestion}
 
 pub either : {A : Type 0} (P : A → Type 0) (b : Bool) (x y : A) → (b ≡ true → P x) → (b ≡ false → P y) → P (cond b x y)
@@ -28,7 +28,7 @@ pub record IsExecuting (b : Board) (h : Hearing) : Type 0 where
   pub id : ℕ
   pub entry : LogEntry
   pub is : h ≡ execute b id entry
-  pub next : entry.numbered ≡ true → id ≡ expected b
+  pub next : entry.numbered ≡ true → id ≡ expected_identifier b
 
 -- the board is as it was, or executed a control packet
 abbrev pub IsStep : Board → Hearing → Type 0
@@ -49,19 +49,19 @@ told b order id body =
           refl;
       next = λ e. absurd cc;
     })) (λ _.
-    either (IsStep b) (id == expected b) _ _
+    either (IsStep b) (id == expected_identifier b) _ _
     (λ e. inr (record {
       id = id;
       entry = record { numbered = true; order = order; body = body };
       is = refl;
       next =
-          λ _. eqb-true id (expected b) e;
+          λ _. eqb-true id (expected_identifier b) e;
     })) (λ _. inl refl)))
 
 said : (b : Board) (m : Option ToBoard) → IsStep b (hear_message b m)
 said b None = inl refl
 said b (Some StatusRequest) = inl refl
-said b (Some (ResendRequest id)) = inl (asked_again b (with_id id (held b)))
+said b (Some (ResendRequest id)) = inl (asked_again b (with_id id (held_replies b)))
 said b (Some (ControlPacket order id body)) = told b order id body
 
 pub step : (b : Board) (datagram : List ℕ) → IsStep b (hear b datagram)
@@ -71,7 +71,7 @@ step b datagram = said b (to_board datagram)
 pub question : (b : Board) (datagram : List ℕ) → IsQuestion datagram → (hear b datagram).board ≡ b
 question b datagram (inl is) = ap (λ (m : Option ToBoard). (hear_message b m).board) is
 question b datagram (inr (id, is)) = ap (λ (m : Option ToBoard). (hear_message b m).board) is
-    ∙ asked_again b (with_id id (held b))
+    ∙ asked_again b (with_id id (held_replies b))
 
 pub questions : (b : Board) (datagrams : List (List ℕ)) → AllByRecursion IsQuestion datagrams → after b datagrams ≡ b
 questions b [] all = refl
@@ -104,7 +104,7 @@ grew b (datagram ∷ datagrams) =
     grew_on b (hear b datagram).board (after b (datagram ∷ datagrams))
     (step_grew b (hear b datagram) (step b datagram)) (grew (hear b datagram).board datagrams)
 
-pub numbered_more : (one two : List LogEntry) → numbered (one ++ two) ≡ numbered one + numbered two
+pub numbered_more : (one two : List LogEntry) → numbered_count (one ++ two) ≡ numbered_count one + numbered_count two
 numbered_more [] two = omega arith
 numbered_more (e ∷ one) two = let h = numbered_more one two in omega arith
 
@@ -117,9 +117,9 @@ same_buffers b c (later, is) = ap (λ (x : Board). x.buffers) is
 pub same_length : (b c : Board) (body : List ℕ) → Grew b c → is_too_long c body ≡ is_too_long b body
 same_length b c body (later, is) = ap (λ (x : Board). is_too_long x body) is
 
-pub more_numbered : (b c : Board) → Grew b c → numbered b.log ≤ numbered c.log
+pub more_numbered : (b c : Board) → Grew b c → numbered_count b.log ≤ numbered_count c.log
 more_numbered b c (later, is) =
-    let same = ap (λ (x : Board). numbered x.log) is in
+    let same = ap (λ (x : Board). numbered_count x.log) is in
     let sum = numbered_more b.log later in
     omega arith
 

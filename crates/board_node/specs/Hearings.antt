@@ -5,7 +5,7 @@ use Rattle.packet_ids.specs.Identifier.{identifier_at}
 use Rattle.world_model.specs.declared.heard.Heard.{Heard}
 use Rattle.world_model.specs.declared.heard.LogEntry.{LogEntry}
 use Rattle.world_model.specs.Messages.{StatusRequest, ResendRequest, ControlPacket, to_board}
-use Rattle.world_model.specs.Board.{Board, hear, is_too_long, numbered}
+use Rattle.world_model.specs.Board.{Board, hear, is_too_long, numbered_count}
 
 -- the board with more entries at the end of its log
 abbrev pub grown : Board → List LogEntry → Board
@@ -41,5 +41,5 @@ AreInTurn board place (datagram ∷ datagrams) =
 -- the numbered packet at a place of a board's log is one of the last ones, as many as the board has buffers
 pub record IsAmongLast (board : Board) (place : ℕ) : Type 0 where
   pub from_one : 1 ≤ place
-  pub executed : place ≤ numbered board.log
-  pub recent : numbered board.log < place + board.buffers
+  pub executed : place ≤ numbered_count board.log
+  pub recent : numbered_count board.log < place + board.buffers

@@ -8,7 +8,7 @@ use Rattle.packet_codec.specs.declared.packet.Packet.{Packet}
 use Rattle.packet_codec.specs.declared.packet.TheConstants.{MAX_BODY_WORDS}
 use Rattle.status_packet.specs.Range.{IsMtu, IsBufferCount}
 use Rattle.world_model.specs.Messages.{ToBoard, said_to_board}
-use Rattle.world_model.specs.Board.{Board, held, numbered, present_bus}
+use Rattle.world_model.specs.Board.{Board, held_replies, numbered_count, present_bus}
 use Rattle.board_node.specs.Log.{IsLoggable}
 use Rattle.board_node.specs.declared.board.Board.TheInside.{Inside}
 
@@ -29,8 +29,8 @@ pub record IsCurrent (b : Inside) : Type 0 where
   pub mtu : IsMtu b.mtu
   pub buffers : IsBufferCount b.buffers
   pub bus : b.bus ≡ present_bus (board_of b)
-  pub count : b.numbered ≡ numbered b.log.items
-  pub kept : b.held ≡ buffer (held (board_of b)) b.buffers
+  pub count : b.numbered ≡ numbered_count b.log.items
+  pub kept : b.held ≡ buffer (held_replies (board_of b)) b.buffers
   pub fit : AllByRecursion (FitsMtu b.mtu) b.held.items
   pub logged : AllByRecursion (IsLoggable b.mtu) b.log.items
 
@@ -49,6 +49,6 @@ said_by None = None
 said_by (Some packet) = said_to_board packet.kind packet.order packet.id packet.body
 
 -- the packet that is lent, if there is one
-abbrev pub lent : Option (Bor Packet) → Option Packet
-lent None = None
-lent (Some packet) = Some packet.now
+abbrev pub lent_packet : Option (Bor Packet) → Option Packet
+lent_packet None = None
+lent_packet (Some packet) = Some packet.now

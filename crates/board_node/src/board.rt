@@ -12,7 +12,7 @@ ghost use Rattle.packet_codec.specs.declared.packet.TheConstants.{MAX_BODY_WORDS
 ghost use Rattle.packet_codec.specs.Packet.{IsPacket};
 ghost use Rattle.status_packet.specs.Range.{IsMtu, IsBufferCount};
 ghost use Rattle.world_model.specs.Messages.{to_board, said_to_board};
-ghost use Rattle.world_model.specs.Board.{dropped, execute, executed, expected, hear, hear_control, hear_message, held};
+ghost use Rattle.world_model.specs.Board.{hearing_dropped, execute, bodies_executed, expected_identifier, hear, hear_control, hear_message, held_replies};
 ghost use Rattle.world_model.specs.Board.{is_too_long, present_bus, send_again, tell_status, with_id};
 ghost use Rattle.board_node.specs.Answers.{answer_bytes, IsHeard};
 ghost use Rattle.board_node.specs.View.{said_by};
@@ -100,15 +100,15 @@ impl Board {
 
     /// How many control packets it executed, those of identifier 0 among them.
     pub fn executed_len(&self) -> usize
-        ensures { result ≡ length (executed self.now) }
+        ensures { result ≡ length (bodies_executed self.now) }
     {
         self.log.len()
     }
 
     /// The body of an executed control packet, in order of execution, from 0.
     pub fn executed(&self, i: usize) -> &[u32]
-        requires { i < length (executed self.now) }
-        ensures { slice_get (executed self.now) i ≡ Some result.now }
+        requires { i < length (bodies_executed self.now) }
+        ensures { slice_get (bodies_executed self.now) i ≡ Some result.now }
     {
         self.log[i].body.as_slice()
     }
@@ -122,7 +122,7 @@ impl Board {
 
     /// The identifier that it expects next (IPbus 2.0, reliability mechanism).
     pub fn next(&self) -> Id
-        ensures { result ≡ expected self.now }
+        ensures { result ≡ expected_identifier self.now }
     {
         id_at(self.first, self.numbered + 1)
     }
@@ -131,7 +131,7 @@ impl Board {
     /// buffers, each in its byte order and under its identifier (IPbus 2.0, re-send request packet).
     pub fn held(&self) -> &HeapCircularBuffer<Packet>
         ensures capacity { result.now.capacity ≡ self.now.buffers }
-        ensures items { result.now.items ≡ held self.now }
+        ensures items { result.now.items ≡ held_replies self.now }
     {
         &self.held
     }
@@ -241,7 +241,7 @@ impl Board {
     /// Answers a re-send request by the reply with this identifier, where it is held.
     fn send_again(&self, id: u16, out: &mut Vec<u8>) -> Result<Heard, NoMemory>
         requires empty { out.old.items ≡ [] }
-        ensures { IsHeard (send_again self.now (with_id id (held self.now))) self.now self.now out.new.items result }
+        ensures { IsHeard (send_again self.now (with_id id (held_replies self.now))) self.now self.now out.new.items result }
     {
         let Some(reply) = find_held(&self.held, id) else {
             return Ok(Heard::Dropped(DropCause::NotHeld));
@@ -306,7 +306,7 @@ impl Board {
         out: &mut Vec<u8>,
     ) -> Result<Heard, NoMemory>
         requires fits { is_too_long self.old entry.body ≡ false }
-        requires id { entry.numbered ≡ true → id ≡ expected self.old }
+        requires id { entry.numbered ≡ true → id ≡ expected_identifier self.old }
         requires room { room ≡ reply_room entry.body }
         requires empty { out.old.items ≡ [] }
         ensures { IsHeard (execute self.old id entry) self.old self.new out.new.items result }

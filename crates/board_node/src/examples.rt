@@ -6,7 +6,7 @@ ghost use Rattle.std.specs.Prelude.{◌≡◌, [], ◌∷◌, replicate, Some};
 ghost use Rattle.ipb_base.specs.Word.{big_endian};
 ghost use Rattle.world_model.specs.declared.heard.Heard.TheVariants.{Replied, Resent, Dropped};
 ghost use Rattle.world_model.specs.declared.heard.DropCause.TheVariants.{NotPacket, TooLong, OtherId, NotHeld};
-ghost use Rattle.world_model.specs.Board.{expected, hear};
+ghost use Rattle.world_model.specs.Board.{expected_identifier, hear};
 ghost use Rattle.world_model.specs.Examples.{board_with};
 ghost use Rattle.board_node.specs.Hearings.{after, heard_of};
 
@@ -36,7 +36,7 @@ pub fn identifier_0_adds_each_time()
         (after (board_with 1500 4 1) (replicate 2 (big_endian (0x200000f0 ∷ 0x2000015f ∷ 8 ∷ 1 ∷ []))))
         (big_endian (0x200000f0 ∷ 0x2000015f ∷ 8 ∷ 1 ∷ []))).answer
         ≡ Some (big_endian (0x200000f0 ∷ 0x20000150 ∷ 2 ∷ [])) }
-    ensures next { expected (after (board_with 1500 4 1)
+    ensures next { expected_identifier (after (board_with 1500 4 1)
         (replicate 3 (big_endian (0x200000f0 ∷ 0x2000015f ∷ 8 ∷ 1 ∷ [])))) ≡ 1 }
 {}
 

@@ -14,8 +14,8 @@ ghost use Rattle.world_model.specs.declared.heard.Heard.TheVariants.{Replied, Re
 ghost use Rattle.world_model.specs.declared.heard.DropCause.TheVariants.{OtherId, NotHeld};
 ghost use Rattle.world_model.specs.declared.heard.LogEntry.{LogEntry as Entry};
 ghost use Rattle.world_model.specs.Messages.{ControlPacket, ResendRequest, to_board};
-ghost use Rattle.world_model.specs.Board.{Board as BoardValue, body_of, dropped, executed, expected, hear, is_too_long};
-ghost use Rattle.world_model.specs.Board.{numbered, present_bus};
+ghost use Rattle.world_model.specs.Board.{Board as BoardValue, body_of, hearing_dropped, bodies_executed, expected_identifier, hear, is_too_long};
+ghost use Rattle.world_model.specs.Board.{numbered_count, present_bus};
 ghost use Rattle.board_node.specs.Hearings.{after, grown, heard_of, AreInTurn, IsAmongLast, IsQuestion};
 
 use crate::board::{IP_UDP_BYTES, STATUS_BODY_WORDS};
@@ -37,7 +37,7 @@ pub fn the_log_only_grows()
 /// before on which the later bodies were executed.
 pub fn the_bus_is_the_replay_of_the_log()
     ensures whole { (board : BoardValue) (datagrams : List (List ℕ)) → present_bus (after board datagrams)
-        ≡ (replay board.opening (executed (after board datagrams))).cells }
+        ≡ (replay board.opening (bodies_executed (after board datagrams))).cells }
     ensures later { (board : BoardValue) (datagrams : List (List ℕ)) (later : List Entry) →
         after board datagrams ≡ grown board later →
         present_bus (after board datagrams) ≡ (replay (present_bus board) (map body_of later)).cells }
@@ -46,11 +46,11 @@ pub fn the_bus_is_the_replay_of_the_log()
 /// The expected identifier is that of the place after the numbered entries of the log. A packet with another identifier
 /// than 0 is executed only where it has the expected one, and then makes one numbered entry.
 pub fn the_numbered_entries_make_the_expected_identifier()
-    ensures expected { (board : BoardValue) (datagrams : List (List ℕ)) → expected (after board datagrams)
-        ≡ identifier_at board.first (numbered (after board datagrams).log + 1) }
+    ensures expected { (board : BoardValue) (datagrams : List (List ℕ)) → expected_identifier (after board datagrams)
+        ≡ identifier_at board.first (numbered_count (after board datagrams).log + 1) }
     ensures in_turn { (board : BoardValue) (datagram : List ℕ) (order : Order) (id : ℕ) (body : List ℕ) →
         to_board datagram ≡ Some (ControlPacket order id body) → id ≢ 0 → (hear board datagram).heard ≡ Replied →
-        (id ≡ expected board) × (numbered (hear board datagram).board.log ≡ numbered board.log + 1) }
+        (id ≡ expected_identifier board) × (numbered_count (hear board datagram).board.log ≡ numbered_count board.log + 1) }
 {}
 
 /// A control packet that was executed under a number is dropped each time that it is heard again, whatever was heard
@@ -62,7 +62,7 @@ pub fn a_repeated_packet_changes_nothing()
         IsIdentifier board.first → to_board datagram ≡ Some (ControlPacket order id body) → id ≢ 0 →
         (hear board datagram).heard ≡ Replied →
         let later = after (hear board datagram).board between in
-        numbered later.log < numbered board.log + IDENTIFIERS → hear later datagram ≡ dropped later OtherId }
+        numbered_count later.log < numbered_count board.log + IDENTIFIERS → hear later datagram ≡ hearing_dropped later OtherId }
 {}
 
 /// Status requests and re-send requests change nothing.
@@ -79,7 +79,7 @@ pub fn a_reply_is_sent_again_as_it_was()
         to_board datagram ≡ Some (ControlPacket order id body) → id ≢ 0 → (hear board datagram).heard ≡ Replied →
         to_board request ≡ Some (ResendRequest id) →
         let later = after (hear board datagram).board between in
-        numbered later.log ≤ numbered board.log + board.buffers →
+        numbered_count later.log ≤ numbered_count board.log + board.buffers →
         hear later request ≡ record { heard = Resent; answer = (hear board datagram).answer; board = later } }
 {}
 
@@ -91,7 +91,7 @@ pub fn the_last_replies_alone_are_held()
         (hear board request).heard ≡ Resent }
     ensures not_held { (board : BoardValue) (request : List ℕ) (id : ℕ) → to_board request ≡ Some (ResendRequest id) →
         ((place : ℕ) → IsAmongLast board place → identifier_at board.first place ≢ id) →
-        hear board request ≡ dropped board NotHeld }
+        hear board request ≡ hearing_dropped board NotHeld }
 {}
 
 /// A control packet of identifier 0 that is not too long is executed at each arrival, each time on the bus that the
@@ -106,19 +106,19 @@ pub fn identifier_0_is_executed_at_each_arrival()
         ≡ grown board (replicate times (record { numbered = false; order = order; body = body })) }
     ensures next { (board : BoardValue) (datagram : List ℕ) (order : Order) (body : List ℕ) (times : ℕ) →
         to_board datagram ≡ Some (ControlPacket order 0 body) → is_too_long board body ≡ false →
-        expected (after board (replicate times datagram)) ≡ expected board }
+        expected_identifier (after board (replicate times datagram)) ≡ expected_identifier board }
 {}
 
 /// Control packets with the identifiers in turn, none too long, are all executed and answered, however many they are:
 /// past 0xffff, which 1 follows, and past any number of such rounds.
 pub fn packets_in_turn_are_all_executed()
     ensures replied { (board : BoardValue) (datagrams : List (List ℕ)) →
-        AreInTurn board (numbered board.log + 1) datagrams →
+        AreInTurn board (numbered_count board.log + 1) datagrams →
         heard_of board datagrams ≡ replicate (length datagrams) Replied }
     ensures executed { (board : BoardValue) (datagrams : List (List ℕ)) →
-        AreInTurn board (numbered board.log + 1) datagrams →
-        length (executed (after board datagrams)) ≡ length (executed board) + length datagrams }
+        AreInTurn board (numbered_count board.log + 1) datagrams →
+        length (bodies_executed (after board datagrams)) ≡ length (bodies_executed board) + length datagrams }
     ensures next { (board : BoardValue) (datagrams : List (List ℕ)) →
-        AreInTurn board (numbered board.log + 1) datagrams →
-        expected (after board datagrams) ≡ identifier_at board.first (numbered board.log + length datagrams + 1) }
+        AreInTurn board (numbered_count board.log + 1) datagrams →
+        expected_identifier (after board datagrams) ≡ identifier_at board.first (numbered_count board.log + length datagrams + 1) }
 {}

@@ -3,7 +3,7 @@
 ghost use Rattle.std.specs.Prelude.{◌≡◌, ◌≤◌, ◌+◌, ◌*◌, IfSome};
 ghost use Rattle.std.specs.List.{AllByRecursion};
 ghost use Rattle.world_model.specs.Board.{with_id};
-ghost use Rattle.board_node.specs.View.{lent, keeping, IsShort};
+ghost use Rattle.board_node.specs.View.{lent_packet, keeping, IsShort};
 
 use circular_buffer::HeapCircularBuffer;
 use packet_codec::Packet;
@@ -12,7 +12,7 @@ use std::alloc::Global;
 /// The first of these replies that has an identifier.
 pub(crate) fn find_reply(replies: &[Packet], id: u16) -> Option<&Packet>
     requires short { AllByRecursion IsShort replies.now }
-    ensures found { lent result ≡ with_id id replies.now }
+    ensures found { lent_packet result ≡ with_id id replies.now }
     ensures short { IfSome result (λ reply. IsShort reply.now) }
 {
     for reply in replies {
@@ -26,7 +26,7 @@ pub(crate) fn find_reply(replies: &[Packet], id: u16) -> Option<&Packet>
 /// The first reply of a ring that has an identifier.
 pub(crate) fn find_held(held: &HeapCircularBuffer<Packet>, id: u16) -> Option<&Packet>
     requires short { AllByRecursion IsShort held.now.items }
-    ensures found { lent result ≡ with_id id held.now.items }
+    ensures found { lent_packet result ≡ with_id id held.now.items }
     ensures short { IfSome result (λ reply. IsShort reply.now) }
 {
     let (older, newer) = held.as_slices();

@@ -11,13 +11,13 @@ use Rattle.capture_reader.specs.declared.capture.Capture.{Capture}
 use Rattle.capture_reader.specs.CaptureText.{IsCapture, IsItem, first_text}
 use Rattle.capture_reader.specs.Description.{AreTextsOf, IsDescription, proved_text}
 use Rattle.capture_reader.specs.Examples.{one_empty, one_read}
-use Rattle.capture_reader.specs.Fronts.{all_of}
+use Rattle.ipb_base.specs.Fronts.{all_of}
 use Rattle.capture_reader.specs.Parsing.{datagram_at}
 use Rattle.capture_reader.specs.Proved.{IsProved}
 use Rattle.capture_reader.specs.Reading.{first_at}
 use Rattle.capture_reader.proofs.Datagrams.{described_again}
 use Rattle.capture_reader.proofs.FirstLine.{first_again}
-use Rattle.capture_reader.proofs.Many.{parts_of}
+use Rattle.ipb_base.proofs.Fronts.{parts_of}
 use Rattle.capture_reader.proofs.OneText.{one_description, one_place}
 
 -- ---- the captures

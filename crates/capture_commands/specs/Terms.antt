@@ -1,5 +1,5 @@
 -- What `describe` and `undescribe` owe to their input. Neither makes a link or lets a client in. Profile.
-use Rattle.std.specs.Prelude.{ℕ, false, List, Some}
+use Rattle.std.specs.Prelude.{false, Some}
 use Rattle.capture_reader.specs.declared.capture.Capture.{Capture}
 use Rattle.command_terms.specs.Terms.{Terms, uses_none}
 use Rattle.capture_commands.specs.declared.refusal.TextRefusal.TheVariants.{LongCapture, LongDescription}

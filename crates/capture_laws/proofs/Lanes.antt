@@ -22,7 +22,7 @@ use Rattle.world_model.specs.declared.datagram.Direction.{Direction}
 use Rattle.world_model.specs.declared.datagram.Direction.TheVariants as goes
 use Rattle.world_model.specs.Messages.{ToBoard, StatusRequest, ResendRequest, packet_to_board, said_to_board, to_board}
 use Rattle.world_model.specs.Messages.{to_hub}
-use Rattle.world_model.specs.Board.{Board, executed, replies}
+use Rattle.world_model.specs.Board.{Board, bodies_executed, replies}
 use Rattle.world_model.specs.Hub.{Hub}
 use Rattle.world_model.specs.Sends.{Next, bytes_to_send, next_send, pending}
 use Rattle.world_model.specs.World.{World, flush, sent_into, start}
@@ -42,7 +42,7 @@ use Rattle.hub_lane.specs.Standing.{IsRunning, IsStanding}
 use Rattle.capture_reader.specs.declared.capture.Caught.{Caught}
 use Rattle.capture_reader.specs.CaptureText.{AreItems}
 use Rattle.capture_reader.specs.Proved.{HasProof, is_big, is_big_control, is_control, sent_after}
-use Rattle.link_tap.specs.Traffic.{AreForHubAt, IsTrafficOf, WereAlive, carried, for_board, received_in, sent_in, sent_item}
+use Rattle.link_tap.specs.Traffic.{AreForHubAt, IsTrafficOf, WereAlive, bytes_for_board, for_board, received_in, sent_in, sent_item}
 use Rattle.link_tap.proofs.Lists.{for_board-append}
 use Rattle.link_tap.proofs.Traffic.{count_of_air, counted}
 use Rattle.capture_laws.specs.Captures.{bodies_from, body_in, items_of, new_body}
@@ -215,7 +215,7 @@ all_heard first all answers air (place ∷ places) (datagram ∷ heard) said the
 
 abbrev pub ShowExecuted : ℕ → List (List ℕ) → List (List ℕ) → ℕ → List Datagram → List Caught → Type 0
 ShowExecuted first all answers sent heard items =
-    received_in items ≡ map carried heard → AllByRecursion (IsHeardBy first all answers) heard → AreItems items
+    received_in items ≡ map bytes_for_board heard → AllByRecursion (IsHeardBy first all answers) heard → AreItems items
     → AllByRecursion IsBigSend (sent_in items) → WereAlive first sent heard items
     → (place : ℕ) → HasProof first sent items place → place ≤ length answers
 
@@ -252,7 +252,7 @@ module _ (laws : Laws) where
       let a = rw e at alive in
       let b = rw e at big in
       let p = rw e at later in
-      let rest : received_in items ≡ map carried heard = cc in
+      let rest : received_in items ≡ map bytes_for_board heard = cc in
       more sent heard rest from.1 fits.1 b a.1 place p
 
   all_show : (first : ℕ) (all answers : List (List ℕ)) (sent : ℕ) (heard : List Datagram) (items : List Caught)
@@ -364,9 +364,9 @@ module _ (laws : Laws) where
 
   pub record LaneShows (hub : Hub) (t : Telling) (items : List Caught) : Type 0 where
     pub bodies : bodies_from t.told.board.first 0 items ≡ bodies_of hub.sent
-    pub executed' : IsPrefix (executed t.told.board) (bodies_of hub.sent)
+    pub executed' : IsPrefix (bodies_executed t.told.board) (bodies_of hub.sent)
     pub shown : AreItems items → (place : ℕ) → HasProof t.told.board.first 0 items place
-        → place ≤ length (executed t.told.board)
+        → place ≤ length (bodies_executed t.told.board)
 
   pub running_shows : (limits : Limits) (hub : Hub) (outcomes : List (Option Outcome))
       (lates : List (Option (List ℕ))) (t : Telling) (items : List Caught)
@@ -389,7 +389,7 @@ module _ (laws : Laws) where
         shown = λ fits place p.
             let within = all_show f (bodies_of hub.sent) (replies t.told.board) 0 traffic.heard items is
             traffic.received heard fits big traffic.alive place p in
-            omega (arith, laws.below.bodies.one_each t.told.board.opening (executed t.told.board));
+            omega (arith, laws.below.bodies.one_each t.told.board.opening (bodies_executed t.told.board));
       }
 
   -- ---- also where it has stopped
@@ -410,9 +410,9 @@ module _ (laws : Laws) where
 
   pub record CaptureShows (hub : Hub) (t : Telling) (items : List Caught) : Type 0 where
     pub sent : IsPrefix (bodies_from t.told.board.first 0 items) (bodies_of hub.sent)
-    pub executed' : IsPrefix (executed t.told.board) (bodies_from t.told.board.first 0 items)
+    pub executed' : IsPrefix (bodies_executed t.told.board) (bodies_from t.told.board.first 0 items)
     pub shown : AreItems items → (place : ℕ) → HasProof t.told.board.first 0 items place
-        → place ≤ length (executed t.told.board)
+        → place ≤ length (bodies_executed t.told.board)
 
   by_lane : (before hub : Hub) (t : Telling) (items : List Caught)
       → IsPrefix (bodies_of before.sent) (bodies_of hub.sent) → LaneShows before t items → CaptureShows hub t items

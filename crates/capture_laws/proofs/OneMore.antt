@@ -13,7 +13,7 @@ use Rattle.world_model.specs.declared.offered.Fate.{Fate}
 use Rattle.world_model.specs.declared.offered.Fate.TheVariants.{Replied, TimedOut, Unsent}
 use Rattle.world_model.specs.Messages.{ToHub, StatusReply, Reply}
 use Rattle.world_model.specs.Hub.{Hub, give_up, hear_quiet, open_with}
-use Rattle.world_model.specs.Hub.{recovered, settle, take_message, told_place, want_status}
+use Rattle.world_model.specs.Hub.{after_recovery, settle, take_message, told_place, want_status}
 use Rattle.world_model.specs.Air.{goes_to}
 use Rattle.world_model.specs.Links.{first_sends_from}
 use Rattle.world_model.specs.Links.{is_first_send}
@@ -82,7 +82,7 @@ pub settle_sent : (h : Hub) (words : List ℕ) (r : Option OpenPlace) → (settl
 settle_sent h words None = refl
 settle_sent h words (Some o) = refl
 
-pub recovered_sent : (h : Hub) (r : Option ℕ) → (recovered h r).sent ≡ h.sent
+pub recovered_sent : (h : Hub) (r : Option ℕ) → (after_recovery h r).sent ≡ h.sent
 recovered_sent h None = refl
 recovered_sent h (Some e) = refl
 

@@ -23,13 +23,13 @@ use Rattle.world_model.specs.declared.offered.Fate.{Fate}
 use Rattle.world_model.specs.declared.offered.Fate.TheVariants.{Replied}
 use Rattle.world_model.specs.Messages.{ToHub, StatusReply, Reply, to_hub}
 use Rattle.world_model.specs.Places.{at_place}
-use Rattle.world_model.specs.Board.{Board, body_of, executed, hear, replies}
+use Rattle.world_model.specs.Board.{Board, body_of, bodies_executed, hear, replies}
 use Rattle.world_model.specs.Hub.{Hub, give_up, hear_quiet, is_waiting, least, offer, open_with}
-use Rattle.world_model.specs.Hub.{places, recovered, settle, tag_of, take_message, told_place, want_status}
+use Rattle.world_model.specs.Hub.{places, after_recovery, settle, tag_of, take_message, told_place, want_status}
 use Rattle.world_model.specs.Sends.{Next, bytes_to_send, next_send, packet_to_send, pending}
 use Rattle.world_model.specs.Air.{LIFETIME, goes_to, is_alive}
-use Rattle.world_model.specs.World.{World, answered, board_hears, flush, flush_on, go_on, hub_hears, moves_on, run_moves}
-use Rattle.world_model.specs.World.{sent_into, start, step, taken, when_taken, with_hub}
+use Rattle.world_model.specs.World.{World, air_after_answer, board_hears, flush, flush_on, go_on, hub_hears, moves_on, run_moves}
+use Rattle.world_model.specs.World.{sent_into, start, step, taken_datagram, when_taken, with_hub}
 use Rattle.world_model.specs.Facts.{IsSaid, IsSaidToHub, IsStart, bodies_of, offered_body}
 use Rattle.world_model.specs.History.{IsMove}
 use Rattle.world_model.specs.Links.{IsHanded, IsHeard, IsJoined, Told, birth_of, first_sends}
@@ -60,15 +60,15 @@ pub record Shows (first : ℕ) (greeting : List Datagram) (w : World) (items : L
   pub same_first : w.hub.first ≡ first
   pub count : count_from first 0 items ≡ length w.hub.sent
   pub bodies : bodies_from first 0 items ≡ bodies_of w.hub.sent
-  pub shown : (place : ℕ) → HasProof first 0 items place → place ≤ length (executed w.board)
+  pub shown : (place : ℕ) → HasProof first 0 items place → place ≤ length (bodies_executed w.board)
   pub told : AllByRecursion (IsProvedFate first items) w.fates
   pub waiting : AllByRecursion (IsProvedFate first items) w.hub.fates
   pub spelled : AllByRecursion IsSpelled w.air
   pub sends : for_board w.air ≡ for_board greeting ++ sent_in items
 
 module _ (laws : Laws) where
-  replies_length : (b : Board) → length (replies b) ≡ length (executed b)
-  replies_length b = laws.below.bodies.one_each b.opening (executed b)
+  replies_length : (b : Board) → length (replies b) ≡ length (bodies_executed b)
+  replies_length b = laws.below.bodies.one_each b.opening (bodies_executed b)
 
   all_out : (h : Hub) (told : Told) (fates : List (ℕ × Fate)) → IsJoined h told → h.fates ≡ fates
       → IsJoined (record h { fates = [] }) told
@@ -145,7 +145,7 @@ module _ (laws : Laws) where
         same_first = is.first ∙ s.same_first;
         count = c.count;
         bodies = c.bodies;
-        shown = λ place p. shown_still first place (length (executed w.board)) items bytes s.shown
+        shown = λ place p. shown_still first place (length (bodies_executed w.board)) items bytes s.shown
             (proof_in first 0 items (item ∷ []) place p);
         told = all_proved first items (item ∷ []) w.fates s.told;
         waiting = subst (AllByRecursion (IsProvedFate first (items ++ item ∷ []))) (sym is.kept)
@@ -250,7 +250,7 @@ module _ (laws : Laws) where
 
   -- ---- the hub hears
 
-  recovered_first : (h : Hub) (r : Option ℕ) → (recovered h r).first ≡ h.first
+  recovered_first : (h : Hub) (r : Option ℕ) → (after_recovery h r).first ≡ h.first
   recovered_first h None = refl
   recovered_first h (Some told) = refl
 
@@ -264,7 +264,7 @@ module _ (laws : Laws) where
       (nat_lt 0 h.status_requests) _ _ (λ _. recovered_first h (told_place h next)) (λ _. refl)
   message_first h (Some (Reply id words)) = settled_first h words (open_with h.first id h.open_places)
 
-  recovered_fates : (h : Hub) (r : Option ℕ) → (recovered h r).fates ≡ h.fates
+  recovered_fates : (h : Hub) (r : Option ℕ) → (after_recovery h r).fates ≡ h.fates
   recovered_fates h None = refl
   recovered_fates h (Some told) = refl
 
@@ -341,7 +341,7 @@ module _ (laws : Laws) where
   shown_now : (first : ℕ) (greeting : List Datagram) (w : World) (items : List Caught) (bytes : List ℕ) (place k : ℕ)
       → Shows first greeting w items → AreBytes bytes → IsTaken w k bytes
       → HasProof first 0 items place ⊎ HasProof first (count_from first 0 items) (received_item bytes ∷ []) place
-      → place ≤ length (executed w.board)
+      → place ≤ length (bodies_executed w.board)
   shown_now first greeting w items bytes place k s fits t (inl before) = s.shown place before
   shown_now first greeting w items bytes place k s fits t (inr (inr none)) = absurd none
   shown_now first greeting w items bytes place k s fits t (inr (inl one)) =
@@ -397,7 +397,7 @@ module _ (laws : Laws) where
             (subst (λ (n : ℕ). is_alive n d ≡ true) (sym is.counts) alive));
       }
 
-  longer_log : (old new : Told) → IsHeard old new → length (executed old.board) ≤ length (executed new.board)
+  longer_log : (old new : Told) → IsHeard old new → length (bodies_executed old.board) ≤ length (bodies_executed new.board)
   longer_log old new is =
       let more = laws.log old new is in
       let long = ap (λ (l : List LogEntry). length l) more.1 in
@@ -414,7 +414,7 @@ module _ (laws : Laws) where
       → Flushed first greeting w items (board_hears w bytes)
   board_shows first greeting w items bytes s is =
       let told = told_of w in
-      let answer = answered (length w.hub.sent) (hear w.board bytes).answer in
+      let answer = air_after_answer (length w.hub.sent) (hear w.board bytes).answer in
       let none = answer_for_hub (length w.hub.sent) (hear w.board bytes).answer in
       let longer = longer_log told (heard_on told bytes) is in
       let same : items ++ map sent_item (for_board answer) ≡ items =
@@ -425,7 +425,7 @@ module _ (laws : Laws) where
         shows = subst (Shows first greeting (board_hears w bytes)) (sym same) (record {
           joined = subst (λ (n : ℕ). IsJoined w.hub (record {
             board = (hear w.board bytes).board;
-            air = w.air ++ answered n (hear w.board bytes).answer;
+            air = w.air ++ air_after_answer n (hear w.board bytes).answer;
           })) s.joined.counts (laws.heard w.hub told (heard_on told bytes) s.joined is);
           same_first = s.same_first;
           count = s.count;
@@ -444,7 +444,7 @@ module _ (laws : Laws) where
 
   hub_moved : (first : ℕ) (greeting : List Datagram) (at : ℕ) (w : World) (items : List Caught) (k : ℕ)
       (r : Option Datagram) → Shows first greeting w items → slice_get w.air k ≡ r
-      → IfOk (when_taken (taken at (length w.hub.sent) goes.ToHub r) (hub_hears w))
+      → IfOk (when_taken (taken_datagram at (length w.hub.sent) goes.ToHub r) (hub_hears w))
       (Flushed first greeting w (items ++ heard_at r))
   hub_moved first greeting at w items k None s e = tt
   hub_moved first greeting at w items k (Some d) s e =
@@ -463,7 +463,7 @@ module _ (laws : Laws) where
 
   board_moved : (first : ℕ) (greeting : List Datagram) (at : ℕ) (w : World) (items : List Caught) (k : ℕ)
       (r : Option Datagram) → Shows first greeting w items → slice_get w.air k ≡ r
-      → IfOk (when_taken (taken at (length w.hub.sent) goes.ToBoard r) (board_hears w))
+      → IfOk (when_taken (taken_datagram at (length w.hub.sent) goes.ToBoard r) (board_hears w))
       (Flushed first greeting w items)
   board_moved first greeting at w items k None s e = tt
   board_moved first greeting at w items k (Some d) s e =

@@ -17,7 +17,7 @@ use Rattle.world_model.specs.declared.sending.Sending.TheVariants as sends
 use Rattle.world_model.specs.Places.{at_place}
 use Rattle.world_model.specs.Messages.{control_packet}
 use Rattle.world_model.specs.Hub.{Hub, least, low, places, words_of}
-use Rattle.world_model.specs.Sends.{Next, Wanted, first_send, next_send, packet_to_send, wanted, wanted_or_first}
+use Rattle.world_model.specs.Sends.{Next, Wanted, first_send, next_send, packet_to_send, first_wanted, wanted_or_first}
 use Rattle.world_model.specs.Links.{Told, together}
 use Rattle.world_model.specs.Facts.{AreSendable, IsSendable, IsSound, has}
 use Rattle.world_model.specs.Below.{Below}
@@ -46,7 +46,7 @@ module _ (below : Below) where
   pub adds_nothing : (first sent : ℕ) (packet : Packet) → IsPacket packet → is_next first sent packet ≡ false
       → AddsNothing first sent (packet_bytes packet)
   adds_nothing first sent packet is other =
-      let again = below.packets.again packet is in
+      let again = below.packets.back.packet packet is in
       let flag : is_big_control (identifier_at first (sent + 1)) (head_read (packet_of (packet_bytes packet))) ≡ false =
       ap (λ r. is_big_control (identifier_at first (sent + 1)) (head_read r)) again ∙ other in
       record {
@@ -57,7 +57,7 @@ module _ (below : Below) where
   pub adds_one : (first sent : ℕ) (packet : Packet) → IsPacket packet → is_next first sent packet ≡ true
       → Adds first sent (packet_bytes packet) packet.body
   adds_one first sent packet is next =
-      let again = below.packets.again packet is in
+      let again = below.packets.back.packet packet is in
       let flag : is_big_control (identifier_at first (sent + 1)) (head_read (packet_of (packet_bytes packet))) ≡ true =
       ap (λ r. is_big_control (identifier_at first (sent + 1)) (head_read r)) again ∙ next in
       record {
@@ -186,4 +186,4 @@ module _ (below : Below) where
         first = refl;
         effect = inl (record { flag = refl; sent = refl });
       })
-      (λ _. wanted_sends h told (wanted h.first h.open_places) is (wanted_is h.first h.open_places))
+      (λ _. wanted_sends h told (first_wanted h.first h.open_places) is (wanted_is h.first h.open_places))

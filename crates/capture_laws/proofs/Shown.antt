@@ -106,7 +106,7 @@ module _ (laws : Laws) where
       record {
         head = head_of packet;
         spelled = ap (λ (b : List ℕ). head_read (packet_of b)) found.2
-            ∙ ap head_read (laws.below.packets.again packet found.1);
+            ∙ ap head_read (laws.below.packets.back.packet packet found.1);
         control = refl;
         from_one = one;
         was_sent = within;

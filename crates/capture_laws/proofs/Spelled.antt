@@ -17,8 +17,8 @@ use Rattle.world_model.specs.declared.datagram.Direction.TheVariants as goes
 use Rattle.world_model.specs.Messages.{ToBoard, StatusRequest, ResendRequest, ControlPacket, control_packet, packet_to_board, said_to_board, to_board}
 use Rattle.board_bus.specs.Bodies.{run_body}
 use Rattle.world_model.specs.Board.{present_bus}
-use Rattle.world_model.specs.Board.{Board, Hearing, expected, hear, hear_message, held, is_too_long, send_again, with_id}
-use Rattle.world_model.specs.World.{answered}
+use Rattle.world_model.specs.Board.{Board, Hearing, expected_identifier, hear, hear_message, held_replies, is_too_long, send_again, with_id}
+use Rattle.world_model.specs.World.{air_after_answer}
 use Rattle.world_model.specs.Facts.{IsGreeting, IsGreetingOf}
 use Rattle.world_model.specs.Below.{Below}
 use Rattle.world_model.proofs.Lists.{either}
@@ -66,7 +66,7 @@ packet_is packet = words_are packet.order (packet_words packet)
 -- ---- what a board answers
 
 abbrev pub AnswersBytes : Hearing → Type 0
-AnswersBytes h = AllByRecursion IsSpelled (answered 0 h.answer)
+AnswersBytes h = AllByRecursion IsSpelled (air_after_answer 0 h.answer)
 
 again_bytes : (board : Board) (r : Option Packet) → AnswersBytes (send_again board r)
 again_bytes board None = tt
@@ -75,20 +75,20 @@ again_bytes board (Some packet) = (packet_is packet, tt)
 message_bytes : (board : Board) (m : Option ToBoard) → AnswersBytes (hear_message board m)
 message_bytes board None = tt
 message_bytes board (Some StatusRequest) =
-    (packet_is (status_reply board.mtu board.buffers (expected board)), tt)
-message_bytes board (Some (ResendRequest id)) = again_bytes board (with_id id (held board))
+    (packet_is (status_reply board.mtu board.buffers (expected_identifier board)), tt)
+message_bytes board (Some (ResendRequest id)) = again_bytes board (with_id id (held_replies board))
 message_bytes board (Some (ControlPacket order id body)) =
     either AnswersBytes (is_too_long board body) _ _ (λ _. tt)
     (λ _. either AnswersBytes (id == 0) _ _ (λ _. (packet_is (control_packet order id (run_body (present_bus board) body).reply), tt))
-    (λ _. either AnswersBytes (id == expected board) _ _ (λ _. (packet_is (control_packet order id (run_body (present_bus board) body).reply), tt)) (λ _. tt)))
+    (λ _. either AnswersBytes (id == expected_identifier board) _ _ (λ _. (packet_is (control_packet order id (run_body (present_bus board) body).reply), tt)) (λ _. tt)))
 
-same_answer : (birth : ℕ) (answer : Option (List ℕ)) → AllByRecursion IsSpelled (answered 0 answer)
-    → AllByRecursion IsSpelled (answered birth answer)
+same_answer : (birth : ℕ) (answer : Option (List ℕ)) → AllByRecursion IsSpelled (air_after_answer 0 answer)
+    → AllByRecursion IsSpelled (air_after_answer birth answer)
 same_answer birth None is = tt
 same_answer birth (Some bytes) is = is
 
 pub answer_spelled : (board : Board) (bytes : List ℕ) (birth : ℕ)
-    → AllByRecursion IsSpelled (answered birth (hear board bytes).answer)
+    → AllByRecursion IsSpelled (air_after_answer birth (hear board bytes).answer)
 answer_spelled board bytes birth = same_answer birth (hear board bytes).answer (message_bytes board (to_board bytes))
 
 -- ---- a greeting
@@ -112,7 +112,7 @@ big_by packet Resend big = either IsBigTold _ (Some (ResendRequest packet.id)) N
 module _ (below : Below) where
   board_reads : (packet : Packet) → IsPacket packet → to_board (packet_bytes packet) ≡ packet_to_board (Ok packet)
   unfolding to_board
-  board_reads packet is = ap packet_to_board (below.packets.again packet is)
+  board_reads packet is = ap packet_to_board (below.packets.back.packet packet is)
 
   pub packet_spelled : (packet : Packet) → IsPacket packet → packet.order ≡ Big
       → IsBigTold (to_board (packet_bytes packet))

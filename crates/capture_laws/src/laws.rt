@@ -6,7 +6,7 @@ ghost use Rattle.ipb_base.specs.Lists.{IsPrefix};
 ghost use Rattle.world_model.specs.declared.datagram.Datagram.{Datagram};
 ghost use Rattle.world_model.specs.declared.moves.WorldMove.{WorldMove};
 ghost use Rattle.world_model.specs.declared.offered.Fate.TheVariants.{Replied};
-ghost use Rattle.world_model.specs.Board.{Board, executed};
+ghost use Rattle.world_model.specs.Board.{Board, bodies_executed};
 ghost use Rattle.world_model.specs.Hub.{Hub};
 ghost use Rattle.world_model.specs.Settings.{Limits};
 ghost use Rattle.world_model.specs.World.{World, run_moves, start};
@@ -43,7 +43,7 @@ pub fn a_capture_proves_what_was_executed()
         (proved : ℕ) → IsStart window board air → AllByRecursion IsMove moves
         → run_moves 0 (start window rounds board air) moves ≡ Ok w
         → IsProved (capture_of (start window rounds board air) moves) proved
-        → proved ≤ length (executed w.board) }
+        → proved ≤ length (bodies_executed w.board) }
 {
     laws_below();
     a_greeting_joins();
@@ -63,12 +63,12 @@ pub fn a_capture_of_a_lane_proves_what_was_executed()
     ensures executed { (stopped : Bool) (limits : Limits) (hub : Hub) (outcomes : List (Option Outcome))
         (lates : List (Option (List ℕ))) (t : Telling) (items : List Caught)
         → IsStanding stopped limits hub outcomes lates t → IsTrafficOf t items
-        → IsPrefix (executed t.told.board) (bodies_in (record { first = t.told.board.first; items = items })) }
+        → IsPrefix (bodies_executed t.told.board) (bodies_in (record { first = t.told.board.first; items = items })) }
     ensures proved { (stopped : Bool) (limits : Limits) (hub : Hub) (outcomes : List (Option Outcome))
         (lates : List (Option (List ℕ))) (t : Telling) (items : List Caught) (proved : ℕ)
         → IsStanding stopped limits hub outcomes lates t → IsTrafficOf t items
         → AreItems items → IsProved (record { first = t.told.board.first; items = items }) proved
-        → proved ≤ length (executed t.told.board) }
+        → proved ≤ length (bodies_executed t.told.board) }
 {
     laws_below();
     a_greeting_joins();

@@ -17,13 +17,14 @@ use Rattle.capture_reader.specs.Rows.{Row, StatusRequest, Status, Resend, Reques
 use Rattle.capture_reader.specs.Rows.{said_text, control_text, control_packet, order_text, request_text, reply_text, IsOfRow}
 use Rattle.capture_reader.specs.Rows.{raw_text, IsTextOf}
 use Rattle.capture_reader.specs.Description.{AreTextsOf, proved_text}
-use Rattle.capture_reader.specs.Fronts.{behind, shorter, all_of, in_front}
+use Rattle.ipb_base.specs.Fronts.{behind, all_of, in_front}
+use Rattle.capture_reader.specs.Fronts.{shorter}
 use Rattle.capture_reader.specs.Reading.{direction_at}
 use Rattle.capture_reader.specs.Parsing.{line_at, body_of, order_at, id_at, control_at, resend_at, status_at}
 use Rattle.capture_reader.specs.Parsing.{count_at, status_request_at, first_of, said_at, caught_with, datagram_of, datagram_at}
 use Rattle.capture_reader.proofs.Lines.{bytes_again, direction_again}
 use Rattle.capture_reader.proofs.LineLaws.{shorter_is, shorter_again}
-use Rattle.capture_reader.proofs.Many.{Shortens, all_step, all_stop}
+use Rattle.ipb_base.proofs.Fronts.{Shortens, all_step, all_stop}
 use Rattle.capture_reader.proofs.Numbers.{number_again}
 use Rattle.capture_reader.proofs.RowReading.{is_less, is_at_most, requests_again, replies_again, body_is}
 

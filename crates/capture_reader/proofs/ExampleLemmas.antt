@@ -15,7 +15,7 @@ use Rattle.capture_reader.specs.declared.capture.Caught.{Caught}
 use Rattle.capture_reader.specs.Proved.{Proves, HasProof, sent_after, IsProved}
 use Rattle.capture_reader.specs.Rows.{Row, StatusRequest, Status, Requests, Replies, IsOfRow, row_packet}
 use Rattle.capture_reader.specs.Description.{IsDescription}
-use Rattle.capture_reader.specs.Examples.{one_read, one_empty, sent, received}
+use Rattle.capture_reader.specs.Examples.{one_read, one_empty, sent_example, received_example}
 
 all_parts : (a b : Bool) → (a && b) ≡ true → (a ≡ true) × (b ≡ true)
 all_parts true b e = (refl, e)
@@ -57,16 +57,16 @@ words_are (word ∷ words) e =
     (is_less word parts.0, words_are words parts.1)
 
 request : Caught
-request = sent (big_endian (0x200000f1 ∷ replicate 15 0))
+request = sent_example (big_endian (0x200000f1 ∷ replicate 15 0))
 
 status : Caught
-status = received (big_endian (0x200000f1 ∷ 1500 ∷ 16 ∷ 0x200001f0 ∷ replicate 12 0))
+status = received_example (big_endian (0x200000f1 ∷ 1500 ∷ 16 ∷ 0x200001f0 ∷ replicate 12 0))
 
 asked : Caught
-asked = sent (big_endian (0x200001f0 ∷ 0x2000010f ∷ 4 ∷ []))
+asked = sent_example (big_endian (0x200001f0 ∷ 0x2000010f ∷ 4 ∷ []))
 
 answered : Caught
-answered = received (big_endian (0x200001f0 ∷ 0x20000100 ∷ 0xabcd ∷ []))
+answered = received_example (big_endian (0x200001f0 ∷ 0x20000100 ∷ 0xabcd ∷ []))
 
 none_before : sent_after 1 0 request ≡ 0
 unfolding request packet_of start_of
@@ -77,8 +77,8 @@ unfolding request status asked packet_of start_of
 one_before = refl
 
 at_most : (sent : ℕ) (item : Caught) (other : ℕ) → Proves 1 sent item other → other ≤ sent
-at_most sent item other (received, inl reply) = reply.was_sent
-at_most sent item other (received, inr told) = told.was_sent
+at_most sent item other (received_example, inl reply) = reply.was_sent
+at_most sent item other (received_example, inr told) = told.was_sent
 
 up_to_one : (other : ℕ) → HasProof 1 0 one_read.items other → other ≤ 1
 unfolding request status asked answered

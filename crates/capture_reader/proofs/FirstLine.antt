@@ -12,12 +12,14 @@ use Rattle.capture_reader.specs.declared.refusal.CaptureRefusal.{CaptureRefusal}
 use Rattle.capture_reader.specs.declared.refusal.CaptureRefusal.TheVariants.{At, NoMemory}
 use Rattle.capture_reader.specs.CaptureText.{item_text, items_text, first_text, capture_text, IsItem, AreItems, IsCapture}
 use Rattle.capture_reader.specs.Faults.{NoFirstLine, BreaksItemLine, IsCaptureFault}
-use Rattle.capture_reader.specs.Fronts.{behind, with_text}
+use Rattle.ipb_base.specs.Fronts.{behind}
+use Rattle.capture_reader.specs.Fronts.{with_text}
 use Rattle.capture_reader.specs.Reading.{number_at, id_of, first_in, first_at, IsItemsFault}
 use Rattle.capture_reader.proofs.ItemLines.{some_line, same_front, one_list}
-use Rattle.capture_reader.proofs.Many.{bound, parts_of, texted}
+use Rattle.ipb_base.proofs.Fronts.{bound, parts_of}
+use Rattle.capture_reader.proofs.WithTexts.{texted}
 use Rattle.capture_reader.proofs.Numbers.{number_again}
-use Rattle.capture_reader.proofs.Words.{behind_again, behind_found}
+use Rattle.ipb_base.proofs.FrontWords.{behind_again, behind_found}
 
 known : (first : ℕ) → IsIdentifier first → id_of first ≡ Some first
 known first is = let low = is.from_one in let high = is.up_to_end in grind (arith, nat_tests)

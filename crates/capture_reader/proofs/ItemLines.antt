@@ -8,7 +8,7 @@ use Rattle.capture_reader.specs.CaptureText.{item_text, items_text, direction_te
 use Rattle.capture_reader.specs.Faults.{NoItemLine, HasLongLine}
 use Rattle.capture_reader.specs.Reading.{item_at}
 use Rattle.capture_reader.proofs.Lines.{item_again, item_found}
-use Rattle.capture_reader.proofs.Many.{parts_of}
+use Rattle.ipb_base.proofs.Fronts.{parts_of}
 
 -- what is not read is no line of a datagram
 pub no_item : (text : List ℕ) → text ≢ [] → item_at text ≡ None → NoItemLine text

@@ -1,5 +1,4 @@
-pub mod Words
-pub mod Many
+mod WithTexts
 pub mod Pairs
 pub mod Lines
 pub mod Numbers

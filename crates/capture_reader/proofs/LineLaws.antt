@@ -2,9 +2,10 @@
 use Rattle.std.proofs.Common.{◌≡◌, ℕ, ◌<◌, List, [], ◌∷◌, ◌++◌, length, Some, None, refl, sym, ap}
 use Rattle.std.proofs.Common.{◌∙◌, arith, append_assoc, Bool, true, false, cond, nat_lt}
 use Rattle.std.proofs.lemmas.Bool.Decides.{nat_tests}
-use Rattle.capture_reader.specs.Fronts.{Front, shorter, all_of}
+use Rattle.ipb_base.specs.Fronts.{Front, all_of}
+use Rattle.capture_reader.specs.Fronts.{shorter}
 use Rattle.capture_reader.specs.Parsing.{line_of, line_at, body_of}
-use Rattle.capture_reader.proofs.Many.{Shortens, rest_of, all_step}
+use Rattle.ipb_base.proofs.Fronts.{Shortens, rest_of, all_step}
 
 -- what is kept only where it is shorter
 kept_by : {A : Type 0} (b : Bool) (read : A × List ℕ) (a : A) (rest : List ℕ)

@@ -5,10 +5,11 @@ use Rattle.std.proofs.lemmas.Bool.Decides.{nat_tests}
 use Rattle.packet_codec.specs.Packet.{AreBytes}
 use Rattle.capture_reader.specs.declared.capture.Caught.{Caught}
 use Rattle.capture_reader.specs.CaptureText.{hex_digit, hex_text, bytes_text, direction_text, item_text}
-use Rattle.capture_reader.specs.Fronts.{behind, all_of}
+use Rattle.ipb_base.specs.Fronts.{behind, all_of}
 use Rattle.capture_reader.specs.Reading.{pair_at, pairs_line, bytes_by, bytes_at, direction_by, direction_at, item_at}
-use Rattle.capture_reader.proofs.Words.{behind_found}
-use Rattle.capture_reader.proofs.Many.{bound, parts_of, texted}
+use Rattle.ipb_base.proofs.FrontWords.{behind_found}
+use Rattle.ipb_base.proofs.Fronts.{bound, parts_of}
+use Rattle.capture_reader.proofs.WithTexts.{texted}
 use Rattle.capture_reader.proofs.Pairs.{pairs_again, pairs_found, feed_stops}
 
 -- no digit is a hyphen

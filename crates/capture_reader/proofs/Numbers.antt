@@ -8,9 +8,9 @@ use Rattle.std.proofs.lemmas.Fmt.{digits_decimal, digits_value-decimal}
 use Rattle.std.proofs.lemmas.Str.Parse.{IsNumeralModel, numerals_by_fold}
 use Rattle.std.proofs.lemmas.Bool.Decides.{nat_tests}
 use Rattle.ipb_base.specs.Digits.{is_between, word}
-use Rattle.capture_reader.specs.Fronts.{Front, ◌>>=◌}
+use Rattle.ipb_base.specs.Fronts.{Front, ◌>>=◌}
 use Rattle.capture_reader.specs.Reading.{digit_at, with_digit, number_from, number_at}
-use Rattle.capture_reader.proofs.Many.{Shortens, parts_of, rest_of}
+use Rattle.ipb_base.proofs.Fronts.{Shortens, parts_of, rest_of}
 
 short_by : (b : Bool) (byte d : ℕ) (text rest : List ℕ) → cond {A = Front ℕ} b (Some (byte - 48, text)) None ≡ Some (d, rest)
     → length rest < length (byte ∷ text)

@@ -13,7 +13,7 @@ use Rattle.capture_reader.specs.Faults.{BreaksItemLine, IsLaterFault, IsFirstFau
 use Rattle.capture_reader.specs.Reading.{first_at}
 use Rattle.capture_reader.proofs.FirstLine.{first_again, no_fault, good_line}
 use Rattle.capture_reader.proofs.ItemLines.{same_front}
-use Rattle.capture_reader.proofs.Many.{parts_of}
+use Rattle.ipb_base.proofs.Fronts.{parts_of}
 
 -- what follows the first line
 behind_first : (left right : ℕ) (rest more : List ℕ) → IsIdentifier left

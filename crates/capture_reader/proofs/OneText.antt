@@ -16,12 +16,12 @@ use Rattle.capture_reader.specs.Proved.{IsProved, HasProof}
 use Rattle.capture_reader.specs.Rows.{Row, StatusRequest, Status, Resend, Requests, Replies, row_sent, row_packet, row_text}
 use Rattle.capture_reader.specs.Rows.{IsOfRow, IsTextOf}
 use Rattle.capture_reader.specs.Description.{AreTextsOf, IsDescription, proved_text}
-use Rattle.capture_reader.specs.Fronts.{all_of}
+use Rattle.ipb_base.specs.Fronts.{all_of}
 use Rattle.capture_reader.specs.Reading.{first_at}
 use Rattle.capture_reader.specs.Parsing.{datagram_at}
 use Rattle.capture_reader.proofs.Datagrams.{described_again}
 use Rattle.capture_reader.proofs.FirstLine.{first_again}
-use Rattle.capture_reader.proofs.Many.{parts_of}
+use Rattle.ipb_base.proofs.Fronts.{parts_of}
 
 abbrev capture_of : ℕ → List Caught → Capture
 capture_of first items = record { first = first; items = items }

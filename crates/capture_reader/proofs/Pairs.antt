@@ -4,9 +4,10 @@ use Rattle.std.proofs.Common.{refl, sym, ap, ◌∙◌, ◌&&◌, nat_lt, cond, 
 use Rattle.std.proofs.lemmas.Bool.Decides.{nat_tests}
 use Rattle.packet_codec.specs.Packet.{AreBytes, IsByte}
 use Rattle.capture_reader.specs.CaptureText.{hex_digit, byte_text, hex_text}
-use Rattle.capture_reader.specs.Fronts.{with_rest, all_of}
+use Rattle.ipb_base.specs.Fronts.{all_of}
+use Rattle.capture_reader.specs.Fronts.{with_rest}
 use Rattle.capture_reader.specs.Reading.{digit_of, pair, pair_at}
-use Rattle.capture_reader.proofs.Many.{Shortens, rest_of, parts_of, all_again, all_found}
+use Rattle.ipb_base.proofs.Fronts.{Shortens, rest_of, parts_of, all_again, all_found}
 
 short_by : (r : Option ℕ) (high low a : ℕ) (text rest : List ℕ) → with_rest r text ≡ Some (a, rest)
     → length rest < length (high ∷ low ∷ text)

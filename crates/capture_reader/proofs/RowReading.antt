@@ -15,11 +15,12 @@ use Rattle.transaction_codec.specs.Header.{header}
 use Rattle.transaction_codec.specs.Request.{op_kind, op_count, op_words, request_words, IsRequest, AreRequests}
 use Rattle.transaction_codec.specs.Reply.{reply_words, HasForm, Carries, IsReply, AreReplies}
 use Rattle.capture_reader.specs.Rows.{verb_text, line_start, words_text, asked_text, request_text, reply_text}
-use Rattle.capture_reader.specs.Fronts.{Front, behind, shorter, all_of, in_front, ◌>>=◌}
+use Rattle.ipb_base.specs.Fronts.{Front, behind, all_of, in_front, ◌>>=◌}
+use Rattle.capture_reader.specs.Fronts.{shorter}
 use Rattle.capture_reader.specs.Reading.{number_at}
 use Rattle.capture_reader.specs.Parsing.{word_at, count_at, verb_at, start_at, asked_at, line_with, request_line_at}
 use Rattle.capture_reader.specs.Parsing.{reply_line_at, line_at, body_of}
-use Rattle.capture_reader.proofs.Many.{all_step, all_stop}
+use Rattle.ipb_base.proofs.Fronts.{all_step, all_stop}
 use Rattle.capture_reader.proofs.Numbers.{number_again}
 use Rattle.capture_reader.proofs.WordLines.{words_again, feed_is_no_word, count_is_no_word}
 use Rattle.capture_reader.proofs.LineLaws.{shorter_again, lines_shorten}

@@ -8,12 +8,12 @@ use Rattle.ipb_base.specs.Word.{IsWord, AreWords}
 use Rattle.packet_codec.specs.Packet.{IsByte}
 use Rattle.capture_reader.specs.CaptureText.{byte_text}
 use Rattle.capture_reader.specs.Rows.{word_text, words_text}
-use Rattle.capture_reader.specs.Fronts.{Front, behind, all_of, ◌>>=◌}
+use Rattle.ipb_base.specs.Fronts.{Front, behind, all_of, ◌>>=◌}
 use Rattle.capture_reader.specs.Reading.{pair_at, number_at}
 use Rattle.capture_reader.specs.Parsing.{word_at}
-use Rattle.capture_reader.proofs.Many.{Shortens, bound, parts_of, all_again}
+use Rattle.ipb_base.proofs.Fronts.{Shortens, bound, parts_of, all_again}
 use Rattle.capture_reader.proofs.Pairs.{pairs_shorten, pair_read_again}
-use Rattle.capture_reader.proofs.Words.{behind_found, behind_none}
+use Rattle.ipb_base.proofs.FrontWords.{behind_found, behind_none}
 use Rattle.capture_reader.proofs.Numbers.{number_again}
 
 shorter_behind : (text rest : List ℕ) → behind (codes " 0x") text ≡ Some rest → length rest < length text

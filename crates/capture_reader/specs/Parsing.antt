@@ -17,7 +17,8 @@ use Rattle.capture_reader.specs.declared.capture.TheConstants.{MAX_DATAGRAM}
 use Rattle.capture_reader.specs.declared.capture.Caught.{Caught}
 use Rattle.capture_reader.specs.declared.parsing.FirstLine.{FirstLine}
 use Rattle.capture_reader.specs.Rows.{control_packet}
-use Rattle.capture_reader.specs.Fronts.{Front, behind, with_text, shorter, all_of, ◌>>=◌}
+use Rattle.ipb_base.specs.Fronts.{Front, behind, all_of, ◌>>=◌}
+use Rattle.capture_reader.specs.Fronts.{with_text, shorter}
 use Rattle.capture_reader.specs.Reading.{pair_at, number_at, bytes_at, direction_at}
 
 -- a space and a word

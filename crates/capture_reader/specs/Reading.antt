@@ -11,7 +11,8 @@ use Rattle.capture_reader.specs.declared.hex.FirstBytes.{FirstBytes}
 use Rattle.capture_reader.specs.declared.reading.FirstItem.{FirstItem}
 use Rattle.capture_reader.specs.CaptureText.{items_text, first_text, AreItems}
 use Rattle.capture_reader.specs.Faults.{BreaksItemLine}
-use Rattle.capture_reader.specs.Fronts.{Front, with_rest, with_text, behind, all_of, ◌>>=◌}
+use Rattle.ipb_base.specs.Fronts.{Front, behind, all_of, ◌>>=◌}
+use Rattle.capture_reader.specs.Fronts.{with_rest, with_text}
 
 -- the value of a lower-case hexadecimal digit; 16 for every other byte
 unfoldable pub digit_of : ℕ → ℕ

@@ -1,6 +1,6 @@
 //! Reading a word at the front of a text.
 
-ghost use Rattle.capture_reader.specs.Fronts.{Finds, behind};
+ghost use Rattle.ipb_base.specs.Fronts.{Finds, behind};
 
 /// The text behind a word, where the text begins with it.
 pub(crate) fn behind<'a>(word: &[u8], text: &'a [u8]) -> Option<&'a [u8]>

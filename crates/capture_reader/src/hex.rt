@@ -2,7 +2,8 @@
 
 ghost use Rattle.std.specs.Prelude.{◌≡◌, ◌<◌, ◌≤◌, ◌++◌, OnOk, IfOk, length};
 ghost use Rattle.capture_reader.specs.CaptureText as spec;
-ghost use Rattle.capture_reader.specs.Fronts.{Finds, Gives, all_of};
+ghost use Rattle.ipb_base.specs.Fronts.{Finds, all_of};
+ghost use Rattle.capture_reader.specs.Fronts.{Gives};
 ghost use Rattle.capture_reader.specs.Reading.{digit_of, pair, pair_at, bytes_at, bytes_read};
 
 use crate::capture::Bytes;

@@ -1,7 +1,7 @@
 //! Reading a decimal number at the front of a text.
 
 ghost use Rattle.std.specs.Prelude.{◌≡◌, ◌<◌};
-ghost use Rattle.capture_reader.specs.Fronts.{Finds};
+ghost use Rattle.ipb_base.specs.Fronts.{Finds};
 ghost use Rattle.capture_reader.specs.Reading.{digit_at, with_digit, number_at};
 
 /// The value of the decimal digit at the front.

@@ -2,8 +2,9 @@
 
 ghost use Rattle.std.specs.Prelude.{◌≡◌, ◌<◌, ◌^◌, ◌++◌, ◌∷◌, length, IfOk, OnOk, IfSome, codes};
 ghost use Rattle.transaction_codec.specs.Header.{header};
-ghost use Rattle.capture_reader.specs.Fronts as front;
-ghost use Rattle.capture_reader.specs.Fronts.{Finds, Gives, all_of};
+ghost use Rattle.ipb_base.specs.Fronts as front;
+ghost use Rattle.ipb_base.specs.Fronts.{Finds, all_of};
+ghost use Rattle.capture_reader.specs.Fronts.{Gives};
 ghost use Rattle.capture_reader.specs.Parsing as spec;
 ghost use Rattle.capture_reader.specs.Parsing.{line_read, line_at, body_of};
 

@@ -5,7 +5,8 @@ ghost use Rattle.capture_reader.specs.declared.capture.Capture.{Capture as Captu
 ghost use Rattle.capture_reader.specs.declared.refusal.CaptureWhy.{CaptureWhy as Rule};
 ghost use Rattle.capture_reader.specs.CaptureText.{item_text, items_text, capture_text, IsItem, AreItems, IsCapture};
 ghost use Rattle.capture_reader.specs.Faults.{IsCaptureFault, IsFirstFault, IsRefusedBy};
-ghost use Rattle.capture_reader.specs.Fronts.{Finds, Gives};
+ghost use Rattle.ipb_base.specs.Fronts.{Finds};
+ghost use Rattle.capture_reader.specs.Fronts.{Gives};
 ghost use Rattle.capture_reader.specs.Reading.{direction_at, item_at, item_read, IsItemFault, IsItemsFault};
 ghost use Rattle.capture_reader.specs.Reading.{id_of, first_in, first_at};
 

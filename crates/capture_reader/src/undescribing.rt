@@ -5,7 +5,8 @@ ghost use Rattle.packet_codec.specs.Packet.{AreBytes, packet_bytes, packet_with}
 ghost use Rattle.capture_reader.specs.declared.capture.Capture.{Capture as CaptureValue};
 ghost use Rattle.capture_reader.specs.CaptureText.{IsItem, AreItems, IsCapture};
 ghost use Rattle.capture_reader.specs.Description.{IsDescription};
-ghost use Rattle.capture_reader.specs.Fronts.{Finds, Gives, all_of};
+ghost use Rattle.ipb_base.specs.Fronts.{Finds, all_of};
+ghost use Rattle.capture_reader.specs.Fronts.{Gives};
 ghost use Rattle.capture_reader.specs.Reading.{bytes_read, item_read};
 ghost use Rattle.capture_reader.specs.Parsing as spec;
 ghost use Rattle.capture_reader.specs.Parsing.{datagram_at};

@@ -5,7 +5,7 @@ use Rattle.std.specs.List.{AllByRecursion}
 use Rattle.std.proofs.lemmas.Bool.Decides.{nat_tests}
 use Rattle.world_model.proofs.Lists.{either}
 use Rattle.lane_record.specs.declared.item.Item.{Item}
-use Rattle.lane_record.specs.Coding.{Head, recorded}
+use Rattle.lane_record.specs.Coding.{Head, as_recorded}
 use Rattle.lane_record.specs.Dispatches.{all_plans_from, entries_by, plans_from}
 use Rattle.lane_record.specs.NextEntry.{the_seal}
 use Rattle.client_threads.specs.declared.plan.ClientPlan.{ClientPlan}
@@ -63,7 +63,7 @@ each_holds lane client (p ∷ ps) (bs ∷ later) head front items low none is ar
     is ∙ (ap (λ (l : List Item). front ++ l) (append_assoc plans (all_plans_from (client + 1) later) (the_seal ∷ []))
     ∙ sym (append_assoc front plans (all_plans_from (client + 1) later ++ the_seal ∷ []))) in
     let here : HoldsPlans client (sum (counts_on lane p)) (came_with head items) =
-    record { bodies = bs; enough = omega (arith, many); entries = made_recorded client items ∙ ap (map recorded) own } in (
+    record { bodies = bs; enough = omega (arith, many); entries = made_recorded client items ∙ ap (map as_recorded) own } in (
       subst (λ (n : ℕ). HoldsPlans n (sum (counts_on lane p)) (came_with head items)) (sym are.0) here,
       each_holds lane (client + 1) ps later head (front ++ plans) items (omega arith) (none_next client front bs none)
           next are.1 rest,

@@ -13,7 +13,7 @@ use Rattle.turn_pass.specs.Pass.{Joined, Knowledge}
 use Rattle.lane_record.specs.declared.item.Item.{Item}
 use Rattle.lane_record.specs.Coding.{Head, record_of}
 use Rattle.lane_record.specs.Dispatches.{Action, NumberedAction, Planned, Asked, Taken, entries_by, numbered_action}
-use Rattle.lane_record.specs.Items.{planned}
+use Rattle.lane_record.specs.Items.{planned_count}
 use Rattle.lane_record.specs.Submissions.{Submission, submissions_from}
 use Rattle.hub_multiplexer.specs.Ends.{Ends}
 use Rattle.client_history.specs.Clients.{came_with}
@@ -84,7 +84,7 @@ module _ (g : Action → ℕ) (f : List Submission → ℕ) (counts : Counts g f
 
   did_first : (j : Joined) (own later : List Submission)
       → map numbered_action (entries_by j.number more) ≡ submissions_from 0 (own ++ later)
-      → planned j.number front ≡ length own → total g (entries_by j.number front) ≤ f own
+      → planned_count j.number front ≡ length own → total g (entries_by j.number front) ≤ f own
   did_first j own later did many =
       let xs = entries_by j.number front in
       let ys = entries_by j.number rest in
@@ -117,7 +117,7 @@ module _ (g : Action → ℕ) (f : List Submission → ℕ) (counts : Counts g f
 
   each_but_one : (client : ℕ) (connections : List (List Submission)) (passes : List Joined) (index : ℕ)
       (own later : List Submission) → AllSubmitted client connections passes → AllByRecursion (StandsIn more) passes
-      → slice_get connections index ≡ Some (own ++ later) → planned (client + index) front ≡ length own
+      → slice_get connections index ≡ Some (own ++ later) → planned_count (client + index) front ≡ length own
       → of_passes g passes front ≤ sum_by f (slice_set connections index own)
   each_but_one client [] passes index own later did stand at many = absurd (none-some (own ++ later) at)
   each_but_one client (s ∷ ss) [] index own later did stand at many = absurd did
@@ -126,7 +126,7 @@ module _ (g : Action → ℕ) (f : List Submission → ℕ) (counts : Counts g f
       let one = did_first g f counts front rest more is j own later
       (ap (map numbered_action) (sym (own_entries j.number more j refl stand.0))
       ∙ (did.0.actions ∙ ap (submissions_from 0) (same_Some s (own ++ later) at)))
-      (subst (λ c. planned c front ≡ length own) number many) in
+      (subst (λ c. planned_count c front ≡ length own) number many) in
       let others = each_all (client + 1) ss js did.1 stand.1 in
       let added = sum_by-cons f own ss in
       omega (arith, one, others, added)
@@ -134,7 +134,7 @@ module _ (g : Action → ℕ) (f : List Submission → ℕ) (counts : Counts g f
       let one = did_all g f counts front rest more is j s
       (ap (map numbered_action) (sym (own_entries j.number more j refl stand.0)) ∙ did.0.actions) in
       let others = each_but_one (client + 1) ss js index own later did.1 stand.1 at
-      (subst (λ c. planned c front ≡ length own) (omega arith) many) in
+      (subst (λ c. planned_count c front ≡ length own) (omega arith) many) in
       let added = sum_by-cons f s (slice_set ss index own) in
       omega (arith, one, others, added)
 
@@ -145,7 +145,7 @@ all_in_front P (x ∷ xs) ys all = (all.0, all_in_front P xs ys all.1)
 pub first_among : (connections : List (List Submission)) (head head_now : Head) (items front : List Item)
     (after : Knowledge) (final : Record) → WereServedOn connections (came_with head []) after → Ends after final
     → final ≡ record_of head_now items → IsPrefix front items → (index : ℕ) (own later : List Submission)
-    → slice_get connections index ≡ Some (own ++ later) → planned (1 + index) front ≡ length own
+    → slice_get connections index ≡ Some (own ++ later) → planned_count (1 + index) front ≡ length own
     → IsAmongSubmitted (slice_set connections index own) front
 first_among connections head head_now items front after final served ends is begins index own later at many =
     let back = handed head head_now [] items served.passes after final served.took_in ends is in

@@ -3,14 +3,14 @@ use Rattle.std.proofs.Common.{◌≡◌, ℕ, ◌≤◌, List, map, subst, sym, 
 use Rattle.std.specs.List.{AllByRecursion}
 use Rattle.board_node.specs.declared.spec.BoardSpec.{BoardSpec}
 use Rattle.world_model.specs.Settings.{Limits}
-use Rattle.lane_record.specs.Dispatches.{joined}
+use Rattle.lane_record.specs.Dispatches.{outcomes_in_order}
 use Rattle.lane_record.specs.Submissions.{Submission}
 use Rattle.script_plans.specs.declared.greeting.Greeting.{Greeting}
 use Rattle.script_plans.specs.declared.greeting.Greeting.TheVariants.{Live, Silent, Down}
 use Rattle.board_history.specs.GiveUps.{GaveUpOnlyAfter}
 use Rattle.board_history.specs.History.{dispatches_by_client, outcomes_by_client}
 use Rattle.board_history.specs.Parts.{AllReplied, IsReplied}
-use Rattle.board_history.specs.Runs.{greeting_of, opening_of}
+use Rattle.board_history.specs.Runs.{greeting_of, opens_with}
 use Rattle.lane_history.specs.Links.{IsBoardOf, IsFaithful, LinkReport, board_there}
 use Rattle.lane_history.specs.Runs.{IsAsTold, IsLiveRun, IsTrueRun}
 use Rattle.lane_history.proofs.Calm.{IsNotLost, all_calm}
@@ -29,13 +29,13 @@ live_replied : (settings : Limits) (spec : BoardSpec) (served : ServedBoard) (li
     → EachIsReplied served.connections
 live_replied settings spec served link payload some calm live =
     let run = run_of spec served in
-    let true' = at_some (IsTrueRun settings (opening_of spec.link) run link.held) (board_there link.telling)
+    let true' = at_some (IsTrueRun settings (opens_with spec.link) run link.held) (board_there link.telling)
     calm.there calm.tells live.told in
     let same = same_joined served.connections in
     let patient : GaveUpOnlyAfter settings.window settings.rounds 0 (dispatches_by_client run) =
     subst (λ (n : ℕ). GaveUpOnlyAfter settings.window settings.rounds n (dispatches_by_client run)) calm.held'
     true'.held' in
-    let kept : AllByRecursion (AllByRecursion IsNotLost) (map joined (dispatches_by_client run)) =
+    let kept : AllByRecursion (AllByRecursion IsNotLost) (map outcomes_in_order (dispatches_by_client run)) =
     subst (AllByRecursion (AllByRecursion IsNotLost)) (sym same)
     (not_lost link (outcomes_by_client run) calm.faults' live.any_link.lost) in
     let replied : AllReplied (outcomes_by_client run) =

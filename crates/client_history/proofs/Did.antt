@@ -10,8 +10,8 @@ use Rattle.turn_pass.specs.Record.{Record, made_by}
 use Rattle.turn_pass.specs.Pass.{Joined, Knowledge}
 use Rattle.lane_record.specs.declared.outcome.Outcome.{Outcome}
 use Rattle.lane_record.specs.declared.item.Item.{Item}
-use Rattle.lane_record.specs.Coding.{Head, record_of, recorded}
-use Rattle.lane_record.specs.Dispatches.{all_plans_from, entries_by, joined, numbered_action}
+use Rattle.lane_record.specs.Coding.{Head, record_of, as_recorded}
+use Rattle.lane_record.specs.Dispatches.{all_plans_from, entries_by, outcomes_in_order, numbered_action}
 use Rattle.lane_record.specs.NextEntry.{the_seal}
 use Rattle.hub_multiplexer.specs.Ends.{Ends}
 use Rattle.client_threads.specs.declared.plan.ClientPlan.{ClientPlan}
@@ -38,7 +38,7 @@ pub record Did (lane client : ℕ) (plans : List ClientPlan) (results : List Cli
   pub dispatches : List (List (List Outcome))
   pub did : DidDispatches client dispatches more
   pub cut : lengths_of dispatches ≡ map (counts_on lane) plans
-  pub outcomes : shown_by lane results ≡ map (λ (d : List (List Outcome)). Some (joined d)) dispatches
+  pub outcomes : shown_by lane results ≡ map (λ (d : List (List Outcome)). Some (outcomes_in_order d)) dispatches
   pub numbers : numbers_of passes ≡ clients_of plans
 
 did_all : (lane client : ℕ) (plans : List ClientPlan) (results : List ClientResult) (passes : List Joined)
@@ -56,7 +56,7 @@ did_all lane client (p ∷ ps) (r ∷ rs) (j ∷ js) more are did stand =
     let own : entries_by client more ≡ one.items =
     one_list (entries_by client more) one.items
     (sym (made_recorded client more)
-    ∙ (ap (λ (n : ℕ). made_by n (map recorded more)) (sym (one.number ∙ are.0)) ∙ (sym stand.0 ∙ one.coded))) in
+    ∙ (ap (λ (n : ℕ). made_by n (map as_recorded more)) (sym (one.number ∙ are.0)) ∙ (sym stand.0 ∙ one.coded))) in
     record {
       dispatches = one.dispatches ∷ later.dispatches;
       did = (ap (map numbered_action) own ∙ one.actions, later.did);
@@ -67,13 +67,13 @@ did_all lane client (p ∷ ps) (r ∷ rs) (j ∷ js) more are did stand =
 
 -- ---- the shape
 
-joined_length : (d : List (List Outcome)) → length (joined d) ≡ sum (map (λ (os : List Outcome). length os) d)
+joined_length : (d : List (List Outcome)) → length (outcomes_in_order d) ≡ sum (map (λ (os : List Outcome). length os) d)
 joined_length d =
     length-flat_map (λ (os : List Outcome). os) d ∙ sym (sum-map (λ (os : List Outcome). length os) d)
 
 shape_of : (dispatches : List (List (List Outcome))) (lane : ℕ) (plans : List ClientPlan)
     → lengths_of dispatches ≡ map (counts_on lane) plans
-    → map (λ (d : List (List Outcome)). length (joined d)) dispatches
+    → map (λ (d : List (List Outcome)). length (outcomes_in_order d)) dispatches
     ≡ map (λ (plan : ClientPlan). sum (counts_on lane plan)) plans
 shape_of [] lane [] e = refl
 shape_of [] lane (p ∷ ps) e = absurd cc
@@ -81,7 +81,7 @@ shape_of (d ∷ ds) lane [] e = absurd cc
 shape_of (d ∷ ds) lane (p ∷ ps) e =
     let first : map (λ (os : List Outcome). length os) d ≡ counts_on lane p = cc in
     let later : lengths_of ds ≡ map (counts_on lane) ps = cc in
-    ap (λ (n : ℕ). n ∷ map (λ (d : List (List Outcome)). length (joined d)) ds) (joined_length d ∙ ap sum first)
+    ap (λ (n : ℕ). n ∷ map (λ (d : List (List Outcome)). length (outcomes_in_order d)) ds) (joined_length d ∙ ap sum first)
     ∙ ap (λ (ns : List ℕ). sum (counts_on lane p) ∷ ns) (shape_of ds lane ps later)
 
 -- ---- nobody else

@@ -11,7 +11,7 @@ use Rattle.turn_pass.specs.Pass.{Joined, Knowledge}
 use Rattle.lane_record.specs.declared.item.Item.{Item}
 use Rattle.lane_record.specs.declared.item.What.{What}
 use Rattle.lane_record.specs.declared.item.What.TheVariants.{Plan, Seal, Ask, Took}
-use Rattle.lane_record.specs.Items.{numbers, plan_in, planned}
+use Rattle.lane_record.specs.Items.{numbers, plan_in, planned_count}
 use Rattle.lane_record.specs.Coding.{Head, record_of}
 use Rattle.lane_record.specs.Dispatches.{Action, action_of, entries_by, numbered_action}
 use Rattle.lane_record.specs.NextEntry.{plan_of}
@@ -77,7 +77,7 @@ all_at_most_once g connections passes (x ∷ xs) did =
 
 -- ---- the Plans of a client
 
-pub planned_total : (client : ℕ) (xs : List Item) → planned client xs ≡ total a_body (entries_by client xs)
+pub planned_total : (client : ℕ) (xs : List Item) → planned_count client xs ≡ total a_body (entries_by client xs)
 planned_total client [] = refl
 planned_total client (x ∷ xs) =
     let later = planned_total client xs in
@@ -278,7 +278,7 @@ by_last : (items : List Item) (l : LastPlan items) (many : ℕ) → total a_body
     → WasPlannedLast l.client many items → Within items
 by_last items l many plans was =
     let c = l.client in
-    let seq = planned c was.front in
+    let seq = planned_count c was.front in
     let rest = was.next.0 in
     let is : items ≡ was.front ++ plan_of c seq was.body ∷ rest =
     was.next.1 ∙ append_assoc was.front (plan_of c seq was.body ∷ []) rest in

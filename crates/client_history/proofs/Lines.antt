@@ -3,7 +3,7 @@ use Rattle.std.proofs.Common.{◌≡◌, ℕ, ◌+◌, ◌*◌, ◌≤◌, Bool,
 use Rattle.std.proofs.Common.{Some, None, refl, sym, ap, subst, ◌∙◌, arith}
 use Rattle.std.specs.List.{AllByRecursion, count_by, flat_map}
 use Rattle.ipb_base.proofs.AllLemmas.{AllByRecursion-append}
-use Rattle.world_model.specs.Board.{Board, executed}
+use Rattle.world_model.specs.Board.{Board, bodies_executed}
 use Rattle.board_node.specs.declared.spec.BoardSpec.{BoardSpec}
 use Rattle.world_model.specs.Settings.{Limits}
 use Rattle.lane_record.specs.declared.outcome.Outcome.{Outcome}
@@ -18,7 +18,7 @@ use Rattle.transcript.specs.Lines.{board_line, is_lost, live_line}
 use Rattle.script_plans.specs.Runs.{outcomes_on}
 use Rattle.board_history.specs.GiveUps.{IsExact, time_outs, times_given_up, was_given_up}
 use Rattle.board_history.specs.History.{dispatches_by_client}
-use Rattle.board_history.specs.Runs.{opening_of}
+use Rattle.board_history.specs.Runs.{opens_with}
 use Rattle.lane_history.specs.Links.{HasFailed, IsLostOnlyIfFailed, LinkReport, board_there}
 use Rattle.lane_history.specs.Receives.{IsReplyBrought, quiets_since_status}
 use Rattle.lane_history.specs.Runs.{IsAsTold, IsTrueRun, RepliesCame, TimeOutsWaited}
@@ -140,7 +140,7 @@ paid_as settings spec served link (Live payload) asked is = record {
   since = all_paid (settings.rounds + 1) (quiets_since_status link) served.connections
       is.any_link.rounds_since.dispatches;
   held' = of_telling (IsExact link.held → Paid settings.rounds link.held served.connections) link.telling
-      (some_then (IsTrueRun settings (opening_of spec.link) (run_of spec served) link.held)
+      (some_then (IsTrueRun settings (opens_with spec.link) (run_of spec served) link.held)
       (λ (b : Board). IsExact link.held → Paid settings.rounds link.held served.connections) (board_there link.telling)
       (λ b true' exact. all_paid settings.rounds link.held served.connections (true'.held'.dispatches exact)) is.told);
 }
@@ -155,7 +155,7 @@ paid_as settings spec served link Down asked is = record {
   quiets' = λ exact. none_paid (settings.rounds + 1) link.quiets served.connections asked;
   since = none_paid (settings.rounds + 1) (quiets_since_status link) served.connections asked;
   held' = of_telling (IsExact link.held → Paid settings.rounds link.held served.connections) link.telling
-      (some_then (λ (b : Board). executed b ≡ [])
+      (some_then (λ (b : Board). bodies_executed b ≡ [])
       (λ (b : Board). IsExact link.held → Paid settings.rounds link.held served.connections) (board_there link.telling)
       (λ b none exact. none_paid settings.rounds link.held served.connections asked) is.untouched);
 }

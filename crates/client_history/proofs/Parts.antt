@@ -4,7 +4,7 @@ use Rattle.std.proofs.Common.{◌∙◌}
 use Rattle.std.specs.List.{flat_map}
 use Rattle.lane_record.specs.declared.outcome.Outcome.{Outcome}
 use Rattle.lane_record.specs.declared.item.Item.{Item}
-use Rattle.lane_record.specs.Dispatches.{joined}
+use Rattle.lane_record.specs.Dispatches.{outcomes_in_order}
 use Rattle.lane_record.specs.Submissions.{Submission}
 use Rattle.mtu_packer.specs.Packed.{deal}
 use Rattle.script_plans.specs.declared.board_run.ClientPart.{ClientPart}
@@ -12,7 +12,7 @@ use Rattle.script_plans.specs.Runs.{outcomes_in}
 use Rattle.board_history.specs.History as shown
 use Rattle.lane_history.specs.Lates.{AreLatesOf}
 use Rattle.lane_history.specs.Records.{IsRecordOf}
-use Rattle.client_history.specs.Connections.{bodies_of, dispatches_of, outcomes_of}
+use Rattle.client_history.specs.Connections.{submitted_bodies, dispatches_of, outcomes_of}
 use Rattle.client_history.specs.Boards.{part_of}
 
 abbrev pub parts_of : List (List Submission) → List ClientPart
@@ -27,18 +27,18 @@ outcomes_shown connections = map (λ (part : ClientPart). part.outcomes) (parts_
 abbrev pub dispatches_shown : List (List Submission) → List (List (List Outcome))
 dispatches_shown connections = map shown.dispatches_of (parts_of connections)
 
-pub same_bodies : (connections : List (List Submission)) → bodies_shown connections ≡ map bodies_of connections
+pub same_bodies : (connections : List (List Submission)) → bodies_shown connections ≡ map submitted_bodies connections
 same_bodies [] = refl
-same_bodies (s ∷ ss) = ap (λ (bs : List (List (List ℕ))). bodies_of s ∷ bs) (same_bodies ss)
+same_bodies (s ∷ ss) = ap (λ (bs : List (List (List ℕ))). submitted_bodies s ∷ bs) (same_bodies ss)
 
 pub same_lengths : (connections : List (List Submission))
     → map length (outcomes_shown connections) ≡ map length (bodies_shown connections)
 same_lengths [] = refl
 same_lengths (s ∷ ss) =
     ap (λ (n : ℕ). n ∷ map length (outcomes_shown ss)) (one_length s)
-    ∙ ap (λ (ns : List ℕ). length (bodies_of s) ∷ ns) (same_lengths ss)
+    ∙ ap (λ (ns : List ℕ). length (submitted_bodies s) ∷ ns) (same_lengths ss)
   where
-    one_length : (s : List Submission) → length (outcomes_of s) ≡ length (bodies_of s)
+    one_length : (s : List Submission) → length (outcomes_of s) ≡ length (submitted_bodies s)
     one_length [] = refl
     one_length (x ∷ xs) = ap suc (one_length xs)
 
@@ -67,21 +67,21 @@ same_dispatches (s ∷ ss) =
     ap (λ (ds : List (List Outcome)). ds ∷ dispatches_shown ss) (one_dispatch_each s)
     ∙ ap (λ (dss : List (List (List Outcome))). dispatches_of s ∷ dss) (same_dispatches ss)
 
-pub joined_again : (s : List Submission) → joined (dispatches_of s) ≡ outcomes_of s
+pub joined_again : (s : List Submission) → outcomes_in_order (dispatches_of s) ≡ outcomes_of s
 joined_again [] = refl
 joined_again (x ∷ xs) = ap (λ (os : List Outcome). x.outcome ∷ os) (joined_again xs)
 
 all_joined_again : (connections : List (List Submission))
-    → map joined (map dispatches_of connections) ≡ outcomes_shown connections
+    → map outcomes_in_order (map dispatches_of connections) ≡ outcomes_shown connections
 all_joined_again [] = refl
 all_joined_again (s ∷ ss) =
-    ap (λ (os : List Outcome). os ∷ map joined (map dispatches_of ss)) (joined_again s)
+    ap (λ (os : List Outcome). os ∷ map outcomes_in_order (map dispatches_of ss)) (joined_again s)
     ∙ ap (λ (oss : List (List Outcome)). outcomes_of s ∷ oss) (all_joined_again ss)
 
 pub same_joined : (connections : List (List Submission))
-    → map joined (dispatches_shown connections) ≡ outcomes_shown connections
+    → map outcomes_in_order (dispatches_shown connections) ≡ outcomes_shown connections
 same_joined connections =
-    ap (λ (dss : List (List (List Outcome))). map joined dss) (same_dispatches connections)
+    ap (λ (dss : List (List (List Outcome))). map outcomes_in_order dss) (same_dispatches connections)
     ∙ all_joined_again connections
 
 -- ---- in one list
@@ -92,19 +92,19 @@ all_outcomes [] = refl
 all_outcomes (s ∷ ss) = ap (λ (os : List Outcome). outcomes_of s ++ os) (all_outcomes ss)
 
 pub flat_again : (connections : List (List Submission))
-    → flat_map joined (map dispatches_of connections) ≡ outcomes_in (parts_of connections)
+    → flat_map outcomes_in_order (map dispatches_of connections) ≡ outcomes_in (parts_of connections)
 flat_again [] = refl
 flat_again (s ∷ ss) =
-    ap (λ (os : List Outcome). os ++ flat_map joined (map dispatches_of ss)) (joined_again s)
+    ap (λ (os : List Outcome). os ++ flat_map outcomes_in_order (map dispatches_of ss)) (joined_again s)
     ∙ ap (λ (os : List Outcome). outcomes_of s ++ os) (flat_again ss)
 
 -- ---- the record
 
 pub record_shown : (connections : List (List Submission)) (items : List Item)
-    → IsRecordOf (map bodies_of connections) (map dispatches_of connections) items
+    → IsRecordOf (map submitted_bodies connections) (map dispatches_of connections) items
     → IsRecordOf (bodies_shown connections) (dispatches_shown connections) items
 record_shown connections items is =
     subst (λ (bss : List (List (List ℕ))). IsRecordOf bss (dispatches_shown connections) items)
     (sym (same_bodies connections))
-    (subst (λ (dss : List (List (List Outcome))). IsRecordOf (map bodies_of connections) dss items)
+    (subst (λ (dss : List (List (List Outcome))). IsRecordOf (map submitted_bodies connections) dss items)
     (sym (same_dispatches connections)) is)

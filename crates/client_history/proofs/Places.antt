@@ -9,12 +9,12 @@ use Rattle.lane_record.specs.Submissions.{Submission}
 use Rattle.script_plans.specs.Claims.{Rises}
 use Rattle.script_plans.specs.declared.greeting.Greeting.{Greeting}
 use Rattle.script_plans.specs.declared.greeting.Greeting.TheVariants.{Live, Silent, Down}
-use Rattle.board_history.specs.Order.{Placed, RisesFrom, all_placed, order, placed, places_of, with_place}
+use Rattle.board_history.specs.Order.{Placed, RisesFrom, all_placed, order, bodies_with_places, places_of, with_place}
 use Rattle.board_history.specs.Parts.{KeepsScripts}
 use Rattle.board_history.proofs.OwnPlaces.{AreApart, counting_apart, sorted_apart}
 use Rattle.lane_history.specs.Links.{LinkReport}
 use Rattle.lane_history.specs.Runs.{IsAsTold}
-use Rattle.client_history.specs.Connections.{bodies_of, outcomes_of}
+use Rattle.client_history.specs.Connections.{submitted_bodies, outcomes_of}
 use Rattle.client_history.specs.Boards.{IsAskedOnlyIfLive, IsServedOver, ServedBoard, run_of}
 use Rattle.client_history.specs.Shown.{PlacesDiffer, PlacesRise, places_in}
 use Rattle.client_history.proofs.Parts.{bodies_shown, outcomes_shown}
@@ -26,16 +26,16 @@ one_place : (body : List ℕ) (found : Option ℕ) (ps : List Placed) (ns : List
 one_place body None ps ns same = same
 one_place body (Some place) ps ns same = ap (λ (l : List ℕ). place ∷ l) same
 
-pub places_are : (s : List Submission) → places_of (placed (bodies_of s) (outcomes_of s)) ≡ places_in s
+pub places_are : (s : List Submission) → places_of (bodies_with_places (submitted_bodies s) (outcomes_of s)) ≡ places_in s
 places_are [] = refl
 places_are (x ∷ xs) =
-    one_place x.body (place_of x.outcome) (placed (bodies_of xs) (outcomes_of xs)) (places_in xs) (places_are xs)
+    one_place x.body (place_of x.outcome) (bodies_with_places (submitted_bodies xs) (outcomes_of xs)) (places_in xs) (places_are xs)
 
 all_places_are : (connections : List (List Submission))
     → places_of (all_placed (bodies_shown connections) (outcomes_shown connections)) ≡ flat_map places_in connections
 all_places_are [] = refl
 all_places_are (s ∷ ss) =
-    let own = placed (bodies_of s) (outcomes_of s) in
+    let own = bodies_with_places (submitted_bodies s) (outcomes_of s) in
     let later = all_placed (bodies_shown ss) (outcomes_shown ss) in
     map-append (λ (p : Placed). p.place) own later
     ∙ ap (λ (l : List ℕ). l ++ places_of later) (places_are s)

@@ -10,7 +10,7 @@ use Rattle.board_bus.specs.Cells.{CellMap}
 use Rattle.board_bus.specs.Bodies.{replay}
 use Rattle.board_bus.proofs.Bodies.{replay-append-replies, replay-length}
 use Rattle.board_node.specs.declared.spec.BoardSpec.{BoardSpec}
-use Rattle.world_model.specs.Board.{Board, executed}
+use Rattle.world_model.specs.Board.{Board, bodies_executed}
 use Rattle.world_model.specs.Places.{at_place}
 use Rattle.world_model.proofs.Lists.{at_seam}
 use Rattle.world_model.specs.Settings.{Limits}
@@ -25,15 +25,15 @@ use Rattle.script_plans.specs.declared.greeting.Greeting.TheVariants.{Live, Sile
 use Rattle.script_plans.specs.Runs.{outcomes_on}
 use Rattle.transcript.specs.Shown.{places_told}
 use Rattle.board_history.specs.History.{bodies_by_client, outcomes_by_client}
-use Rattle.board_history.specs.Order.{Placed, all_placed, bodies_of as bodies_in, order, placed, places_of, with_place}
+use Rattle.board_history.specs.Order.{Placed, all_placed, bodies_in, order, bodies_with_places, places_of, with_place}
 use Rattle.board_history.specs.Parts.{AreRepliesOf, HasOneOrder, IsExecuted, IsExecutedOnce, IsReplyOf}
 use Rattle.board_history.proofs.Sorting.{sorted_all}
-use Rattle.board_history.specs.Runs.{opening_of}
+use Rattle.board_history.specs.Runs.{opens_with}
 use Rattle.lane_history.specs.Links.{IsUntouched, LinkReport, board_there}
 use Rattle.lane_history.specs.Runs.{IsAsTold, IsTrueRun}
 use Rattle.lane_history.proofs.BoardLines.{line_at}
 use Rattle.lane_history.proofs.Shown.{some_then}
-use Rattle.client_history.specs.Connections.{bodies_of, outcomes_of}
+use Rattle.client_history.specs.Connections.{submitted_bodies, outcomes_of}
 use Rattle.client_history.specs.Boards.{IsAskedOnlyIfLive, IsServedOver, ServedBoard, run_of}
 use Rattle.client_history.specs.Shown.{IsRight, IsRightlyReplied, OfEach}
 use Rattle.client_history.proofs.Parts.{bodies_shown, lates_shown, outcomes_shown, same_lengths}
@@ -51,23 +51,23 @@ Sends = (run : BoardRun) → map length (outcomes_by_client run) ≡ map length 
     → count_by is_sent (outcomes_on run) ≡ length (order (bodies_by_client run) (outcomes_by_client run))
 
 none_executed : (line : ℕ) (link : LinkReport) → IsUntouched link
-    → IfSome (board_there link.telling) (λ (board : Board). length (executed board) ≤ line)
+    → IfSome (board_there link.telling) (λ (board : Board). length (bodies_executed board) ≤ line)
 none_executed line link none =
-    some_then (λ (b : Board). executed b ≡ []) (λ (b : Board). length (executed b) ≤ line) (board_there link.telling)
+    some_then (λ (b : Board). bodies_executed b ≡ []) (λ (b : Board). length (bodies_executed b) ≤ line) (board_there link.telling)
     (λ b e. subst (λ (l : List (List ℕ)). length l ≤ line) (sym e) (omega arith)) none
 
 executed_as : Sends → (settings : Limits) (spec : BoardSpec) (served : ServedBoard) (link : LinkReport)
     (told : Greeting) → IsAsTold settings spec (run_of spec served) link told
     → IfSome (board_there link.telling)
-    (λ (board : Board). length (executed board) ≤ places_told (line_at (run_of spec served) told))
+    (λ (board : Board). length (bodies_executed board) ≤ places_told (line_at (run_of spec served) told))
 executed_as sends settings spec served link (Live payload) is =
     let run = run_of spec served in
     let placed_bodies = order (bodies_by_client run) (outcomes_by_client run) in
     let many = sends run (same_lengths served.connections) in
-    some_then (IsTrueRun settings (opening_of spec.link) run link.held)
-    (λ (b : Board). length (executed b) ≤ count_by is_sent (outcomes_on run)) (board_there link.telling)
+    some_then (IsTrueRun settings (opens_with spec.link) run link.held)
+    (λ (b : Board). length (bodies_executed b) ≤ count_by is_sent (outcomes_on run)) (board_there link.telling)
     (λ b true'.
-    let few = length_front (executed b) (bodies_in placed_bodies) true'.executed_once.front in
+    let few = length_front (bodies_executed b) (bodies_in placed_bodies) true'.executed_once.front in
     let same = length-map placed_bodies (λ (p : Placed). p.body) in
     omega (arith, few, same, many)) is.told
 executed_as sends settings spec served link Silent is = none_executed 0 link is.untouched
@@ -125,12 +125,12 @@ one_at all body (Some n) ps stand place e =
     let same : n ≡ place = cc in subst (λ (k : ℕ). at_place all k ≡ Some body) same stand.0
 
 each_at : (all : List (List ℕ)) (s : List Submission)
-    → AllByRecursion (λ (p : Placed). at_place all p.place ≡ Some p.body) (placed (bodies_of s) (outcomes_of s))
+    → AllByRecursion (λ (p : Placed). at_place all p.place ≡ Some p.body) (bodies_with_places (submitted_bodies s) (outcomes_of s))
     → AllByRecursion (IsAt all) s
 each_at all [] stand = tt
 each_at all (x ∷ xs) stand =
     let own = with_place x.body (place_of x.outcome) in
-    let later = placed (bodies_of xs) (outcomes_of xs) in (
+    let later = bodies_with_places (submitted_bodies xs) (outcomes_of xs) in (
       one_at all x.body (place_of x.outcome) later stand,
       each_at all xs (back_of_all (λ (p : Placed). at_place all p.place ≡ Some p.body) own later stand),
     )
@@ -141,7 +141,7 @@ all_at : (all : List (List ℕ)) (connections : List (List Submission))
     → OfEach (IsAt all) connections
 all_at all [] stand = tt
 all_at all (s ∷ ss) stand =
-    let own = placed (bodies_of s) (outcomes_of s) in
+    let own = bodies_with_places (submitted_bodies s) (outcomes_of s) in
     let later = all_placed (bodies_shown ss) (outcomes_shown ss) in (
       each_at all s (front_of_all (λ (p : Placed). at_place all p.place ≡ Some p.body) own later stand),
       all_at all ss (back_of_all (λ (p : Placed). at_place all p.place ≡ Some p.body) own later stand),
@@ -220,33 +220,33 @@ none_replied opening done (s ∷ ss) none = (
 replied_as : (settings : Limits) (spec : BoardSpec) (served : ServedBoard) (link : LinkReport) (told : Greeting)
     → IsAskedOnlyIfLive told served.connections → IsAsTold settings spec (run_of spec served) link told
     → IfSome (board_there link.telling)
-    (λ (board : Board). OfEach (IsRightlyReplied (opening_of spec.link) (executed board)) served.connections)
+    (λ (board : Board). OfEach (IsRightlyReplied (opens_with spec.link) (bodies_executed board)) served.connections)
 replied_as settings spec served link (Live payload) asked is =
-    some_then (IsTrueRun settings (opening_of spec.link) (run_of spec served) link.held)
-    (λ (b : Board). OfEach (IsRightlyReplied (opening_of spec.link) (executed b)) served.connections)
+    some_then (IsTrueRun settings (opens_with spec.link) (run_of spec served) link.held)
+    (λ (b : Board). OfEach (IsRightlyReplied (opens_with spec.link) (bodies_executed b)) served.connections)
     (board_there link.telling)
-    (λ b true'. replied_rightly (opening_of spec.link) (executed b) served.connections is.any_link.one_order
+    (λ b true'. replied_rightly (opens_with spec.link) (bodies_executed b) served.connections is.any_link.one_order
     true'.executed_once true'.replies) is.told
 replied_as settings spec served link Silent asked is =
-    some_then (λ (b : Board). executed b ≡ [])
-    (λ (b : Board). OfEach (IsRightlyReplied (opening_of spec.link) (executed b)) served.connections)
+    some_then (λ (b : Board). bodies_executed b ≡ [])
+    (λ (b : Board). OfEach (IsRightlyReplied (opens_with spec.link) (bodies_executed b)) served.connections)
     (board_there link.telling)
-    (λ b e. none_replied (opening_of spec.link) (executed b) served.connections asked) is.untouched
+    (λ b e. none_replied (opens_with spec.link) (bodies_executed b) served.connections asked) is.untouched
 replied_as settings spec served link Down asked is =
-    some_then (λ (b : Board). executed b ≡ [])
-    (λ (b : Board). OfEach (IsRightlyReplied (opening_of spec.link) (executed b)) served.connections)
+    some_then (λ (b : Board). bodies_executed b ≡ [])
+    (λ (b : Board). OfEach (IsRightlyReplied (opens_with spec.link) (bodies_executed b)) served.connections)
     (board_there link.telling)
-    (λ b e. none_replied (opening_of spec.link) (executed b) served.connections asked) is.untouched
+    (λ b e. none_replied (opens_with spec.link) (bodies_executed b) served.connections asked) is.untouched
 
 pub executed_within : Sends → (settings : Limits) (spec : BoardSpec) (served : ServedBoard) (link : LinkReport)
     → IsServedOver settings spec served link
     → IfSome (board_there link.telling)
-    (λ (board : Board). length (executed board) ≤ places_told (line_at (run_of spec served) served.told))
+    (λ (board : Board). length (bodies_executed board) ≤ places_told (line_at (run_of spec served) served.told))
 executed_within sends settings spec served link is =
     executed_as sends settings spec served link served.told is.as_told
 
 pub are_replied : (settings : Limits) (spec : BoardSpec) (served : ServedBoard) (link : LinkReport)
     → IsServedOver settings spec served link
     → IfSome (board_there link.telling)
-    (λ (board : Board). OfEach (IsRightlyReplied (opening_of spec.link) (executed board)) served.connections)
+    (λ (board : Board). OfEach (IsRightlyReplied (opens_with spec.link) (bodies_executed board)) served.connections)
 are_replied settings spec served link is = replied_as settings spec served link served.told is.asked is.as_told

@@ -10,7 +10,7 @@ use Rattle.script_plans.specs.declared.board_run.ClientPart.{ClientPart}
 use Rattle.script_plans.specs.declared.board_run.BoardRun.{BoardRun}
 use Rattle.lane_history.specs.Links.{IsBoardOf, LinkReport, board_there}
 use Rattle.lane_history.specs.Runs.{IsAsTold}
-use Rattle.client_history.specs.Connections.{bodies_of, outcomes_of}
+use Rattle.client_history.specs.Connections.{submitted_bodies, outcomes_of}
 
 -- A board after its connections were served: what greeting it told, and what each connection submitted to it, in the
 -- order in which the connections were accepted.
@@ -23,7 +23,7 @@ pub record ServedBoard : Type 0 where
 abbrev pub part_of : List Submission → ClientPart
 part_of submissions = record {
   planned = record {
-    bodies = bodies_of submissions;
+    bodies = submitted_bodies submissions;
     pieces = [];
     counts = map (λ (s : Submission). 1) submissions;
   };

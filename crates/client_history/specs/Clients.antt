@@ -5,7 +5,7 @@ use Rattle.turn_pass.specs.Pass.{Knowledge, first_knowledge}
 use Rattle.lane_record.specs.declared.outcome.Outcome.{Outcome}
 use Rattle.lane_record.specs.declared.item.Item.{Item}
 use Rattle.lane_record.specs.Coding.{Head, record_of}
-use Rattle.lane_record.specs.Dispatches.{all_plans_from, joined}
+use Rattle.lane_record.specs.Dispatches.{all_plans_from, outcomes_in_order}
 use Rattle.lane_record.specs.NextEntry.{the_seal}
 use Rattle.client_threads.specs.declared.plan.ClientPlan.{ClientPlan}
 use Rattle.client_threads.specs.declared.result.ClientResult.{ClientResult}
@@ -35,5 +35,5 @@ pub record LeftByClients (lane : ℕ) (plans : List ClientPlan) (results : List 
       ≡ map (counts_on lane) plans
   -- its result shows them
   pub outcomes : map (λ (result : ClientResult). slice_get result.lanes lane) results
-      ≡ map (λ (d : List (List Outcome)). Some (joined d)) dispatches
+      ≡ map (λ (d : List (List Outcome)). Some (outcomes_in_order d)) dispatches
   pub left : IsClientsRecord bodies dispatches items

@@ -6,13 +6,13 @@ use Rattle.lane_record.specs.declared.item.Item.{Item}
 use Rattle.lane_record.specs.NextEntry.{ask_of, plan_of, took_of}
 use Rattle.lane_record.specs.Submissions.{Submission}
 
-abbrev pub submitted : List ℕ → Outcome → Submission
-submitted body outcome = record { body = body; outcome = outcome }
+abbrev pub submission_of : List ℕ → Outcome → Submission
+submission_of body outcome = record { body = body; outcome = outcome }
 
 -- connection 1 submits two bodies, and connection 2 one
 abbrev pub two_connections : List ℕ → List ℕ → List ℕ → Outcome → Outcome → Outcome → List (List Submission)
 two_connections a b c first second other =
-    (submitted a first ∷ submitted b second ∷ []) ∷ (submitted c other ∷ []) ∷ []
+    (submission_of a first ∷ submission_of b second ∷ []) ∷ (submission_of c other ∷ []) ∷ []
 
 -- their entries alternate: connection 2 submits while connection 1 waits for its first body, and takes its outcome
 -- after connection 1 planned its second one
@@ -26,4 +26,4 @@ alternating a b c first second other =
 -- one connection that was answered by this word at place 1, and one whose body was timed out at a place
 abbrev pub one_timed_out_at : ℕ → List ℕ → ℕ → List (List Submission)
 one_timed_out_at place body word =
-    (submitted body (Replied 1 (0x20000100 ∷ word ∷ [])) ∷ []) ∷ (submitted body (TimedOut place 3) ∷ []) ∷ []
+    (submission_of body (Replied 1 (0x20000100 ∷ word ∷ [])) ∷ []) ∷ (submission_of body (TimedOut place 3) ∷ []) ∷ []

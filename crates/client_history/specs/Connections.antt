@@ -11,8 +11,8 @@ use Rattle.client_threads.specs.Clients.{TookIn}
 
 -- ---- the bodies of a connection, and what became of each
 
-abbrev pub bodies_of : List Submission → List (List ℕ)
-bodies_of submissions = map (λ (s : Submission). s.body) submissions
+abbrev pub submitted_bodies : List Submission → List (List ℕ)
+submitted_bodies submissions = map (λ (s : Submission). s.body) submissions
 
 abbrev pub outcomes_of : List Submission → List Outcome
 outcomes_of submissions = map (λ (s : Submission). s.outcome) submissions

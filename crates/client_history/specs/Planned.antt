@@ -3,7 +3,7 @@ use Rattle.std.specs.Prelude.{◌≡◌, ◌⊎◌, ℕ, ◌+◌, ◌<◌, ◌�
 use Rattle.ipb_base.specs.Lists.{IsPrefix}
 use Rattle.transaction_codec.specs.Answer.{reply_room}
 use Rattle.lane_record.specs.declared.item.Item.{Item}
-use Rattle.lane_record.specs.Items.{is_sealed, planned}
+use Rattle.lane_record.specs.Items.{is_sealed, planned_count}
 use Rattle.lane_record.specs.NextEntry.{plan_of}
 use Rattle.lane_record.specs.Submissions.{Submission}
 use Rattle.hub_lane.specs.Plans.{CanPlan}
@@ -43,8 +43,8 @@ pub record WasPlannedLast (client many : ℕ) (items : List Item) : Type 0 where
   pub front : List Item
   pub payload : ℕ
   pub body : List ℕ
-  pub own : planned client front + 1 ≡ many
-  pub next : IsPrefix (front ++ plan_of client (planned client front) body ∷ []) items
+  pub own : planned_count client front + 1 ≡ many
+  pub next : IsPrefix (front ++ plan_of client (planned_count client front) body ∷ []) items
   pub can : CanPlan front payload body
 
 -- so of each connection that submitted any, the first of which is this client

@@ -4,7 +4,7 @@
 ghost use Rattle.std.specs.Prelude.{◌≡◌, ℕ, ◌≤◌, List, length, Some, IfSome};
 ghost use Rattle.std.specs.List.{count_by, flat_map, slice_get};
 ghost use Rattle.board_node.specs.declared.spec.BoardSpec.{BoardSpec};
-ghost use Rattle.world_model.specs.Board.{executed};
+ghost use Rattle.world_model.specs.Board.{bodies_executed};
 ghost use Rattle.world_model.specs.Settings.{Limits};
 ghost use Rattle.lane_record.specs.Outcomes.{is_replied, is_sent, is_timed_out};
 ghost use Rattle.script_plans.specs.declared.greeting.Greeting.TheVariants.{Live};
@@ -12,7 +12,7 @@ ghost use Rattle.transcript.specs.declared.line.BoardLine.TheVariants as board_l
 ghost use Rattle.transcript.specs.Lines.{board_line, is_lost};
 ghost use Rattle.transcript.specs.Shown.{places_told};
 ghost use Rattle.board_history.specs.Parts.{IsReplied};
-ghost use Rattle.board_history.specs.Runs.{greeting_of, opening_of};
+ghost use Rattle.board_history.specs.Runs.{greeting_of, opens_with};
 ghost use Rattle.lane_history.specs.Links.{IsFaithful, LinkReport, board_there};
 ghost use Rattle.lane_history.specs.Runs.{RepliesCame, TimeOutsWaited};
 ghost use Rattle.client_history.specs.Boards.{AreServedOver, IsServedAt, IsServedOver, ServedBoard, run_of};
@@ -44,10 +44,10 @@ pub fn a_board_that_tells_executed_what_was_replied()
     ensures executed { (settings : Limits) (spec : BoardSpec) (served : ServedBoard) (link : LinkReport) →
         IsServedOver settings spec served link →
         IfSome (board_there link.telling)
-        (λ board. length (executed board) ≤ places_told (board_line (run_of spec served))) }
+        (λ board. length (bodies_executed board) ≤ places_told (board_line (run_of spec served))) }
     ensures replied { (settings : Limits) (spec : BoardSpec) (served : ServedBoard) (link : LinkReport) →
         IsServedOver settings spec served link → IfSome (board_there link.telling)
-        (λ board. OfEach (IsRightlyReplied (opening_of spec.link) (executed board)) served.connections) }
+        (λ board. OfEach (IsRightlyReplied (opens_with spec.link) (bodies_executed board)) served.connections) }
 {
     the_first_sends_are_the_order();
 }

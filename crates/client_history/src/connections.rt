@@ -13,7 +13,7 @@ ghost use Rattle.board_node.specs.declared.spec.BoardSpec.{BoardSpec};
 ghost use Rattle.lane_record.specs.declared.outcome.Outcome.{Outcome};
 ghost use Rattle.lane_record.specs.declared.item.Item.{Item};
 ghost use Rattle.lane_record.specs.Bounds.{timeouts};
-ghost use Rattle.lane_record.specs.Items.{planned};
+ghost use Rattle.lane_record.specs.Items.{planned_count};
 ghost use Rattle.lane_record.specs.Coding.{Head, record_of};
 ghost use Rattle.lane_record.specs.Submissions.{Submission};
 ghost use Rattle.hub_lane.specs.Calls.{is_lost_at_place, is_replied};
@@ -26,10 +26,10 @@ ghost use Rattle.lane_history.specs.Links.{IsBoardOf, LinkReport, board_there};
 ghost use Rattle.lane_history.specs.Lanes.{IsSoundLane};
 ghost use Rattle.lane_history.specs.Records.{IsRecordOf};
 ghost use Rattle.lane_history.specs.Runs.{TellsPayload};
-ghost use Rattle.board_history.specs.Runs.{opening_of};
+ghost use Rattle.board_history.specs.Runs.{opens_with};
 ghost use Rattle.client_history.specs.Clients.{came_with};
 ghost use Rattle.client_history.specs.Boards.{IsServedOver, run_of};
-ghost use Rattle.client_history.specs.Connections.{WereServedOn, bodies_of, dispatches_of};
+ghost use Rattle.client_history.specs.Connections.{WereServedOn, submitted_bodies, dispatches_of};
 ghost use Rattle.client_history.specs.Planned.{IsAmongSubmitted, KeepLimits, WerePlannedLast};
 
 use board_history::laws::the_first_sends_are_the_order;
@@ -46,7 +46,7 @@ pub fn connections_of_a_hub_leave_what_they_submitted()
     ensures { (connections : List (List Submission)) (head head_now : Head) (items : List Item) (after : Knowledge)
         (final : Record) → WereServedOn connections (came_with head []) after → Ends after final →
         final ≡ record_of head_now items →
-        IsRecordOf (map bodies_of connections) (map dispatches_of connections) items }
+        IsRecordOf (map submitted_bodies connections) (map dispatches_of connections) items }
 {}
 
 /// In the entries of such a lane at any time before, planning was not closed, and what is planned there is among what
@@ -63,7 +63,7 @@ pub fn a_connection_plans_its_first_bodies_first()
     ensures { (connections : List (List Submission)) (head head_now : Head) (items front : List Item)
         (after : Knowledge) (final : Record) → WereServedOn connections (came_with head []) after → Ends after final →
         final ≡ record_of head_now items → IsPrefix front items → (index : ℕ) (own later : List Submission) →
-        slice_get connections index ≡ Some (own ++ later) → planned (1 + index) front ≡ length own →
+        slice_get connections index ≡ Some (own ++ later) → planned_count (1 + index) front ≡ length own →
         IsAmongSubmitted (slice_set connections index own) front }
 {}
 
@@ -81,8 +81,8 @@ pub fn a_finished_lane_was_served()
         (connections : List (List Submission)) (items : List Item) (outcomes : List (Option Outcome))
         (lates : List (Option (List ℕ))) (give_ups : ℕ) →
         IsBoardOf spec.link (board_there link.telling) → TellsPayload spec.link payload →
-        IsRecordOf (map bodies_of connections) (map dispatches_of connections) items →
-        IsSoundLane settings (opening_of spec.link) payload link items outcomes lates give_ups →
+        IsRecordOf (map submitted_bodies connections) (map dispatches_of connections) items →
+        IsSoundLane settings (opens_with spec.link) payload link items outcomes lates give_ups →
         IsServedOver settings spec (record { told = Live payload; connections = connections }) link }
 {
     a_finished_lane_is_live();
@@ -95,7 +95,7 @@ pub fn a_finished_lane_tells_the_numbers_of_its_line()
         (outcomes : List (Option Outcome)) (lates : List (Option (List ℕ))) (give_ups : ℕ) (down spent : Bool)
         (telling : Option Telling) (faults quiets : ℕ) (spec : BoardSpec) (payload : ℕ) (connections : List (List Submission)) →
         IsLane settings status hub items outcomes lates give_ups down spent telling faults quiets →
-        IsRecordOf (map bodies_of connections) (map dispatches_of connections) items →
+        IsRecordOf (map submitted_bodies connections) (map dispatches_of connections) items →
         board_line (run_of spec (record { told = Live payload; connections = connections })) ≡
         board_lines.Live spec.name (length hub.sent) (count_by is_replied outcomes) (timeouts outcomes)
         (count_by is_lost_at_place outcomes) }

@@ -13,7 +13,7 @@ ghost use Rattle.transcript.specs.declared.line.BoardLine.TheVariants as board_l
 ghost use Rattle.transcript.specs.Lines.{board_line};
 ghost use Rattle.lane_history.specs.Records.{IsRecordOf};
 ghost use Rattle.client_history.specs.Boards.{run_of};
-ghost use Rattle.client_history.specs.Connections.{bodies_of, dispatches_of};
+ghost use Rattle.client_history.specs.Connections.{submitted_bodies, dispatches_of};
 ghost use Rattle.client_history.specs.ConnectionExamples.{alternating, one_timed_out_at, two_connections};
 ghost use Rattle.client_history.specs.Shown.{IsReplyAt, PlacesDiffer};
 
@@ -39,10 +39,10 @@ pub fn other_records_are_not_left_by_two_clients()
 /// first took what became of the body of the second, and of none that submitted a body less.
 pub fn two_connections_leave_what_each_submitted()
     ensures alternating { (a b c : List ℕ) (first second other : Outcome) → IsRecordOf
-        (map bodies_of (two_connections a b c first second other))
+        (map submitted_bodies (two_connections a b c first second other))
         (map dispatches_of (two_connections a b c first second other)) (alternating a b c first second other) }
     ensures exchanged { (a b c : List ℕ) (first second other : Outcome) → first ≢ other → IsRecordOf
-        (map bodies_of (two_connections a b c other second first))
+        (map submitted_bodies (two_connections a b c other second first))
         (map dispatches_of (two_connections a b c other second first)) (alternating a b c first second other) → ⊥ }
     ensures left_out { (a b c : List ℕ) (first second other : Outcome) → IsRecordOf ((a ∷ []) ∷ (c ∷ []) ∷ [])
         (((first ∷ []) ∷ []) ∷ ((other ∷ []) ∷ []) ∷ []) (alternating a b c first second other) → ⊥ }

@@ -9,9 +9,9 @@ use Rattle.lane_record.specs.declared.outcome.Outcome.{Outcome}
 use Rattle.lane_record.specs.declared.item.Item.{Item}
 use Rattle.lane_record.specs.declared.item.What.{What}
 use Rattle.lane_record.specs.declared.item.What.TheVariants.{Plan, Seal, Ask, Took}
-use Rattle.lane_record.specs.Items.{ask_in, found, numbers, plan_in, took_in}
+use Rattle.lane_record.specs.Items.{ask_in, told_by_first, numbers, plan_in, took_in}
 use Rattle.lane_record.specs.Dispatches.{Action, Planned, Sealed, Asked, Taken, NumberedAction, action_of, asks_from}
-use Rattle.lane_record.specs.Dispatches.{dispatches_from, joined, numbered_action, plans_from, tooks_from}
+use Rattle.lane_record.specs.Dispatches.{dispatches_from, outcomes_in_order, numbered_action, plans_from, tooks_from}
 use Rattle.lane_tables.proofs.TakenRows.{or_right}
 
 -- ---- counts of actions
@@ -100,7 +100,7 @@ took_same (Ask give_ups) = refl
 took_same (Took outcome give_ups) = refl
 
 pub found_taken : (client seq : ℕ) (items : List Item) → AreOf client items
-    → found took_in client seq items ≡ taken_of seq (map numbered_action items)
+    → told_by_first took_in client seq items ≡ taken_of seq (map numbered_action items)
 found_taken client seq [] a = refl
 found_taken client seq (x ∷ xs) a =
     let rest = found_taken client seq xs a.1 in
@@ -231,11 +231,11 @@ tooks_push seq (o ∷ os) outcome =
 
 -- ---- whole dispatches
 
-length_joined : (o : List Outcome) (ds : List (List Outcome)) → length (joined (o ∷ ds)) ≡ length o + length (joined ds)
-length_joined o ds = length-append o (joined ds)
+length_joined : (o : List Outcome) (ds : List (List Outcome)) → length (outcomes_in_order (o ∷ ds)) ≡ length o + length (outcomes_in_order ds)
+length_joined o ds = length-append o (outcomes_in_order ds)
 
 pub dispatches_counted : (seq : ℕ) (ds : List (List Outcome))
-    → count one_if_asked (dispatches_from seq ds) ≡ length (joined ds)
+    → count one_if_asked (dispatches_from seq ds) ≡ length (outcomes_in_order ds)
 dispatches_counted seq [] = refl
 dispatches_counted seq (o ∷ ds) =
     let rest = dispatches_counted (seq + length o) ds in
@@ -253,31 +253,31 @@ dispatches_plan_nothing seq (o ∷ ds) =
     let two = count_append one_if_planned (tooks_from seq o) (dispatches_from (seq + length o) ds) in
     omega (arith, asks_plan_nothing seq (length o), tooks_plan_nothing seq o)
 
-pub dispatches_take : (seq : ℕ) (ds : List (List Outcome)) → Takes seq (seq + length (joined ds))
+pub dispatches_take : (seq : ℕ) (ds : List (List Outcome)) → Takes seq (seq + length (outcomes_in_order ds))
     (dispatches_from seq ds)
 dispatches_take seq [] = let e : seq + 0 ≡ seq = omega arith in
     subst (λ n. Takes seq n []) (sym e) (takes_nothing seq [] (λ q. refl))
 dispatches_take seq (o ∷ ds) =
     let long = length_joined o ds in
-    let e : seq + length o + length (joined ds) ≡ seq + length (joined (o ∷ ds)) = omega arith in
+    let e : seq + length o + length (outcomes_in_order ds) ≡ seq + length (outcomes_in_order (o ∷ ds)) = omega arith in
     let rest = subst (λ n. Takes (seq + length o) n (dispatches_from (seq + length o) ds)) e
     (dispatches_take (seq + length o) ds) in
-    takes_append seq seq (seq + length (joined (o ∷ ds))) (asks_from seq (length o))
+    takes_append seq seq (seq + length (outcomes_in_order (o ∷ ds))) (asks_from seq (length o))
     (tooks_from seq o ++ dispatches_from (seq + length o) ds)
     (takes_nothing seq (asks_from seq (length o)) (λ q. asks_take_nothing q seq (length o)))
-    (takes_append seq (seq + length o) (seq + length (joined (o ∷ ds))) (tooks_from seq o)
+    (takes_append seq (seq + length o) (seq + length (outcomes_in_order (o ∷ ds))) (tooks_from seq o)
     (dispatches_from (seq + length o) ds) (tooks_take seq o) rest (omega arith) (omega arith)) (omega arith)
     (omega arith)
 
 -- what a client did so far: whole dispatches, and of the next one so many Asks and the Tooks of these outcomes
 abbrev pub so_far : List (List Outcome) → ℕ → List Outcome → List NumberedAction
-so_far ds asks outcomes = dispatches_from 0 ds ++ (asks_from (length (joined ds)) asks ++ tooks_from
-    (length (joined ds)) outcomes)
+so_far ds asks outcomes = dispatches_from 0 ds ++ (asks_from (length (outcomes_in_order ds)) asks ++ tooks_from
+    (length (outcomes_in_order ds)) outcomes)
 
 pub asked_so_far : (ds : List (List Outcome)) (asks : ℕ) (outcomes : List Outcome)
-    → count one_if_asked (so_far ds asks outcomes) ≡ length (joined ds) + asks
+    → count one_if_asked (so_far ds asks outcomes) ≡ length (outcomes_in_order ds) + asks
 asked_so_far ds asks outcomes =
-    let n = length (joined ds) in
+    let n = length (outcomes_in_order ds) in
     let one = count_append one_if_asked (dispatches_from 0 ds) (asks_from n asks ++ tooks_from n outcomes) in
     let two = count_append one_if_asked (asks_from n asks) (tooks_from n outcomes) in
     omega (arith, dispatches_counted 0 ds, asks_counted n asks, tooks_ask_nothing n outcomes)
@@ -285,15 +285,15 @@ asked_so_far ds asks outcomes =
 pub planned_so_far : (ds : List (List Outcome)) (asks : ℕ) (outcomes : List Outcome)
     → count one_if_planned (so_far ds asks outcomes) ≡ 0
 planned_so_far ds asks outcomes =
-    let n = length (joined ds) in
+    let n = length (outcomes_in_order ds) in
     let one = count_append one_if_planned (dispatches_from 0 ds) (asks_from n asks ++ tooks_from n outcomes) in
     let two = count_append one_if_planned (asks_from n asks) (tooks_from n outcomes) in
     omega (arith, dispatches_plan_nothing 0 ds, asks_plan_nothing n asks, tooks_plan_nothing n outcomes)
 
 pub taken_so_far : (ds : List (List Outcome)) (asks : ℕ) (outcomes : List Outcome)
-    → Takes 0 (length (joined ds) + length outcomes) (so_far ds asks outcomes)
+    → Takes 0 (length (outcomes_in_order ds) + length outcomes) (so_far ds asks outcomes)
 taken_so_far ds asks outcomes =
-    let n = length (joined ds) in
+    let n = length (outcomes_in_order ds) in
     let e : 0 + n ≡ n = omega arith in
     let front = subst (λ m. Takes 0 m (dispatches_from 0 ds)) e (dispatches_take 0 ds) in
     takes_append 0 n (n + length outcomes) (dispatches_from 0 ds) (asks_from n asks ++ tooks_from n outcomes) front
@@ -302,20 +302,20 @@ taken_so_far ds asks outcomes =
     (omega arith)) (omega arith) (omega arith)
 
 -- one more dispatch
-pub joined_more : (ds : List (List Outcome)) (o : List Outcome) → joined (ds ++ o ∷ []) ≡ joined ds ++ o
+pub joined_more : (ds : List (List Outcome)) (o : List Outcome) → outcomes_in_order (ds ++ o ∷ []) ≡ outcomes_in_order ds ++ o
 joined_more [] o = append-nil o
-joined_more (d ∷ ds) o = ap (λ (l : List Outcome). d ++ l) (joined_more ds o) ∙ sym (append_assoc d (joined ds) o)
+joined_more (d ∷ ds) o = ap (λ (l : List Outcome). d ++ l) (joined_more ds o) ∙ sym (append_assoc d (outcomes_in_order ds) o)
 
 dispatch_push : (seq : ℕ) (ds : List (List Outcome)) (o : List Outcome)
     → dispatches_from seq (ds ++ o ∷ []) ≡ dispatches_from seq
-    ds ++ (asks_from (seq + length (joined ds)) (length o) ++ tooks_from (seq + length (joined ds)) o)
+    ds ++ (asks_from (seq + length (outcomes_in_order ds)) (length o) ++ tooks_from (seq + length (outcomes_in_order ds)) o)
 dispatch_push seq [] o =
     let e : seq ≡ seq + 0 = omega arith in
     ap (λ (l : List NumberedAction). asks_from seq (length o) ++ l) (append-nil (tooks_from seq o))
     ∙ ap (λ (n : ℕ). asks_from n (length o) ++ tooks_from n o) e
 dispatch_push seq (d ∷ ds) o =
     let long = length_joined d ds in
-    let e : seq + length d + length (joined ds) ≡ seq + length (joined (d ∷ ds)) = omega arith in
+    let e : seq + length d + length (outcomes_in_order ds) ≡ seq + length (outcomes_in_order (d ∷ ds)) = omega arith in
     let asks = asks_from seq (length d) in
     let tooks = tooks_from seq d in
     let rest = dispatches_from (seq + length d) ds in
@@ -323,12 +323,12 @@ dispatch_push seq (d ∷ ds) o =
     ap (λ (l : List NumberedAction). asks ++ (tooks ++ l)) (dispatch_push (seq + length d) ds o
     ∙ ap (λ (n : ℕ). rest ++ last n) e)
     ∙ (ap (λ (l : List NumberedAction). asks ++ l)
-    (sym (append_assoc tooks rest (last (seq + length (joined (d ∷ ds))))))
-    ∙ sym (append_assoc asks (tooks ++ rest) (last (seq + length (joined (d ∷ ds))))))
+    (sym (append_assoc tooks rest (last (seq + length (outcomes_in_order (d ∷ ds))))))
+    ∙ sym (append_assoc asks (tooks ++ rest) (last (seq + length (outcomes_in_order (d ∷ ds))))))
 
 pub dispatch_done : (ds : List (List Outcome)) (o : List Outcome) → so_far ds (length o) o ≡ so_far (ds ++ o ∷ []) 0 []
 dispatch_done ds o =
-    let e : 0 + length (joined ds) ≡ length (joined ds) = omega arith in
+    let e : 0 + length (outcomes_in_order ds) ≡ length (outcomes_in_order ds) = omega arith in
     sym (append-nil (dispatches_from 0 (ds ++ o ∷ [])) ∙ (dispatch_push 0 ds o
     ∙ ap (λ (n : ℕ). dispatches_from 0 ds ++ (asks_from n (length o) ++ tooks_from n o)) e))
 

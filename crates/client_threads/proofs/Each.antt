@@ -10,7 +10,7 @@ use Rattle.std.proofs.lemmas.Option.{same_Some, slice_get_cases, slice_get_withi
 use Rattle.std.specs.List.{AllByRecursion, slice_get, sum_by}
 use Rattle.turn_pass.specs.Pass.{Knowledge}
 use Rattle.lane_record.specs.declared.outcome.Outcome.{Outcome}
-use Rattle.lane_record.specs.Dispatches.{joined}
+use Rattle.lane_record.specs.Dispatches.{outcomes_in_order}
 use Rattle.hub_lane.specs.declared.answers.Asked.TheVariants as asks
 use Rattle.hub_multiplexer.specs.Seats.{ChangesAt, SeatState}
 use Rattle.hub_multiplexer.specs.Calls.{AskMeans, IsNone, MadeInTime, PerformMeans}
@@ -419,12 +419,12 @@ dispatched n had have a b c asked took = record {
 
 -- ---- all dispatches
 
-pub sum_joined : (ds : List (List Outcome)) → length (joined ds) ≡ sum (map (λ (d : List Outcome). length d) ds)
+pub sum_joined : (ds : List (List Outcome)) → length (outcomes_in_order ds) ≡ sum (map (λ (d : List Outcome). length d) ds)
 sum_joined [] = refl
 sum_joined (d ∷ ds) =
     let h = sum_joined ds in
     let f = λ (d : List Outcome). length d in
-    omega (arith, length-append d (joined ds), sum-map f ds, sum-map f (d ∷ ds), sum_by-cons f d ds)
+    omega (arith, length-append d (outcomes_in_order ds), sum-map f ds, sum-map f (d ∷ ds), sum_by-cons f d ds)
 
 pub run_can_ask : (p : ClientPlan) (i : ℕ) (d : Dispatch) (ks : List Knowledge) (have : List (List Outcome))
     → i < length p.dispatches → d ≡ get_or p.dispatches i d
@@ -437,14 +437,14 @@ run_can_ask p i d ks have low is run on k ek =
     let f = λ (e : Dispatch). bodies_on on e.asks in
     let total : sum_by f (take i all) + f d ≤ sum_by f all =
     subst (λ (e : Dispatch). sum_by f (take i all) + f e ≤ sum_by f all) (sym is) (sum_by_more_le f all i d low) in
-    let done_is : length (joined h.done) ≡ sum (map f (take i all)) =
+    let done_is : length (outcomes_in_order h.done) ≡ sum (map f (take i all)) =
     sum_joined h.done ∙ (ap sum h.cut ∙ ap sum (take-map f i all)) in
     let one = sum-map f (take i all) in
     let two = sum-map f all in record {
       place = between p.client (sum (counts_on on p)) h.done;
       stands = h.stands;
       none_taken = refl;
-      enough = let e : length (joined h.done) + 0 + f d ≤ sum (counts_on on p) = omega arith in e;
+      enough = let e : length (outcomes_in_order h.done) + 0 + f d ≤ sum (counts_on on p) = omega arith in e;
     }
 
 pub run_more : (p : ClientPlan) (i : ℕ) (d : Dispatch) (a b : List Knowledge) (had have : List (List Outcome))

@@ -8,7 +8,7 @@ use Rattle.std.specs.List.{AllByRecursion, slice_get}
 use Rattle.turn_pass.specs.Record.{Recorded, made_by}
 use Rattle.turn_pass.specs.Pass.{Joined, Knowledge, TurnId, kept_of, newcomer, one_more_made, taking_in}
 use Rattle.lane_record.specs.declared.outcome.Outcome.{Outcome}
-use Rattle.lane_record.specs.Coding.{recorded}
+use Rattle.lane_record.specs.Coding.{as_recorded}
 use Rattle.lane_record.specs.Dispatches.{dispatches_from}
 use Rattle.hub_multiplexer.specs.Ends.{HasTakenIn}
 use Rattle.hub_multiplexer.specs.Seats.{MasterState, SeatState, knows_after_join}
@@ -221,7 +221,7 @@ ended turns old new s plan seat long no_plan ran =
             number = a.same_number ∙ (f.number ∙ sym client_is);
             alone = a.same_joined ∙ f.alone;
             items = a.added;
-            coded = a.grew ∙ ap (λ (l : List Recorded). l ++ map recorded a.added) f.no_entry;
+            coded = a.grew ∙ ap (λ (l : List Recorded). l ++ map as_recorded a.added) f.no_entry;
             none = a.none;
           };
       ran_all = λ e. subst (λ p. AtEach new.seat.knows new.lanes.items

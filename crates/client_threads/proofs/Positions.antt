@@ -8,10 +8,10 @@ use Rattle.turn_pass.specs.Record.{Recorded, made_by}
 use Rattle.turn_pass.specs.Pass.{Knowledge}
 use Rattle.lane_record.specs.declared.outcome.Outcome.{Outcome}
 use Rattle.lane_record.specs.declared.item.Item.{Item}
-use Rattle.lane_record.specs.Items.{ask_in, numbers, plan_in, took_in, found, planned}
+use Rattle.lane_record.specs.Items.{ask_in, numbers, plan_in, took_in, told_by_first}
 use Rattle.lane_record.specs.NextEntry.{ask_of, took_of}
-use Rattle.lane_record.specs.Coding.{item_from, recorded}
-use Rattle.lane_record.specs.Dispatches.{Asked, Taken, NumberedAction, asks_from, dispatches_from, joined}
+use Rattle.lane_record.specs.Coding.{item_from, as_recorded}
+use Rattle.lane_record.specs.Dispatches.{Asked, Taken, NumberedAction, asks_from, dispatches_from, outcomes_in_order}
 use Rattle.lane_record.specs.Dispatches.{numbered_action, plans_from, tooks_from}
 use Rattle.lane_record.proofs.Coding.{read_item}
 use Rattle.hub_lane.specs.declared.answers.Asked.TheVariants as asks
@@ -36,11 +36,11 @@ all_items p k i = plans_from p.client 0 i.plans.bodies ++ i.items
 own_are : (p : Position) (k : Knowledge) (i : IsAt p k) → own_items k ≡ all_items p k i
 own_are p k i =
     let plans = plans_from p.client 0 i.plans.bodies in
-    let there : made_by k.number k.opening.entries ≡ map recorded plans =
+    let there : made_by k.number k.opening.entries ≡ map as_recorded plans =
     ap (λ (n : ℕ). made_by n k.opening.entries) i.number ∙ i.plans.entries in
     ap (λ (l : List Recorded). filter_map item_from (l ++ k.mine)) there
-    ∙ (ap (λ (l : List Recorded). filter_map item_from (map recorded plans ++ l)) i.coded
-    ∙ (ap (filter_map item_from) (sym (map-append recorded plans i.items)) ∙ read_back read_item (plans ++ i.items)))
+    ∙ (ap (λ (l : List Recorded). filter_map item_from (map as_recorded plans ++ l)) i.coded
+    ∙ (ap (filter_map item_from) (sym (map-append as_recorded plans i.items)) ∙ read_back read_item (plans ++ i.items)))
 
 all_are_of : (p : Position) (k : Knowledge) (i : IsAt p k) → AreOf p.client (all_items p k i)
 all_are_of p k i = of_append p.client (plans_from p.client 0 i.plans.bodies) i.items
@@ -82,9 +82,9 @@ enough_planned p k i =
 
 -- which of the client's bodies were taken
 own_taken : (p : Position) (k : Knowledge) (i : IsAt p k) → (seq : ℕ)
-    → found took_in k.number seq (own_items k) ≡ taken_of seq
+    → told_by_first took_in k.number seq (own_items k) ≡ taken_of seq
     (map numbered_action (plans_from p.client 0 i.plans.bodies) ++ actions_at p)
-own_taken p k i seq = (λ j. found took_in (i.number j) seq (own_are p k i j))
+own_taken p k i seq = (λ j. told_by_first took_in (i.number j) seq (own_are p k i j))
     ∙ (found_taken p.client seq (all_items p k i) (all_are_of p k i) ∙ ap (taken_of seq) (actions_are p k i))
 
 taken_are : (p : Position) (k : Knowledge) (i : IsAt p k) → Takes 0 (behind p + length p.taken)
@@ -125,11 +125,11 @@ added_at p q k after lane added i a same_client same_planned makers more =
         bodies = i.plans.bodies;
         enough = subst (λ (n : ℕ). n ≤ length i.plans.bodies) (sym same_planned) i.plans.enough;
         entries = (λ j. made_by (same_client j) (rest j).opening.entries)
-            ∙ (i.plans.entries ∙ ap (λ (c : ℕ). map recorded (plans_from c 0 i.plans.bodies)) (sym same_client));
+            ∙ (i.plans.entries ∙ ap (λ (c : ℕ). map as_recorded (plans_from c 0 i.plans.bodies)) (sym same_client));
       };
       items = i.items ++ added;
-      coded = a.mine_now ∙ (ap (λ (l : List Recorded). l ++ map recorded added) i.coded
-          ∙ sym (map-append recorded i.items added));
+      coded = a.mine_now ∙ (ap (λ (l : List Recorded). l ++ map as_recorded added) i.coded
+          ∙ sym (map-append as_recorded i.items added));
       makers = subst (λ (c : ℕ). AreOf c (i.items ++ added)) (sym same_client)
           (of_append p.client i.items added i.makers makers);
       actions = map-append numbered_action i.items added
@@ -238,7 +238,7 @@ dispatch_done_at client planned done more n k mid after i ask took many =
       coded = j.coded;
       makers = j.makers;
       actions = j.actions ∙ (ap (λ (m : ℕ). dispatches_from 0
-          done ++ (asks_from (length (joined done)) m ++ tooks_from (length (joined done)) more)) e
+          done ++ (asks_from (length (outcomes_in_order done)) m ++ tooks_from (length (outcomes_in_order done)) more)) e
           ∙ dispatch_done done more);
     }
 
@@ -264,9 +264,9 @@ no_plan_then k mid after a b = record {
   same_number = b.same_number ∙ a.same_number;
   same_joined = b.same_joined ∙ a.same_joined;
   added = a.added ++ b.added;
-  grew = b.grew ∙ (ap (λ (l : List Recorded). l ++ map recorded b.added) a.grew
-      ∙ (append_assoc k.mine (map recorded a.added) (map recorded b.added)
-      ∙ ap (λ (l : List Recorded). k.mine ++ l) (sym (map-append recorded a.added b.added))));
+  grew = b.grew ∙ (ap (λ (l : List Recorded). l ++ map as_recorded b.added) a.grew
+      ∙ (append_assoc k.mine (map as_recorded a.added) (map as_recorded b.added)
+      ∙ ap (λ (l : List Recorded). k.mine ++ l) (sym (map-append as_recorded a.added b.added))));
   none = none_append a.added b.added a.none b.none;
 }
 

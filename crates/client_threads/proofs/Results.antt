@@ -12,9 +12,9 @@ use Rattle.lane_record.specs.declared.outcome.Outcome.{Outcome}
 use Rattle.lane_record.specs.declared.item.Item.{Item}
 use Rattle.lane_record.specs.declared.item.What.{What}
 use Rattle.lane_record.specs.declared.item.What.TheVariants.{Plan, Seal, Ask, Took}
-use Rattle.lane_record.specs.Coding.{recorded}
+use Rattle.lane_record.specs.Coding.{as_recorded}
 use Rattle.lane_record.specs.NextEntry.{took_of}
-use Rattle.lane_record.specs.Dispatches.{Taken, NumberedAction, action_of, asks_from, dispatches_from, joined}
+use Rattle.lane_record.specs.Dispatches.{Taken, NumberedAction, action_of, asks_from, dispatches_from, outcomes_in_order}
 use Rattle.lane_record.specs.Dispatches.{numbered_action, tooks_from}
 use Rattle.client_threads.specs.declared.plan.ClientPlan.{ClientPlan}
 use Rattle.client_threads.specs.declared.result.ClientResult.{ClientResult}
@@ -64,7 +64,7 @@ get_first (z ∷ zs) ys zero x low e = e
 get_first (z ∷ zs) ys (suc i) x low e = get_first zs ys i x (omega arith) e
 
 dispatch_there : (seq : ℕ) (ds : List (List Outcome)) (i : ℕ) (outcome : Outcome)
-    → slice_get (joined ds) i ≡ Some outcome → Has (dispatches_from seq ds) (taken_now (seq + i) outcome)
+    → slice_get (outcomes_in_order ds) i ≡ Some outcome → Has (dispatches_from seq ds) (taken_now (seq + i) outcome)
 dispatch_there seq [] i outcome e = absurd (none-some outcome e)
 dispatch_there seq (o ∷ ds) i outcome e =
     let asks = asks_from seq (length o) in
@@ -72,8 +72,8 @@ dispatch_there seq (o ∷ ds) i outcome e =
     let rest = dispatches_from (seq + length o) ds in
     has_second asks (tooks ++ rest) (taken_now (seq + i) outcome) (elim (cases_lt i (length o)) [
       | inl low ↦ has_first tooks rest (taken_now (seq + i) outcome)
-          (took_there seq o i outcome (get_first o (joined ds) i outcome low e))
-      | inr le ↦ let k = get_second o (joined ds) i outcome le e in
+          (took_there seq o i outcome (get_first o (outcomes_in_order ds) i outcome low e))
+      | inr le ↦ let k = get_second o (outcomes_in_order ds) i outcome le e in
           let m = k.1 in
           let n : seq + length o + k.0 ≡ seq + i = omega arith in
           has_second tooks rest (taken_now (seq + i) outcome) (subst (λ (q : ℕ). Has rest (taken_now q outcome)) n
@@ -88,13 +88,13 @@ took_is (Took other give_ups) outcome e = let same : other ≡ outcome = cc in
     (give_ups, ap (λ (o : Outcome). Took o give_ups) same)
 
 outcome_read : (lane seq : ℕ) (plan : ClientPlan) (result : ClientResult) (pass : Joined)
-    (d : DidPlan lane plan result pass) → outcome_of result lane seq ≡ slice_get (joined d.dispatches) seq
+    (d : DidPlan lane plan result pass) → outcome_of result lane seq ≡ slice_get (outcomes_in_order d.dispatches) seq
 outcome_read lane seq plan result pass d = ap (option_and_then (λ (os : List Outcome). slice_get os seq)) d.outcomes
 
 pub outcomes_asked : (lane seq : ℕ) (plan : ClientPlan) (result : ClientResult) (pass : Joined)
     → DidPlan lane plan result pass → (outcome_of result lane seq ≡ None) ↔ (sum (counts_on lane plan) ≤ seq)
 outcomes_asked lane seq plan result pass d =
-    let all = joined d.dispatches in
+    let all = outcomes_in_order d.dispatches in
     let read = outcome_read lane seq plan result pass d in
     let long : length all ≡ sum (counts_on lane plan) = sum_joined d.dispatches ∙ ap sum d.cut in (
       λ none. elim ((slice_get_cases all seq).1) [
@@ -119,10 +119,10 @@ outcome_took lane seq plan result pass outcome d e =
     d.makers item.1 in
     let whole : item.0 ≡ took_of plan.client seq outcome what.0 =
     λ j. record { client = client j; seq = number j; what = what.1 j } in
-    let r : Recorded = recorded (took_of plan.client seq outcome what.0) in
+    let r : Recorded = as_recorded (took_of plan.client seq outcome what.0) in
     let there : slice_get pass.mine action.0 ≡ Some r = ap (λ (l : List Recorded). slice_get l action.0) d.coded
-    ∙ (slice_get-map recorded d.items action.0 ∙ (ap (option_map recorded) item.1
-    ∙ ap (λ (x : Item). Some (recorded x)) whole)) in record {
+    ∙ (slice_get-map as_recorded d.items action.0 ∙ (ap (option_map as_recorded) item.1
+    ∙ ap (λ (x : Item). Some (as_recorded x)) whole)) in record {
       give_ups = what.0;
       entry = (
         action.0,

@@ -10,8 +10,8 @@ use Rattle.lane_record.specs.declared.outcome.Outcome.{Outcome}
 use Rattle.lane_record.specs.declared.item.Item.{Item}
 use Rattle.lane_record.specs.Items.{plan_in}
 use Rattle.lane_record.specs.NextEntry.{took_of}
-use Rattle.lane_record.specs.Coding.{recorded}
-use Rattle.lane_record.specs.Dispatches.{dispatches_from, joined, numbered_action, plans_from}
+use Rattle.lane_record.specs.Coding.{as_recorded}
+use Rattle.lane_record.specs.Dispatches.{dispatches_from, outcomes_in_order, numbered_action, plans_from}
 use Rattle.hub_multiplexer.specs.Seats.{MasterState}
 use Rattle.client_threads.specs.declared.plan.Dispatch.{Dispatch}
 use Rattle.client_threads.specs.declared.plan.ClientPlan.{ClientPlan}
@@ -47,7 +47,7 @@ AreOfClientsFrom client (plan ∷ plans) = (plan.client ≡ client) × AreOfClie
 pub record HoldsPlans (client many : ℕ) (k : Knowledge) : Type 0 where
   pub bodies : List (List ℕ)
   pub enough : many ≤ length bodies
-  pub entries : made_by client k.opening.entries ≡ map recorded (plans_from client 0 bodies)
+  pub entries : made_by client k.opening.entries ≡ map as_recorded (plans_from client 0 bodies)
 
 -- ---- lane by lane
 
@@ -85,16 +85,16 @@ pub record DidPlan (lane : ℕ) (plan : ClientPlan) (result : ClientResult) (pas
   pub client : result.client ≡ plan.client
   pub dispatches : List (List Outcome)
   pub cut : map length dispatches ≡ counts_on lane plan
-  pub outcomes : slice_get result.lanes lane ≡ Some (joined dispatches)
+  pub outcomes : slice_get result.lanes lane ≡ Some (outcomes_in_order dispatches)
   pub items : List Item
   pub makers : AllByRecursion (λ (x : Item). x.client ≡ plan.client) items
-  pub coded : pass.mine ≡ map recorded items
+  pub coded : pass.mine ≡ map as_recorded items
   pub actions : map numbered_action items ≡ dispatches_from 0 dispatches
 
 -- the entries of a pass have the Took of a client's body of this number, with this outcome
 pub record HasTook (client seq : ℕ) (outcome : Outcome) (pass : Joined) : Type 0 where
   pub give_ups : ℕ
-  pub entry : Contains pass.mine (recorded (took_of client seq outcome give_ups))
+  pub entry : Contains pass.mine (as_recorded (took_of client seq outcome give_ups))
 
 -- what each client did there, in the order of the plans
 abbrev pub DidPlans : ℕ → List ClientPlan → List ClientResult → List Joined → Type 0
@@ -121,7 +121,7 @@ pub record HaveRunOn (plans : List ClientPlan) (results : List ClientResult) (la
 -- entries none of which is a Plan
 pub record HasNoPlan (pass : Joined) : Type 0 where
   pub items : List Item
-  pub coded : pass.mine ≡ map recorded items
+  pub coded : pass.mine ≡ map as_recorded items
   pub none : AllByRecursion (λ (x : Item). plan_in x.what ≡ None) items
 
 -- What the master knows of a lane whatever came of it: passes of the first clients were taken in, so many as seats were

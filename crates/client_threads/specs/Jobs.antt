@@ -4,7 +4,7 @@ use Rattle.std.specs.List.{AllByRecursion}
 use Rattle.turn_pass.specs.Pass.{Joined, Knowledge, TurnId}
 use Rattle.lane_record.specs.declared.item.Item.{Item}
 use Rattle.lane_record.specs.Items.{plan_in}
-use Rattle.lane_record.specs.Coding.{recorded}
+use Rattle.lane_record.specs.Coding.{as_recorded}
 use Rattle.client_threads.specs.declared.plan.ClientPlan.{ClientPlan}
 use Rattle.client_threads.specs.declared.result.ClientResult.{ClientResult}
 use Rattle.client_threads.specs.declared.job.Job.{Job}
@@ -24,7 +24,7 @@ pub record IsOwn (client : ℕ) (k : Knowledge) : Type 0 where
   pub number : k.number ≡ client
   pub alone : k.joined ≡ []
   pub items : List Item
-  pub coded : k.mine ≡ map recorded items
+  pub coded : k.mine ≡ map as_recorded items
   pub none : AllByRecursion (λ (x : Item). plan_in x.what ≡ None) items
 
 -- the client did so many bodies of its plan on each lane

@@ -5,8 +5,8 @@ use Rattle.turn_pass.specs.Pass.{Knowledge}
 use Rattle.lane_record.specs.declared.outcome.Outcome.{Outcome}
 use Rattle.lane_record.specs.declared.item.Item.{Item}
 use Rattle.lane_record.specs.Items.{plan_in}
-use Rattle.lane_record.specs.Coding.{recorded}
-use Rattle.lane_record.specs.Dispatches.{NumberedAction, asks_from, dispatches_from, joined, numbered_action}
+use Rattle.lane_record.specs.Coding.{as_recorded}
+use Rattle.lane_record.specs.Dispatches.{NumberedAction, asks_from, dispatches_from, outcomes_in_order, numbered_action}
 use Rattle.lane_record.specs.Dispatches.{tooks_from}
 use Rattle.hub_multiplexer.specs.Seats.{SeatState}
 use Rattle.client_threads.specs.Clients.{HoldsPlans}
@@ -24,7 +24,7 @@ pub record Position : Type 0 where
 
 -- how many bodies the dispatches before had: the number of the first body of the present one
 abbrev pub behind : Position → ℕ
-behind p = length (joined p.done)
+behind p = length (outcomes_in_order p.done)
 
 abbrev pub actions_at : Position → List NumberedAction
 actions_at p = dispatches_from 0 p.done ++ (asks_from (behind p) p.asks ++ tooks_from (behind p) p.taken)
@@ -34,7 +34,7 @@ pub record IsAt (p : Position) (k : Knowledge) : Type 0 where
   pub number : k.number ≡ p.client
   pub plans : HoldsPlans p.client p.planned k
   pub items : List Item
-  pub coded : k.mine ≡ map recorded items
+  pub coded : k.mine ≡ map as_recorded items
   pub makers : AllByRecursion (λ (x : Item). x.client ≡ p.client) items
   pub actions : map numbered_action items ≡ actions_at p
 
@@ -78,7 +78,7 @@ pub record HasDispatched (n : ℕ) (had have : List Outcome) (k after : Knowledg
 pub record HasRun (client planned : ℕ) (counts : List ℕ) (k : Knowledge) (have : List Outcome) : Type 0 where
   pub done : List (List Outcome)
   pub cut : map length done ≡ counts
-  pub outcomes : have ≡ joined done
+  pub outcomes : have ≡ outcomes_in_order done
   pub stands : IsAt (between client planned done) k
 
 -- the pass added entries none of which is a Plan
@@ -86,7 +86,7 @@ pub record AddsNoPlan (k after : Knowledge) : Type 0 where
   pub same_number : after.number ≡ k.number
   pub same_joined : after.joined ≡ k.joined
   pub added : List Item
-  pub grew : after.mine ≡ k.mine ++ map recorded added
+  pub grew : after.mine ≡ k.mine ++ map as_recorded added
   pub none : AllByRecursion (λ (x : Item). plan_in x.what ≡ None) added
 
 -- so many bodies more are planned, and none of those asked was taken

@@ -1,6 +1,6 @@
 -- What a command leaves, put together from what it did.
 use Rattle.std.proofs.Common.{◌≡◌, inl, inr, ℕ, List, [], ◌++◌, map, Result, Ok, Err, IfOk}
-use Rattle.std.proofs.Common.{refl, sym, ap, ◌∙◌, subst, append-nil, arith}
+use Rattle.std.proofs.Common.{refl, sym, ap, ◌∙◌, subst, append-nil}
 use Rattle.std.proofs.lemmas.List.{append_cancel_left}
 use Rattle.std.specs.Result.{IsErr, IsErrAnd}
 use Rattle.ipb_outside.specs.Pairs.{PairReport}
@@ -20,6 +20,13 @@ pub at_links : {L : Type 0} (shown : L → LinkReport) (old new links : List L) 
     → (holds : List LinkReport → Type 0) → Told shown old new holds → holds (map shown links)
 at_links shown old new links grown holds told =
     subst (λ found. holds (map shown found)) (append_cancel_left old told.0 links (sym told.1 ∙ grown)) told.2
+
+-- and of the same boards
+pub at_boards : {L B : Type 0} (shown : L → LinkReport) (old new links : List L) → new ≡ old ++ links
+    → {own boards : B} → own ≡ boards → (holds : B → List LinkReport → Type 0) → Told shown old new (holds own)
+    → holds boards (map shown links)
+at_boards shown old new links grown {own = own} same holds told =
+    subst (λ b. holds b (map shown links)) same (at_links shown old new links grown (holds own) told)
 
 pub same_Err : {T E : Type 0} (why other : E) → ◌≡◌ {A = Result T E} (Err why) (Err other) → why ≡ other
 same_Err why other same = cc
@@ -81,6 +88,25 @@ module _ {E : Type 0} (Served : List PairReport → List PairReport → Type 0) 
       (λ links. Leaves Served Fails rack_failed terms bytes made made (Ok answer) (no_pairs links))
   refusal_left shown kept terms bytes made answer deserved status =
       nothing_left shown kept terms bytes made (Ok answer) (inr (status, deserved)) (λ fault is failed. absurd cc)
+
+-- ---- links were made, and there is no answer
+
+pub failed_over : {L B E : Type 0} (shown : L → LinkReport) (old new : List L) {own boards : B} → own ≡ boards
+    → (Left Made : B → List LinkReport → Type 0) → Told shown old new (Left own) → Told shown old new (Made own)
+    → (Untouched : List LinkReport → Type 0) (rack : E) (Leaving : Result Answer E → List LinkReport → Type 0)
+    → ((why : E) (links : List LinkReport) → Left boards links → Made boards links → (why ≡ rack → Untouched links)
+    → Leaving (Err why) links)
+    → (result : Result Answer E) (fault : E) → IsErr result → IsErrAnd result (λ why. why ≡ fault)
+    → (fault ≡ rack → Told shown old new Untouched) → Told shown old new (Leaving result)
+failed_over shown old new same Left Made left made Untouched rack Leaving put (Ok answer) fault fails is untouched =
+    absurd cc
+failed_over shown old new same Left Made left made Untouched rack Leaving put (Err why) fault fails is untouched = (
+  left.0,
+  left.1,
+  put why (map shown left.0) (at_boards shown old new left.0 left.1 same Left left)
+      (at_boards shown old new left.0 left.1 same Made made)
+      (λ failed. at_links shown old new left.0 left.1 Untouched (untouched (sym is ∙ failed))),
+)
 
 -- ---- the same with another error, and with what follows of the pairs
 

@@ -8,7 +8,7 @@ use Rattle.std.specs.Str.{bytes_eq}
 use Rattle.ipb_base.specs.Digits.{digits_number}
 use Rattle.command_words.specs.declared.command.Command.{Command}
 use Rattle.command_words.specs.declared.command.Command.TheVariants.{Check, Load}
-use Rattle.command_words.specs.Commands.{alone, command_of, command_of_one, is_option, load_of, loaded, number_between}
+use Rattle.command_words.specs.Commands.{alone, command_of, command_of_one, is_option, load_of, load_command_of, number_between}
 use Rattle.command_words.specs.Commands.{serve_of, within}
 use Rattle.command_words.proofs.Alone.{one_of}
 
@@ -56,11 +56,11 @@ number_within : (number : Option ℕ) (count : ℕ)
 number_within None count is = absurd cc
 number_within (Some n) count is = tested 1 100000 n count (nat_le 1 n) (nat_le n 100000) refl is
 
-loaded_within : (text : List ℕ) (count : ℕ) → loaded text ≡ Some (Load count) → count ≤ 100000
+loaded_within : (text : List ℕ) (count : ℕ) → load_command_of text ≡ Some (Load count) → count ≤ 100000
 loaded_within text count is = number_within (digits_number 10 10 text) count is
 
 two_within : (a b : Bool) (text : List ℕ) (count : ℕ)
-    → (if a then Some (Check text) else if b then loaded text else None) ≡ Some (Load count) → count ≤ 100000
+    → (if a then Some (Check text) else if b then load_command_of text else None) ≡ Some (Load count) → count ≤ 100000
 two_within true b text count is = absurd cc
 two_within false true text count is = loaded_within text count is
 two_within false false text count is = absurd cc

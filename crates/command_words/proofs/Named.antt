@@ -5,9 +5,9 @@ use Rattle.std.proofs.Common.{Option, Some, None, refl, sym, ap, subst, inl, inr
 use Rattle.std.proofs.lemmas.Bool.Decides.{eqb_tells}
 use Rattle.std.specs.Str.{bytes_eq}
 use Rattle.command_words.specs.Commands.{command_of, is_option, number_between}
-use Rattle.command_words.specs.Commands.{load_of, loaded, serve_of, served}
+use Rattle.command_words.specs.Commands.{load_of, load_command_of, serve_of, serve_command_of}
 use Rattle.command_words.specs.Forms.{Form, words_of, IsAlone, IsNamed, IsPlain, ArePlain, alone, check, serve, load}
-use Rattle.command_words.specs.Read.{named}
+use Rattle.command_words.specs.Read.{command_named}
 use Rattle.command_words.specs.declared.command.Command.{Command}
 use Rattle.command_words.specs.declared.command.Command.TheVariants as command
 use Rattle.command_words.proofs.Digits.{hyphen}
@@ -27,9 +27,9 @@ plain_or (byte ∷ bytes) = elim (eqb_tells byte 45) [
 
 -- what two words are, by what the first of them is
 if_table : Bool → Bool → List ℕ → Option Command
-if_table is_check is_load word = if is_check then Some (command.Check word) else if is_load then loaded word else None
+if_table is_check is_load word = if is_check then Some (command.Check word) else if is_load then load_command_of word else None
 
-pub named_words : (s : Form) → ArePlain (words_of s) → command_of (words_of s) ≡ named s
+pub named_words : (s : Form) → ArePlain (words_of s) → command_of (words_of s) ≡ command_named s
 unfolding if_table
 named_words (alone name) plain = refl
 named_words (check table) plain =
@@ -71,7 +71,7 @@ one w never = elim (is_alone_or_none w) [
   | inl is ↦ absurd (never (alone w) is refl (plain_name w is, tt))
 ]
 
-no_load : (w : List ℕ) → is_option w ≡ true → loaded w ≡ None
+no_load : (w : List ℕ) → is_option w ≡ true → load_command_of w ≡ None
 no_load w option = ap load_of (no_number 1 100000 w option)
 
 -- behind `check`
@@ -104,7 +104,7 @@ two w t never = elim (is_word w (codes "check")) [
 
 three : (w p c : List ℕ) → Says (w ∷ p ∷ c ∷ []) → IsNone (w ∷ p ∷ c ∷ [])
 three w p c never = elim (is_word w (codes "serve")) [
-  | inl other ↦ ap (λ b. if b then served p c else None) other
+  | inl other ↦ ap (λ b. if b then serve_command_of p c else None) other
   | inr is ↦ subst (λ n. IsNone (n ∷ p ∷ c ∷ [])) (sym is) (elim (plain_or p) [
     | inl option ↦ ap (λ port. serve_of port (number_between 1 64 c)) (no_number 1 65535 p option)
     | inr port ↦ elim (plain_or c) [

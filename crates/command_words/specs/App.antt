@@ -11,17 +11,17 @@ use Rattle.clap.specs.declared.parser.matches.ArgMatches.{ArgMatches}
 use Rattle.command_words.specs.Forms.{Form, alone, check, serve, load, names_alone}
 
 -- a word that has to be there
-abbrev pub needed : Text → Rule
-needed name = record (new_rule name) { required = true }
+abbrev pub needed_word : Text → Rule
+needed_word name = record (new_rule name) { required = true }
 
 abbrev pub check_app : App
-check_app = with_rule (new_app (codes "check")) (needed (codes "table"))
+check_app = with_rule (new_app (codes "check")) (needed_word (codes "table"))
 
 abbrev pub serve_app : App
-serve_app = with_rule (with_rule (new_app (codes "serve")) (needed (codes "port"))) (needed (codes "count"))
+serve_app = with_rule (with_rule (new_app (codes "serve")) (needed_word (codes "port"))) (needed_word (codes "count"))
 
 abbrev pub load_app : App
-load_app = with_rule (new_app (codes "load")) (needed (codes "count"))
+load_app = with_rule (new_app (codes "load")) (needed_word (codes "count"))
 
 -- where this command is added to another, that one has its shape behind the others
 abbrev pub HasShapeBelow : Command → Type 0
@@ -40,8 +40,8 @@ bare =
     }) (new_app (codes "ipbus"))
 
 -- the commands that have words
-abbrev pub worded : App
-worded = with_subcommand (with_subcommand (with_subcommand bare check_app.top) serve_app.top) load_app.top
+abbrev pub worded_app : App
+worded_app = with_subcommand (with_subcommand (with_subcommand bare check_app.top) serve_app.top) load_app.top
 
 -- and commands of these names behind them, which have none
 abbrev pub with_alone : App → List Text → App
@@ -49,7 +49,7 @@ with_alone app [] = app
 with_alone app (name ∷ names) = with_alone (with_subcommand app (new_app name).top) names
 
 abbrev pub ipbus : App
-ipbus = with_alone worded names_alone
+ipbus = with_alone worded_app names_alone
 
 -- ---- what clap makes of the words of a command
 

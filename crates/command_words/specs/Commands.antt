@@ -42,14 +42,14 @@ abbrev pub load_of : Option ℕ → Option Command
 load_of None = None
 load_of (Some count) = Some (Load count)
 
-abbrev pub loaded : List ℕ → Option Command
-loaded count = load_of (number_between 1 most_operations count)
+abbrev pub load_command_of : List ℕ → Option Command
+load_command_of count = load_of (number_between 1 most_operations count)
 
 -- `check` and the name of a table, or `load` and this number
 abbrev pub command_of_two : List ℕ → List ℕ → Option Command
 command_of_two word other =
     if bytes_eq word (codes "check") && not (is_option other) then Some (Check other)
-    else if bytes_eq word (codes "load") then loaded other
+    else if bytes_eq word (codes "load") then load_command_of other
     else None
 
 -- where both numbers are right
@@ -59,12 +59,12 @@ serve_of (Some port) None = None
 serve_of (Some port) (Some count) = Some (Serve port count)
 
 -- a port from 1, and at least one connection
-abbrev pub served : List ℕ → List ℕ → Option Command
-served port count = serve_of (number_between 1 greatest_port port) (number_between 1 most_connections count)
+abbrev pub serve_command_of : List ℕ → List ℕ → Option Command
+serve_command_of port count = serve_of (number_between 1 greatest_port port) (number_between 1 most_connections count)
 
 -- `serve` and these two numbers
 abbrev pub command_of_three : List ℕ → List ℕ → List ℕ → Option Command
-command_of_three word port count = if bytes_eq word (codes "serve") then served port count else None
+command_of_three word port count = if bytes_eq word (codes "serve") then serve_command_of port count else None
 
 -- The command that words are: a name alone, as `run`; `check` and the name of a table, which is any text that does not
 -- begin with a hyphen; `serve`, a port and a number of connections; or `load` and a number of operations. A number is 1

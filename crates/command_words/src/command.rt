@@ -3,7 +3,7 @@
 ghost use Rattle.std.specs.Prelude.{◌≡◌, IfOk, map, string_bytes};
 ghost use Rattle.command_words.specs.Commands as spec;
 ghost use Rattle.ipb_base.specs.Numbers.{greatest_port};
-ghost use Rattle.command_words.specs.Read.{form_of, named};
+ghost use Rattle.command_words.specs.Read.{form_of, command_named};
 
 use crate::line::{Line, LineError, read_line};
 use ipb_base::{NoMemory, Text, number_in_text};
@@ -63,7 +63,7 @@ pub fn command_of(alloc: Global, words: &[String]) -> Result<Option<Command>, No
 
 /// The command of a line, if its numbers are right.
 fn command_in(alloc: Global, line: Line<'_>) -> Result<Option<Command>, NoMemory>
-    ensures { IfOk result (λ command. command ≡ named (form_of line.entry)) }
+    ensures { IfOk result (λ command. command ≡ command_named (form_of line.entry)) }
 {
     match line {
         Line::Alone(name) => Ok(alone(name)),
@@ -93,7 +93,7 @@ fn alone(name: &str) -> Option<Command>
 
 /// The command to serve, if its numbers are right.
 fn serve(port: &[u8], count: &[u8]) -> Option<Command>
-    ensures { result ≡ spec.served port.now count.now }
+    ensures { result ≡ spec.serve_command_of port.now count.now }
 {
     let port = port_in(port)?;
     let count = number_between(1, MAX_CONNECTIONS, count)?;
@@ -102,7 +102,7 @@ fn serve(port: &[u8], count: &[u8]) -> Option<Command>
 
 /// The command to run a generated session, if its number is right.
 fn load(count: &[u8]) -> Option<Command>
-    ensures { result ≡ spec.loaded count.now }
+    ensures { result ≡ spec.load_command_of count.now }
 {
     let count = number_between(1, MAX_OPERATIONS, count)?;
     Some(Command::Load { count })

@@ -4,7 +4,7 @@ ghost use Rattle.std.specs.Prelude.{◌≡◌, ℕ, true, false, map, IfOk, IsEr
 ghost use Rattle.clap.specs.Words.{app_of, rule_of, rows_of, found_of, first_of};
 ghost use Rattle.command_words.specs.Forms.{Form, words_of, IsNamed, IsPlain, ArePlain, texts};
 ghost use Rattle.clap.specs.Simple.{new_app, with_rule};
-ghost use Rattle.command_words.specs.App.{bare, ipbus, needed, serve_app, with_alone as with_names, worded};
+ghost use Rattle.command_words.specs.App.{bare, ipbus, needed_word, serve_app, with_alone as with_names, worded_app};
 ghost use Rattle.command_words.specs.App.{HasShapeBelow, IsFor, name_of, rows_of_form};
 ghost use Rattle.command_words.specs.Read.{form_of};
 
@@ -41,7 +41,7 @@ pub(crate) enum LineError {
 
 /// A word of a command, which has to be there.
 fn needed<'a>(alloc: Global, name: &'a str) -> Arg<'a>
-    ensures rule { rule_of result ≡ needed name.entry.now }
+    ensures rule { rule_of result ≡ needed_word name.entry.now }
     ensures local { result.global ≡ false }
 {
     Arg::new(alloc, name).required(true)
@@ -49,7 +49,7 @@ fn needed<'a>(alloc: Global, name: &'a str) -> Arg<'a>
 
 /// A command of this name with one word, which has to be there.
 fn with_word<'a>(alloc: Global, name: &'a str, word: &'a str) -> Result<Command<'a>, AllocError>
-    ensures app { IfOk result (λ c. app_of c ≡ with_rule (new_app name.entry.now) (needed word.entry.now)) }
+    ensures app { IfOk result (λ c. app_of c ≡ with_rule (new_app name.entry.now) (needed_word word.entry.now)) }
     ensures below { IfOk result HasShapeBelow }
 {
     Command::new(alloc, name).arg(needed(alloc, word))
@@ -79,7 +79,7 @@ fn bare<'a>(alloc: Global) -> Command<'a>
 
 /// The program with the commands that have words.
 fn worded<'a>(alloc: Global) -> Result<Command<'a>, AllocError>
-    ensures { IfOk result (λ c. app_of c ≡ worded) }
+    ensures { IfOk result (λ c. app_of c ≡ worded_app) }
 {
     let check = with_word(alloc, "check", "table")?;
     let serve = serve(alloc)?;

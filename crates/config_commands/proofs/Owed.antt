@@ -43,27 +43,42 @@ written_by law session steps links status text can writes = record {
   told = writes.told;
 }
 
-leaves_by : (command : ConfigCommand) (terms : Terms) (bytes : List ℕ)
-    → ((specs : List LinkSpec) (links : List LinkReport) → RanSomeFor command bytes specs links
+-- What a command leaves whose terms use boards by its documents, where what it makes of such bytes is done.
+module _ (command : ConfigCommand) (terms : Terms) (bytes : List ℕ)
+    (uses : (specs : List LinkSpec) (links : List LinkReport) → RanSomeFor command bytes specs links
     → terms.Uses bytes specs links)
-    → (session : Session) (steps : List (List Step)) (made makes : List LinkSpec)
-    (result : Result Answer RunFault) (links : List LinkReport) → IsReadFor command bytes session steps
-    → RunLeaves session steps made makes result links
-    → IfOk result (λ answer. Owes terms bytes (no_pairs links) answer.status answer.text.items)
-    → Leaves NoneCame IsRunFailure Rack terms bytes made makes result (no_pairs links)
-leaves_by command terms bytes uses session steps made makes result links read leaves owed =
-    let made' = leaves.links_made in
-    let ran : RanSomeFor command bytes made'.specs links =
-    record { session = session; steps = steps; read = read; first = made'.first; left = leaves.left } in record {
-      specs = made'.specs;
-      grown = made'.grown;
-      counted = made'.many;
-      used = inr (uses made'.specs links ran);
-      back = none_came;
-      owed = owed;
-      behind = λ fault is failed. uses made'.specs links ran;
-      untouched = leaves.untouched;
-    }
+    (done : (session : Session) (steps : List Step) (links : List LinkReport) (status : ℕ) (text : List ℕ)
+    → IsReadFor command bytes session (steps ∷ []) → CanRunSteps session (steps ∷ [])
+    → Writes session (steps ∷ []) links status text → terms.Done bytes (no_pairs links) status text)
+    (session : Session) where
+  owed : (steps : List (List Step)) (links : List LinkReport) (result : Result Answer RunFault)
+      → IsReadFor command bytes session steps → length steps ≡ 1 → CanRunSteps session steps
+      → IfOk result (λ answer. Writes session steps links answer.status answer.text.items)
+      → IfOk result (λ answer. Owes terms bytes (no_pairs links) answer.status answer.text.items)
+  owed [] links result read alone can writes = absurd cc
+  owed (one ∷ other ∷ others) links result read alone can writes = absurd (omega (arith, alone))
+  owed (steps ∷ []) links (Err why) read alone can writes = tt
+  owed (steps ∷ []) links (Ok answer) read alone can writes =
+      inl (done session steps links answer.status answer.text.items read can writes)
+
+  leaves_by : (steps handed : List (List Step)) (made makes : List LinkSpec) (result : Result Answer RunFault)
+      (links : List LinkReport) → IsReadFor command bytes session steps → length steps ≡ 1
+      → CanRunSteps session steps → handed ≡ steps → RunLeaves session handed made makes result links
+      → Leaves NoneCame IsRunFailure Rack terms bytes made makes result (no_pairs links)
+  leaves_by steps handed made makes result links read alone can same left =
+      let leaves = subst (λ steps. RunLeaves session steps made makes result links) same left in
+      let made' = leaves.links_made in
+      let ran : RanSomeFor command bytes made'.specs links =
+      record { session = session; steps = steps; read = read; first = made'.first; left = leaves.left } in record {
+        specs = made'.specs;
+        grown = made'.grown;
+        counted = made'.many;
+        used = inr (uses made'.specs links ran);
+        back = none_came;
+        owed = owed steps links result read alone can leaves.writes;
+        behind = λ fault is failed. uses made'.specs links ran;
+        untouched = leaves.untouched;
+      }
 
 -- ---- save
 
@@ -74,32 +89,21 @@ SavedLaw = (bytes : List ℕ) (session : Session) (steps : List Step) (runs : Li
     → run_status (transcript_of (steps ∷ []) runs).clients ≡ 0
     → IsOpeningText session (state_text session.boards (client_lines runs 0 steps))
 
-save_owed : RunsLaw → SavedLaw → (bytes : List ℕ) (session : Session) (steps : List (List Step))
-    (links : List LinkReport) (result : Result Answer RunFault) → IsSavable bytes session steps
-    → length steps ≡ 1 → CanRunSteps session steps
-    → IfOk result (λ answer. Writes session steps links answer.status answer.text.items)
-    → IfOk result (λ answer. Owes save_terms bytes (no_pairs links) answer.status answer.text.items)
-save_owed runs law bytes session [] links result is alone can writes = absurd cc
-save_owed runs law bytes session (one ∷ other ∷ others) links result is alone can writes = absurd (omega (arith, alone))
-save_owed runs law bytes session (steps ∷ []) links (Err why) is alone can writes = tt
-save_owed runs law bytes session (steps ∷ []) links (Ok answer) is alone can writes =
-    inl (record {
+pub save_leaves : RunsLaw → SavedLaw → (bytes : List ℕ) (session : Session) (steps handed : List (List Step))
+    (made makes : List LinkSpec) (result : Result Answer RunFault) (links : List LinkReport)
+    → IsSavable bytes session steps → length steps ≡ 1 → CanRunSteps session steps → handed ≡ steps
+    → RunLeaves session handed made makes result links
+    → Leaves NoneCame IsRunFailure Rack save_terms bytes made makes result (no_pairs links)
+save_leaves runs law bytes session =
+    leaves_by save_command save_terms bytes (λ specs links ran. ran)
+    (λ session steps links status text is can writes. record {
       session = session;
       steps = steps;
       savable = is;
-      written = written_by runs session steps links answer.status answer.text.items can writes;
+      written = written_by runs session steps links status text can writes;
       opening = λ zero tell. subst (IsOpeningText session) (sym writes.spelled)
           (law bytes session steps writes.runs links is writes.boards tell (sym writes.told ∙ zero));
-    })
-
-pub save_leaves : RunsLaw → SavedLaw → (bytes : List ℕ) (session : Session) (steps : List (List Step))
-    (made makes : List LinkSpec) (result : Result Answer RunFault) (links : List LinkReport)
-    → IsSavable bytes session steps
-    → length steps ≡ 1 → CanRunSteps session steps → RunLeaves session steps made makes result links
-    → Leaves NoneCame IsRunFailure Rack save_terms bytes made makes result (no_pairs links)
-save_leaves runs law bytes session steps made makes result links is alone can leaves =
-    leaves_by save_command save_terms bytes (λ specs links ran. ran) session steps made makes result links is leaves
-    (save_owed runs law bytes session steps links result is alone can leaves.writes)
+    }) session
 
 -- ---- apply
 
@@ -111,29 +115,18 @@ AppliedLaw = (bytes : List ℕ) (session : Session) (steps : List Step) (runs : 
     → IsAppliedText session (apply_command.work is.document).values
     (state_text session.boards (client_lines runs 0 steps))
 
-apply_owed : RunsLaw → AppliedLaw → (bytes : List ℕ) (session : Session) (steps : List (List Step))
-    (links : List LinkReport) (result : Result Answer RunFault) → IsApplicable bytes session steps
-    → length steps ≡ 1 → CanRunSteps session steps
-    → IfOk result (λ answer. Writes session steps links answer.status answer.text.items)
-    → IfOk result (λ answer. Owes apply_terms bytes (no_pairs links) answer.status answer.text.items)
-apply_owed runs law bytes session [] links result is alone can writes = absurd cc
-apply_owed runs law bytes session (one ∷ other ∷ others) links result is alone can writes = absurd (omega (arith, alone))
-apply_owed runs law bytes session (steps ∷ []) links (Err why) is alone can writes = tt
-apply_owed runs law bytes session (steps ∷ []) links (Ok answer) is alone can writes =
-    inl (record {
+pub apply_leaves : RunsLaw → AppliedLaw → (bytes : List ℕ) (session : Session) (steps handed : List (List Step))
+    (made makes : List LinkSpec) (result : Result Answer RunFault) (links : List LinkReport)
+    → IsApplicable bytes session steps → length steps ≡ 1 → CanRunSteps session steps → handed ≡ steps
+    → RunLeaves session handed made makes result links
+    → Leaves NoneCame IsRunFailure Rack apply_terms bytes made makes result (no_pairs links)
+apply_leaves runs law bytes session =
+    leaves_by apply_command apply_terms bytes (λ specs links ran. ran)
+    (λ session steps links status text is can writes. record {
       session = session;
       steps = steps;
       applicable = is;
-      written = written_by runs session steps links answer.status answer.text.items can writes;
+      written = written_by runs session steps links status text can writes;
       applied = λ zero tell. subst (IsAppliedText session (apply_command.work is.document).values) (sym writes.spelled)
           (law bytes session steps writes.runs links is writes.boards tell (sym writes.told ∙ zero));
-    })
-
-pub apply_leaves : RunsLaw → AppliedLaw → (bytes : List ℕ) (session : Session) (steps : List (List Step))
-    (made makes : List LinkSpec) (result : Result Answer RunFault) (links : List LinkReport)
-    → IsApplicable bytes session steps
-    → length steps ≡ 1 → CanRunSteps session steps → RunLeaves session steps made makes result links
-    → Leaves NoneCame IsRunFailure Rack apply_terms bytes made makes result (no_pairs links)
-apply_leaves runs law bytes session steps made makes result links is alone can leaves =
-    leaves_by apply_command apply_terms bytes (λ specs links ran. ran) session steps made makes result links is leaves
-    (apply_owed runs law bytes session steps links result is alone can leaves.writes)
+    }) session

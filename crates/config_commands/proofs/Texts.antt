@@ -17,7 +17,7 @@ use Rattle.script_steps.specs.declared.operation.Step.{Step}
 use Rattle.toml.specs.Data.{Members}
 use Rattle.transcript.specs.Lines.{run_status, transcript_of}
 use Rattle.world_model.specs.Settings.{Limits}
-use Rattle.config_store.specs.Kept.{indexed}
+use Rattle.config_store.specs.Kept.{indexed_boards}
 use Rattle.config_input.specs.Deserved.{IsAsked}
 use Rattle.config_input.specs.Work.{Work}
 
@@ -36,10 +36,10 @@ pub script_steps : PermittedLaw → (work : Work) (session : Session) (policy : 
     (runs : List BoardRun) (links : List LinkReport) (asks : IsAsked work session policy (steps ∷ []))
     → AreRunsOver session.settings 0 session.boards (steps ∷ []) runs links
     → run_status (transcript_of (steps ∷ []) runs).clients ≡ 0
-    → steps ≡ steps_from session.boards asks.registers 1 (work.script (indexed session.boards asks.registers))
+    → steps ≡ steps_from session.boards asks.registers 1 (work.script (indexed_boards session.boards asks.registers))
 script_steps law work session policy steps runs links asks are zero =
     let boards = session.boards in
-    let lines = work.script (indexed boards asks.registers) in
+    let lines = work.script (indexed_boards boards asks.registers) in
     let permitted =
     law session.settings boards asks.registers (lines ∷ []) policy runs links
     (subst (λ all. AreRunsOver session.settings 0 boards all runs links) asks.meant are)

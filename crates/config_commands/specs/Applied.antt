@@ -6,7 +6,7 @@ use Rattle.script_steps.specs.declared.operation.Step.{Step}
 use Rattle.script_lang.specs.declared.session.Session.{Session}
 use Rattle.session_input.specs.Deserved.{AreCompiled}
 use Rattle.config_store.specs.declared.state.StateEntry.{StateEntry}
-use Rattle.config_store.specs.Kept.{indexed, kept_of}
+use Rattle.config_store.specs.Kept.{indexed_boards, kept_of}
 use Rattle.config_laws.specs.Applied.{AreAmong, AreApplied}
 use Rattle.config_laws.specs.Saved.{saved_text}
 use Rattle.config_input.specs.Deserved.{IsApplicable}
@@ -20,7 +20,7 @@ pub record IsAppliedText (session : Session) (state : List StateEntry) (text : L
   pub registers : List RegisterMap
   pub compiled : AreCompiled session registers
   pub entries : List StateEntry
-  pub applied : AreApplied session.boards state (kept_of (indexed session.boards registers)) entries
+  pub applied : AreApplied session.boards state (kept_of (indexed_boards session.boards registers)) entries
   pub among : AreAmong state entries
   pub spelled : text ≡ saved_text session.boards entries
 

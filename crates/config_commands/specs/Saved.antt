@@ -6,7 +6,7 @@ use Rattle.script_steps.specs.declared.operation.Step.{Step}
 use Rattle.script_lang.specs.declared.session.Session.{Session}
 use Rattle.session_input.specs.Deserved.{AreCompiled}
 use Rattle.config_store.specs.declared.state.StateEntry.{StateEntry}
-use Rattle.config_store.specs.Kept.{indexed, kept_of}
+use Rattle.config_store.specs.Kept.{indexed_boards, kept_of}
 use Rattle.config_laws.specs.Saved.{AreSaved, saved_text}
 use Rattle.config_input.specs.Deserved.{IsSavable}
 use Rattle.config_commands.specs.Written.{AllTell, IsWritten}
@@ -18,7 +18,7 @@ pub record IsOpeningText (session : Session) (text : List ℕ) : Type 0 where
   pub registers : List RegisterMap
   pub compiled : AreCompiled session registers
   pub entries : List StateEntry
-  pub saved : AreSaved session.boards (kept_of (indexed session.boards registers)) entries
+  pub saved : AreSaved session.boards (kept_of (indexed_boards session.boards registers)) entries
   pub spelled : text ≡ saved_text session.boards entries
 
 -- Of the bytes of the input, what the links that were given back show, the status and the text:

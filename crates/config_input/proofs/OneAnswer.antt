@@ -22,7 +22,7 @@ use Rattle.session_input.proofs.Moved.{buses_moved, compiled_moved, first_moved,
 use Rattle.session_input.proofs.NoText.{no_text}
 use Rattle.session_input.proofs.OneAnswer.{all_right, bus_apart, no_line, one_break, one_indexes, same_line, table_apart}
 use Rattle.session_input.proofs.OneText.{kind_of, not_both_sizes, of_parts, same_broken, same_kind, same_policy, unbroken}
-use Rattle.config_store.specs.Kept.{indexed}
+use Rattle.config_store.specs.Kept.{indexed_boards}
 use Rattle.config_store.specs.States.{StoreFault}
 use Rattle.config_input.specs.declared.refusal.ConfigRefusal.{ConfigRefusal}
 use Rattle.config_input.specs.declared.refusal.ConfigRefusal.TheVariants.{OfSession, OfState}
@@ -91,19 +91,19 @@ module _ (tables : TableLaws) (work : Work) (s : Session) where
   one_index xs ys one other = one_indexes tables s xs ys one.compiled other.compiled
 
   faults_at : (xs ys : List RegisterMap) → HaveBuses s xs → HaveBuses s ys
-      → work.faults (indexed s.boards xs) ≡ work.faults (indexed s.boards ys)
-  faults_at xs ys one other = ap (λ indexes. work.faults (indexed s.boards indexes)) (one_index xs ys one other)
+      → work.faults (indexed_boards s.boards xs) ≡ work.faults (indexed_boards s.boards ys)
+  faults_at xs ys one other = ap (λ indexes. work.faults (indexed_boards s.boards indexes)) (one_index xs ys one other)
 
   same_fault : (a b : StoreFault) → IsFirstFault work s a → IsFirstFault work s b → a ≡ b
   same_fault a b one other =
       let same = faults_at one.indexes other.indexes one.boards other.boards in
-      same_some (slice_get (work.faults (indexed s.boards one.indexes)) 0) a b one.first
+      same_some (slice_get (work.faults (indexed_boards s.boards one.indexes)) 0) a b one.first
       (ap (λ (faults : List StoreFault). slice_get faults 0) same ∙ other.first)
 
-  fault_apart : (xs : List RegisterMap) → HaveBuses s xs → work.faults (indexed s.boards xs) ≡ [] → (a : StoreFault)
+  fault_apart : (xs : List RegisterMap) → HaveBuses s xs → work.faults (indexed_boards s.boards xs) ≡ [] → (a : StoreFault)
       → IsFirstFault work s a → ⊥
   fault_apart xs have none a one =
-      not_first (work.faults (indexed s.boards one.indexes)) a
+      not_first (work.faults (indexed_boards s.boards one.indexes)) a
       (faults_at one.indexes xs one.boards have ∙ none) one.first
 
   lines_at : (xs ys : List RegisterMap) → HaveBuses s xs → HaveBuses s ys
@@ -160,7 +160,7 @@ module _ (tables : TableLaws) (work : Work) (s : Session) where
       → IsAsked work s policy more → steps ≡ more
   one_steps policy steps more one other =
       one.meant
-      ∙ (ap (λ xs. ruled_scripts policy (names_of s.boards) (steps_of s.boards xs (work.script (indexed s.boards xs) ∷ [])))
+      ∙ (ap (λ xs. ruled_scripts policy (names_of s.boards) (steps_of s.boards xs (work.script (indexed_boards s.boards xs) ∷ [])))
       (one_index one.registers other.registers one.boards other.boards) ∙ sym other.meant)
 
 -- ---- sessions that are the same

@@ -11,7 +11,7 @@ use Rattle.script_lang.specs.declared.session.Session.{Session}
 use Rattle.script_lang.specs.Scripts.{script_faults, steps_of}
 use Rattle.session_input.specs.declared.reading.Runnable.{Runnable}
 use Rattle.session_input.specs.Deserved.{HasIndex, HaveBuses}
-use Rattle.config_store.specs.Kept.{indexed}
+use Rattle.config_store.specs.Kept.{indexed_boards}
 use Rattle.config_store.specs.Order.{AreInOrder}
 use Rattle.config_store.specs.Refusals.{TellsFirst}
 use Rattle.config_store.specs.States.{StoreFault}
@@ -37,8 +37,8 @@ one_each session indexes have = as_many session.tables session.boards indexes ha
 -- `shown` are the indexes as they are lent to a call
 pub asked_by : (work : Work) (session : Session) (policy : Option (List Rule)) (indexes shown : List RegisterMap)
     (lines : List (List ℕ)) (result : Result Runnable ConfigUnread) → shown ≡ indexes → HaveBuses session indexes
-    → work.faults (indexed session.boards indexes) ≡ [] → AreInOrder work.values
-    → lines ≡ work.script (indexed session.boards indexes)
+    → work.faults (indexed_boards session.boards indexes) ≡ [] → AreInOrder work.values
+    → lines ≡ work.script (indexed_boards session.boards indexes)
     → OnOk result (script_faults session.boards shown session.scripts ≡ [])
     → IfOk result (λ read. read.steps.items ≡ ruled_scripts policy (names_of session.boards)
     (steps_of session.boards shown (lines ∷ [])))
@@ -76,7 +76,7 @@ front_first (y ∷ xs) ys x first = first
 -- a fault of the front of those of a session
 pub front_told : (work : Work) (session : Session) (indexes : List RegisterMap) (front rest : List StoreFault)
     (refusal : StoreRefusal) → HaveBuses session indexes
-    → work.faults (indexed session.boards indexes) ≡ front ++ rest → TellsFirst front refusal
+    → work.faults (indexed_boards session.boards indexes) ≡ front ++ rest → TellsFirst front refusal
     → Tells (BreaksInWork work session) (of_store refusal)
 front_told work session indexes front rest NoMemory have are told = tt
 front_told work session indexes front rest (At board name why) have are told =
@@ -90,7 +90,7 @@ front_told work session indexes front rest (At board name why) have are told =
 -- a fault behind a front that has none
 pub behind_told : (work : Work) (session : Session) (indexes : List RegisterMap) (front rest : List StoreFault)
     (refusal : StoreRefusal) → HaveBuses session indexes
-    → work.faults (indexed session.boards indexes) ≡ front ++ rest → front ≡ [] → TellsFirst rest refusal
+    → work.faults (indexed_boards session.boards indexes) ≡ front ++ rest → front ≡ [] → TellsFirst rest refusal
     → Tells (BreaksInWork work session) (of_store refusal)
 behind_told work session indexes front rest NoMemory have are none told = tt
 behind_told work session indexes front rest (At board name why) have are none told =

@@ -18,7 +18,7 @@ use Rattle.session_input.specs.Deserved.{TellsLine, session_part}
 use Rattle.session_input.specs.Numbers.{document_bytes}
 use Rattle.config_store.specs.declared.refusal.StoreRefusal.{StoreRefusal}
 use Rattle.config_store.specs.declared.refusal.StoreRefusal.TheVariants as store
-use Rattle.config_store.specs.Kept.{indexed}
+use Rattle.config_store.specs.Kept.{indexed_boards}
 use Rattle.config_store.specs.Order.{AreInOrder}
 use Rattle.config_store.specs.States.{StoreFault}
 use Rattle.config_input.specs.declared.refusal.ConfigRefusal.{ConfigRefusal}
@@ -66,11 +66,11 @@ pub record IsAsked (work : Work) (session : Session) (policy : Option (List Rule
   where
     pub registers : List RegisterMap
     pub boards : HaveBuses session registers
-    pub right : work.faults (indexed session.boards registers) ≡ []
+    pub right : work.faults (indexed_boards session.boards registers) ≡ []
     pub ordered : AreInOrder work.values
     pub faultless : script_faults session.boards registers session.scripts ≡ []
     pub meant : steps ≡ ruled_scripts policy (names_of session.boards)
-        (steps_of session.boards registers (work.script (indexed session.boards registers) ∷ []))
+        (steps_of session.boards registers (work.script (indexed_boards session.boards registers) ∷ []))
 
 -- some board's table does not compile; or all do, and some board's ranges are no bus
 abbrev pub BreaksBoards : Session → Refusal → Type 0
@@ -80,13 +80,13 @@ BreaksBoards session refusal = BreaksCompiling session.tables session.boards ref
 pub record IsFirstFault (work : Work) (session : Session) (fault : StoreFault) : Type 0 where
   pub indexes : List RegisterMap
   pub boards : HaveBuses session indexes
-  pub first : slice_get (work.faults (indexed session.boards indexes)) 0 ≡ Some fault
+  pub first : slice_get (work.faults (indexed_boards session.boards indexes)) 0 ≡ Some fault
 
 -- there is no such fault, and a line of the session's own scripts is faulty
 pub record BreaksOwnScripts (work : Work) (session : Session) (refusal : Refusal) : Type 0 where
   pub indexes : List RegisterMap
   pub boards : HaveBuses session indexes
-  pub right : work.faults (indexed session.boards indexes) ≡ []
+  pub right : work.faults (indexed_boards session.boards indexes) ≡ []
   pub first : TellsLine (script_faults session.boards indexes session.scripts) refusal
 
 -- The first rule that a session breaks: of the tables, of the ranges, of the configuration, and then of the scripts.

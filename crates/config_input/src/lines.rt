@@ -1,7 +1,7 @@
 //! The line of a refusal.
 
 ghost use Rattle.std.specs.Prelude.{◌≡◌, ◌++◌, IfOk, codes, string_bytes};
-ghost use Rattle.session_input.specs.Lines.{shown};
+ghost use Rattle.session_input.specs.Lines.{shown_path};
 ghost use Rattle.config_input.specs.Lines as spec;
 ghost use Rattle.config_input.specs.Names as names;
 
@@ -31,7 +31,7 @@ impl ConfigRefusal {
 
 /// An empty name is shown as a hyphen.
 fn shown(name: &str) -> &str
-    ensures { result.now ≡ shown name.now }
+    ensures { result.now ≡ shown_path name.now }
 {
     if name.is_empty() { "-" } else { name }
 }

@@ -9,7 +9,7 @@ use Rattle.board_bus.specs.Transactions.{outcome}
 use Rattle.node_tree.specs.declared.register.Register.{Register}
 use Rattle.script_lang.specs.Operations.{write_op}
 use Rattle.config_store.specs.Puts.{put_all}
-use Rattle.config_laws.specs.Writes.{AreDone, CanBeWritten, ValueFor, after_writes, puts_at, written}
+use Rattle.config_laws.specs.Writes.{AreDone, CanBeWritten, ValueFor, after_writes, puts_at, write_outcome}
 
 abbrev pub Here : Type 0
 Here = (cells : CellMap) (r : Register) (value word : ℕ) → r.mask < 2 ^ 32 → FitsMask r.mask value → value < 2 ^ 32
@@ -41,7 +41,7 @@ pub puts_there : Here → Elsewhere → StaysWord → (cells : CellMap) (writes 
 puts_there here elsewhere stays cells [] address word can done small read = read
 puts_there here elsewhere stays cells (write ∷ writes) address word can done small read =
     let r = write.register in
-    let next = (written cells write).cells in
+    let next = (write_outcome cells write).cells in
     elim (cases_Bool (r.address == address)) [
       | inl same ↦
           let at : r.address ≡ address = eqb-true r.address address same in

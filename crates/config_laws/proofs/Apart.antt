@@ -11,7 +11,7 @@ use Rattle.node_tree.specs.Maps.{Name, RegisterMap}
 use Rattle.node_tree.specs.Overlaps.{overlap}
 use Rattle.node_tree.specs.declared.register.Register.{Register}
 use Rattle.script_lang.proofs.Kept.{mapped_none}
-use Rattle.config_store.specs.Kept.{IndexedBoard, IsKept, kept, kept_of}
+use Rattle.config_store.specs.Kept.{IndexedBoard, IsKept, registers_kept, kept_of}
 use Rattle.config_store.specs.Overlaps.{overlapping_name, overlapping_names}
 use Rattle.config_store.specs.Refusals.{count_faults, keeping_faults, overlap_faults}
 use Rattle.config_store.proofs.KeptLines.{no_more}
@@ -61,10 +61,10 @@ flat_none f (y ∷ xs) (suc k) x none at = flat_none f xs k x (no_more (f y) (fl
 
 -- no kept register of a board overlaps another
 pub none_overlaps : (boards : List IndexedBoard) (k : ℕ) (b : IndexedBoard) → keeping_faults boards ≡ []
-    → slice_get boards k ≡ Some b → overlapping_names [] (kept b.1) ≡ []
+    → slice_get boards k ≡ Some b → overlapping_names [] (registers_kept b.1) ≡ []
 none_overlaps boards k b none at =
     let both = no_more (flat_map overlap_faults boards) (count_faults (length (kept_of boards))) none in
-    mapped_none _ (overlapping_names [] (kept b.1)) (flat_none overlap_faults boards k b both.0 at)
+    mapped_none _ (overlapping_names [] (registers_kept b.1)) (flat_none overlap_faults boards k b both.0 at)
 
 abbrev pub OverlapInABit : Type 0
 OverlapInABit = (index : RegisterMap) (name other : Name) (r s : Register) → IsKept index name r → IsKept index other s
@@ -80,7 +80,7 @@ no_bits law index name other r s is also apart same = elim (eqb_tells (bit_and r
 
 -- the masks of kept registers of two names at one address share no bit
 pub masks_apart : OverlapInABit → (index : RegisterMap) (name other : Name) (r s : Register)
-    → overlapping_names [] (kept index) ≡ [] → IsKept index name r → IsKept index other s → name ≢ other
+    → overlapping_names [] (registers_kept index) ≡ [] → IsKept index name r → IsKept index other s → name ≢ other
     → r.address ≡ s.address → bit_and r.mask s.mask ≡ 0
 masks_apart law index name other r s none is also differ same =
     let at = kept_place index name r is in
@@ -88,16 +88,16 @@ masks_apart law index name other r s none is also differ same =
     elim (cases_lt at.0 there.0) [
       | inl less ↦
           no_bits law index name other r s is also
-          (pair_apart [] (kept index) none at.0 there.0 (name, r) (other, s) less at.1 there.1) same
+          (pair_apart [] (registers_kept index) none at.0 there.0 (name, r) (other, s) less at.1 there.1) same
       | inr more ↦ elim (cases_lt there.0 at.0) [
         | inl less ↦
             and_comm r.mask s.mask
             ∙ no_bits law index other name s r also is
-            (pair_apart [] (kept index) none there.0 at.0 (other, s) (name, r) less there.1 at.1) (sym same)
+            (pair_apart [] (registers_kept index) none there.0 at.0 (other, s) (name, r) less there.1 at.1) (sym same)
         | inr few ↦
             let place : at.0 ≡ there.0 = omega (arith, more, few) in
             let one : (name, r) ≡ (other, s) =
-            same_Some (name, r) (other, s) (sym at.1 ∙ (ap (slice_get (kept index)) place ∙ there.1)) in
+            same_Some (name, r) (other, s) (sym at.1 ∙ (ap (slice_get (registers_kept index)) place ∙ there.1)) in
             absurd (differ (ap (λ (e : Name × Register). e.0) one))
       ]
     ]

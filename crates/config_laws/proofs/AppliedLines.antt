@@ -13,7 +13,7 @@ use Rattle.board_bus.specs.Transactions.{first_fault, outcome}
 use Rattle.board_node.specs.declared.spec.BoardSpec.{BoardSpec}
 use Rattle.board_node.specs.declared.spec.LinkSpec.{LinkSpec}
 use Rattle.node_tree.specs.Maps.{Name, RegisterMap}
-use Rattle.script_steps.specs.Rulings.{Asked, asked}
+use Rattle.script_steps.specs.Rulings.{Asked, asked_operations}
 use Rattle.script_steps.specs.declared.operation.RegOp.{RegOp}
 use Rattle.script_steps.specs.declared.operation.Step.{Step}
 use Rattle.script_steps.specs.declared.operation.Verb.{Verb}
@@ -21,9 +21,9 @@ use Rattle.script_steps.specs.declared.operation.Verb.TheVariants as verb
 use Rattle.transcript.specs.declared.line.OpLine.{OpLine}
 use Rattle.transcript.specs.declared.line.OpResult.{OpResult}
 use Rattle.transcript.specs.declared.line.OpResult.TheVariants.{Value}
-use Rattle.transcript.specs.Results.{shown}
+use Rattle.transcript.specs.Results.{shown_result}
 use Rattle.config_store.specs.declared.state.StateEntry.{StateEntry}
-use Rattle.config_store.specs.Kept.{IndexedBoard, KeptRegister, indexed}
+use Rattle.config_store.specs.Kept.{IndexedBoard, KeptRegister, indexed_boards}
 use Rattle.config_store.specs.Meanings.{read_of, write_of}
 use Rattle.config_store.specs.Text.{by_value, is_read, is_read_on, register_text, registers_text, value_of, value_text}
 use Rattle.config_laws.specs.Applied.{AreApplied, IsApplied}
@@ -50,15 +50,15 @@ none_first specs name op before asks (line ∷ rest) writes turns later =
 
 pub none_read : (specs : List BoardSpec) (boards : List IndexedBoard) (name : Name) (entries : List StateEntry)
     (steps : List Step) → AllZip (IsGiven boards) entries steps → (before : List Asked) (lines : List OpLine)
-    → ShowTurns specs before (asked steps) lines → filter (is_read_on name) lines ≡ []
+    → ShowTurns specs before (asked_operations steps) lines → filter (is_read_on name) lines ≡ []
 none_read specs boards name [] [] given before [] turns = refl
 none_read specs boards name [] [] given before (line ∷ lines) turns = absurd turns
 none_read specs boards name [] (step ∷ steps) given before lines turns = absurd given
 none_read specs boards name (e ∷ entries) [] given before lines turns = absurd given
 none_read specs boards name (e ∷ entries) (step ∷ steps) given before lines turns =
     let is = given.0 in
-    none_first specs name (write_of is.line is.place e.name is.register e.value) before (asked steps) lines refl
-    (subst (λ (s : Step). ShowTurns specs before (asked (s ∷ steps)) lines) is.is turns)
+    none_first specs name (write_of is.line is.place e.name is.register e.value) before (asked_operations steps) lines refl
+    (subst (λ (s : Step). ShowTurns specs before (asked_operations (s ∷ steps)) lines) is.is turns)
     (λ rest shows. none_read specs boards name entries steps given.1
     (before ++ undenied (write_of is.line is.place e.name is.register e.value) ∷ []) rest shows)
 
@@ -89,13 +89,13 @@ pub record IsAppliedText (specs : List BoardSpec) (state : List StateEntry) (kep
   pub text : (board : Name) → registers_text (filter (is_read_on board) lines) ≡ values_text entries board
 
 module _ (specs : List BoardSpec) (indexes : List RegisterMap) (state : List StateEntry) (writes : List Asked)
-    (shows : (r : KeptRegister) (step : Step) (is : IsRead (indexed specs indexes) r step) (word : ℕ)
+    (shows : (r : KeptRegister) (step : Step) (is : IsRead (indexed_boards specs indexes) r step) (word : ℕ)
     → read_word (bus_behind is.board.0.link is.place writes) r.register.address ≡ Ok word → IsShown specs state r word)
   where
     abbrev SameBus : List Asked → Type 0
     SameBus before = (link : LinkSpec) (board : ℕ) → bus_behind link board before ≡ bus_behind link board writes
 
-    read_text : (r : KeptRegister) (kept : List KeptRegister) (step : Step) (is : IsRead (indexed specs indexes) r step)
+    read_text : (r : KeptRegister) (kept : List KeptRegister) (step : Step) (is : IsRead (indexed_boards specs indexes) r step)
         (before asks : List Asked) (lines : List OpLine) → SameBus before
         → ShowTurns specs before (undenied (read_of is.line is.place r.name r.register) ∷ asks) lines
         → ((rest : List OpLine)
@@ -116,8 +116,8 @@ module _ (specs : List BoardSpec) (indexes : List RegisterMap) (state : List Sta
         let value = field read.0 r.register.mask in
         let it = shows r step is read.0 read.1 in
         let result : line.result ≡ Value (value ∷ []) =
-        turn.result' ∙ ap (λ (c : CellMap). shown verb.Read r.register.mask (outcome c op).values) same
-        ∙ ap (shown verb.Read r.register.mask) read.2 in
+        turn.result' ∙ ap (λ (c : CellMap). shown_result verb.Read r.register.mask (outcome c op).values) same
+        ∙ ap (shown_result verb.Read r.register.mask) read.2 in
         let one : register_text line ≡ entry_text it.entry =
         ap (λ (n : Name). by_value n line.result (value_of line.result)) turn.name'
         ∙ ap (λ (res : OpResult). by_value r.name res (value_of res)) result
@@ -138,8 +138,8 @@ module _ (specs : List BoardSpec) (indexes : List RegisterMap) (state : List Sta
               (others.text board);
         }
 
-    pub reads_text : (kept : List KeptRegister) (steps : List Step) → AllZip (IsRead (indexed specs indexes)) kept steps
-        → (before : List Asked) (lines : List OpLine) → SameBus before → ShowTurns specs before (asked steps) lines
+    pub reads_text : (kept : List KeptRegister) (steps : List Step) → AllZip (IsRead (indexed_boards specs indexes)) kept steps
+        → (before : List Asked) (lines : List OpLine) → SameBus before → ShowTurns specs before (asked_operations steps) lines
         → IsAppliedText specs state kept lines
     reads_text [] [] reads before [] bus turns = record { entries = []; applied = tt; text = λ board. refl }
     reads_text [] [] reads before (line ∷ lines) bus turns = absurd turns
@@ -148,7 +148,7 @@ module _ (specs : List BoardSpec) (indexes : List RegisterMap) (state : List Sta
     reads_text (r ∷ kept) (step ∷ steps) reads before lines bus turns =
         let is = reads.0 in
         let op = read_of is.line is.place r.name r.register in
-        read_text r kept step is before (asked steps) lines bus
-        (subst (λ (s : Step). ShowTurns specs before (asked (s ∷ steps)) lines) is.is turns)
+        read_text r kept step is before (asked_operations steps) lines bus
+        (subst (λ (s : Step). ShowTurns specs before (asked_operations (s ∷ steps)) lines) is.is turns)
         (λ rest shows. reads_text kept steps reads.1 (before ++ undenied op ∷ []) rest
         (λ link board. bus_read link board before op r.register.address 1 refl ∙ bus link board) shows)

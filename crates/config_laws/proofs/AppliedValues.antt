@@ -20,15 +20,15 @@ use Rattle.board_node.specs.OpeningWords.{LinkNamesWords, OpensOnWords}
 use Rattle.node_tree.specs.Maps.{Name, RegisterMap}
 use Rattle.node_tree.specs.declared.register.Register.{Register}
 use Rattle.script_lang.specs.OwnNames.{HaveOwnNames}
-use Rattle.script_steps.specs.Rulings.{Asked, allowed, asked, asked_in}
+use Rattle.script_steps.specs.Rulings.{Asked, allowed_operations, asked_operations, asked_in}
 use Rattle.script_steps.specs.declared.operation.Step.{Step}
 use Rattle.script_steps.specs.declared.operation.Step.TheVariants.{Dispatch}
 use Rattle.script_plans.specs.Plan.{ops_on}
 use Rattle.transcript.specs.declared.line.OpLine.{OpLine}
-use Rattle.board_history.specs.Runs.{opening_of}
+use Rattle.board_history.specs.Runs.{opens_with}
 use Rattle.board_history.proofs.Lists.{all_at}
 use Rattle.config_store.specs.declared.state.StateEntry.{StateEntry}
-use Rattle.config_store.specs.Kept.{KeptRegister, indexed, kept}
+use Rattle.config_store.specs.Kept.{KeptRegister, indexed_boards}
 use Rattle.config_store.specs.Meanings.{HasWord}
 use Rattle.config_store.specs.Puts.{AreApartFrom}
 use Rattle.config_store.specs.Refusals.{keeping_faults}
@@ -58,7 +58,7 @@ nothing_there address = by_test (nat_lt address (2 ^ 32)) where
   by_test true = tt
   by_test false = tt
 
-pub opens : (link : LinkSpec) → LinkNamesWords link → HoldsWords (opening_of link)
+pub opens : (link : LinkSpec) → LinkNamesWords link → HoldsWords (opens_with link)
 opens (Sim mtu buffers first ranges fates) words = opening-words ranges words
 opens (Udp address port wait) words = nothing_there
 
@@ -86,33 +86,33 @@ contains xs k x at = (k, slice_get_within xs k x at, get_or_from_slice_get xs k 
 
 module _ (own_shows : OwnShows) (others_stay : OthersStay) (here : WrittenHere) (elsewhere : Elsewhere)
     (law : OverlapInABit) (specs : List BoardSpec) (indexes : List RegisterMap) (own : HaveOwnNames specs)
-    (fields : HaveFields (indexed specs indexes)) (none : keeping_faults (indexed specs indexes) ≡ [])
+    (fields : HaveFields (indexed_boards specs indexes)) (none : keeping_faults (indexed_boards specs indexes) ≡ [])
     (words : AllByRecursion OpensOnWords specs) (state : List StateEntry) (values : AllByRecursion HasWord state)
-    (writes : List Step) (given : AllZip (IsGiven (indexed specs indexes)) state writes) (lines : List OpLine)
-    (shows : ShowTurns specs [] (asked writes) lines) where
-  module _ (r : KeptRegister) (step : Step) (is : IsRead (indexed specs indexes) r step) (word : ℕ)
-      (read : read_word (bus_behind is.board.0.link is.place (asked writes)) r.register.address ≡ Ok word) where
+    (writes : List Step) (given : AllZip (IsGiven (indexed_boards specs indexes)) state writes) (lines : List OpLine)
+    (shows : ShowTurns specs [] (asked_operations writes) lines) where
+  module _ (r : KeptRegister) (step : Step) (is : IsRead (indexed_boards specs indexes) r step) (word : ℕ)
+      (read : read_word (bus_behind is.board.0.link is.place (asked_operations writes)) r.register.address ≡ Ok word) where
     abbrev cells : CellMap
-    cells = opening_of is.board.0.link
+    cells = opens_with is.board.0.link
 
     abbrev vs : List ValueFor
-    vs = written_on (indexed specs indexes) is.place state writes given
+    vs = written_on (indexed_boards specs indexes) is.place state writes given
 
     on : slice_get specs is.place ≡ Some is.board.0
     on = first_of specs indexes is.place is.board is.there
 
-    ops : ops_on is.place (allowed (asked writes)) ≡ map op_for vs
-    ops = ops_written (indexed specs indexes) is.place state writes given
+    ops : ops_on is.place (allowed_operations (asked_operations writes)) ≡ map op_for vs
+    ops = ops_written (indexed_boards specs indexes) is.place state writes given
 
-    bus : bus_behind is.board.0.link is.place (asked writes) ≡ after_writes cells vs
+    bus : bus_behind is.board.0.link is.place (asked_operations writes) ≡ after_writes cells vs
     bus = ap (after_ops cells) ops ∙ after_same cells vs
 
     done : AreDone cells vs
     done = done_same cells vs
-        (subst (AreAllDone cells) ops (turns_done specs is.place is.board.0 on [] (asked writes) lines shows))
+        (subst (AreAllDone cells) ops (turns_done specs is.place is.board.0 on [] (asked_operations writes) lines shows))
 
     can : AllByRecursion CanBeWritten vs
-    can = all_can (indexed specs indexes) fields is.place state writes given values
+    can = all_can (indexed_boards specs indexes) fields is.place state writes given values
 
     now : read_word (after_writes cells vs) r.register.address ≡ Ok word
     now = subst (λ (c : CellMap). read_word c r.register.address ≡ Ok word) bus read
@@ -169,34 +169,34 @@ module _ (own_shows : OwnShows) (others_stay : OthersStay) (here : WrittenHere) 
 
     register_shown : IsShown specs state r word
     register_shown = elim (written_or_left law specs indexes own fields is.place is.board is.there
-        (none_overlaps (indexed specs indexes) is.place is.board none is.there) r is.called is.kept' state writes given
+        (none_overlaps (indexed_boards specs indexes) is.place is.board none is.there) r is.called is.kept' state writes given
         values) [
           | inl it ↦ given_value it
           | inr it ↦ opening_value it
         ]
 
   reads_shown : (kept : List KeptRegister) (reads : List Step)
-      → AllZip (IsRead (indexed specs indexes)) kept reads → (others : List OpLine)
-      → ShowTurns specs (asked writes) (asked reads) others → IsAppliedText specs state kept others
+      → AllZip (IsRead (indexed_boards specs indexes)) kept reads → (others : List OpLine)
+      → ShowTurns specs (asked_operations writes) (asked_operations reads) others → IsAppliedText specs state kept others
   reads_shown kept reads are others turns =
-      reads_text specs indexes state (asked writes) register_shown kept reads are (asked writes) others
+      reads_text specs indexes state (asked_operations writes) register_shown kept reads are (asked_operations writes) others
       (λ link board. refl) turns
 
 -- ---- the whole
 
-asked_both : (xs ys : List Step) → asked (xs ++ Dispatch ∷ ys) ≡ asked xs ++ asked ys
+asked_both : (xs ys : List Step) → asked_operations (xs ++ Dispatch ∷ ys) ≡ asked_operations xs ++ asked_operations ys
 asked_both xs ys = filter_map-append asked_in xs (Dispatch ∷ ys)
 
 pub applied_text : OwnShows → OthersStay → WrittenHere → Elsewhere → OverlapInABit → (specs : List BoardSpec)
-    (indexes : List RegisterMap) → HaveOwnNames specs → HaveFields (indexed specs indexes)
-    → keeping_faults (indexed specs indexes) ≡ [] → AllByRecursion OpensOnWords specs → (state : List StateEntry)
+    (indexes : List RegisterMap) → HaveOwnNames specs → HaveFields (indexed_boards specs indexes)
+    → keeping_faults (indexed_boards specs indexes) ≡ [] → AllByRecursion OpensOnWords specs → (state : List StateEntry)
     → AllByRecursion HasWord state → (kept : List KeptRegister) (writes reads : List Step)
-    → AllZip (IsGiven (indexed specs indexes)) state writes → AllZip (IsRead (indexed specs indexes)) kept reads
-    → (lines : List OpLine) → ShowTurns specs [] (asked (writes ++ Dispatch ∷ reads)) lines
+    → AllZip (IsGiven (indexed_boards specs indexes)) state writes → AllZip (IsRead (indexed_boards specs indexes)) kept reads
+    → (lines : List OpLine) → ShowTurns specs [] (asked_operations (writes ++ Dispatch ∷ reads)) lines
     → (shown : List StateEntry) × AreApplied specs state kept shown × (state_text specs lines ≡ saved_text specs shown)
 applied_text own_shows others_stay here elsewhere law specs indexes own fields none words state values kept writes reads
     given are lines turns =
-    let parts = parted specs [] (asked writes) (asked reads) lines
+    let parts = parted specs [] (asked_operations writes) (asked_operations reads) lines
     (subst (λ (asks : List Asked). ShowTurns specs [] asks lines) (asked_both writes reads) turns) in
     let it = reads_shown own_shows others_stay here elsewhere law specs indexes own fields none words state values writes
     given parts.front parts.first kept reads are parts.back parts.second in
@@ -205,6 +205,6 @@ applied_text own_shows others_stay here elsewhere law specs indexes own fields n
     ap (λ (ls : List OpLine). registers_text (filter (is_read_on board) ls)) parts.parts
     ∙ ap registers_text (filter-append (is_read_on board) parts.front parts.back)
     ∙ ap (λ (ls : List OpLine). registers_text (ls ++ filter (is_read_on board) parts.back))
-    (none_read specs (indexed specs indexes) board state writes given [] parts.front parts.first)
+    (none_read specs (indexed_boards specs indexes) board state writes given [] parts.front parts.first)
     ∙ it.text board in
     (it.entries, it.applied, same_text lines it.entries specs text)

@@ -28,7 +28,7 @@ use Rattle.reply_join.specs.declared.answer.Answer.TheVariants.{Skipped}
 use Rattle.reply_join.specs.Joining.{IsJoined, answer_of, answers_to}
 use Rattle.transcript.specs.declared.line.OpResult.{OpResult}
 use Rattle.transcript.specs.declared.line.OpResult.TheVariants.{Value}
-use Rattle.transcript.specs.Ends.{answered}
+use Rattle.transcript.specs.Ends.{answer_result}
 use Rattle.transcript.specs.Results.{is_good}
 use Rattle.config_laws.specs.Reads.{IsWordRead, base_of}
 
@@ -103,12 +103,12 @@ cell_word cells base word (Some cell) at holds read =
 
 -- ---- what was skipped, or failed
 
-skipped_bad : (n j : ℕ) → is_good (answered (slice_get (replicate n Skipped) j)) ≡ false
+skipped_bad : (n j : ℕ) → is_good (answer_result (slice_get (replicate n Skipped) j)) ≡ false
 skipped_bad zero j = refl
 skipped_bad (suc n) zero = refl
 skipped_bad (suc n) (suc j) = skipped_bad n j
 
-fault_bad : (tid : ℕ) (f : BusFault) → is_good (answered (Some (answer_of (reply_by tid (Err f))))) ≡ false
+fault_bad : (tid : ℕ) (f : BusFault) → is_good (answer_result (Some (answer_of (reply_by tid (Err f))))) ≡ false
 fault_bad tid ReadError = refl
 fault_bad tid WriteError = refl
 fault_bad tid ReadTimeout = refl
@@ -219,37 +219,37 @@ module _ (success : Successes) (failure : Failures) where
 
     module _ (cells : CellMap) (holds : HoldsWords cells) where
       behind : (tid : ℕ) (op : Op) (part : List Op) (p : Reply) (ps : List Reply) (j : ℕ) (next : Op)
-          → IsThere cells next (answered (slice_get (answers_to (requests_from (tid + 1) part) ps) j))
+          → IsThere cells next (answer_result (slice_get (answers_to (requests_from (tid + 1) part) ps) j))
           → IsThere cells next
-          (answered (slice_get (answers_to (requests_from tid (op ∷ part)) (p ∷ ps)) (suc j)))
+          (answer_result (slice_get (answers_to (requests_from tid (op ∷ part)) (p ∷ ps)) (suc j)))
       behind tid op part p ps j next there =
           let asked = requests_from (tid + 1) part in
           let left : length asked - length ps ≡ length (requests_from tid (op ∷ part)) - length (p ∷ ps) =
           omega arith in
-          subst (λ n. IsThere cells next (answered (slice_get (map answer_of ps ++ replicate n Skipped) j))) left there
+          subst (λ n. IsThere cells next (answer_result (slice_get (map answer_of ps ++ replicate n Skipped) j))) left there
 
       failed : (tid : ℕ) (f : BusFault) (op next : Op) (p : Reply) (ps : List Reply) (n i : ℕ)
           → reply_by tid (Err f) ≡ p → ps ≡ []
-          → IsThere cells next (answered (slice_get (map answer_of (p ∷ ps) ++ replicate n Skipped) i))
+          → IsThere cells next (answer_result (slice_get (map answer_of (p ∷ ps) ++ replicate n Skipped) i))
       failed tid f op next p ps n zero same none =
-          bad_is_there cells next (answered (Some (answer_of p)))
-          (subst (λ (q : Reply). is_good (answered (Some (answer_of q))) ≡ false) same (fault_bad tid f))
+          bad_is_there cells next (answer_result (Some (answer_of p)))
+          (subst (λ (q : Reply). is_good (answer_result (Some (answer_of q))) ≡ false) same (fault_bad tid f))
       failed tid f op next p ps n (suc j) same none =
           subst (λ (qs : List Reply). IsThere cells next
-          (answered (slice_get (map answer_of qs ++ replicate n Skipped) j))) (sym none)
-          (bad_is_there cells next (answered (slice_get (replicate n Skipped) j)) (skipped_bad n j))
+          (answer_result (slice_get (map answer_of qs ++ replicate n Skipped) j))) (sym none)
+          (bad_is_there cells next (answer_result (slice_get (replicate n Skipped) j)) (skipped_bad n j))
 
       -- where the first read gave its word
       word_first : (tid base count word : ℕ) (part : List Op) (p : Reply) (ps : List Reply) (i : ℕ) (op : Op)
           → read_word cells base ≡ Ok word → reply_by tid (Ok word) ≡ p
           → slice_get (Read base count ∷ part) i ≡ Some op
           → ((j : ℕ) → slice_get part j ≡ Some op
-          → IsThere cells op (answered (slice_get (answers_to (requests_from (tid + 1) part) ps) j)))
+          → IsThere cells op (answer_result (slice_get (answers_to (requests_from (tid + 1) part) ps) j)))
           → IsThere cells op
-          (answered (slice_get (answers_to (requests_from tid (Read base count ∷ part)) (p ∷ ps)) i))
+          (answer_result (slice_get (answers_to (requests_from tid (Read base count ∷ part)) (p ∷ ps)) i))
       word_first tid base count word part p ps zero op is same at later =
-          subst (λ (x : Op). IsThere cells x (answered (Some (answer_of p)))) (same_Some (Read base count) op at)
-          (subst (λ (q : Reply). IsThere cells (Read base count) (answered (Some (answer_of q)))) same
+          subst (λ (x : Op). IsThere cells x (answer_result (Some (answer_of p)))) (same_Some (Read base count) op at)
+          (subst (λ (q : Reply). IsThere cells (Read base count) (answer_result (Some (answer_of q)))) same
           (λ good. (word, is, refl)))
       word_first tid base count word part p ps (suc j) op is same at later =
           behind tid (Read base count) part p ps j op (later j at)
@@ -262,9 +262,9 @@ module _ (success : Successes) (failure : Failures) where
           → ((ps : List Reply) → AreReplies ps
           → (run_body cells (requests_words (requests_from (first + 1) part))).reply ≡ replies_words ps → (j : ℕ)
           → slice_get part j ≡ Some op
-          → IsThere cells op (answered (slice_get (answers_to (requests_from (first + 1) part) ps) j)))
+          → IsThere cells op (answer_result (slice_get (answers_to (requests_from (first + 1) part) ps) j)))
           → IsThere cells op
-          (answered (slice_get (answers_to (requests_from first (Read base count ∷ part)) replies) i))
+          (answer_result (slice_get (answers_to (requests_from first (Read base count ∷ part)) replies) i))
       with_first first base count part [] (Ok word) is ranges one items spelled i op at later =
           let rest = requests_words (requests_from (first + 1) part) in
           let same = sym (ap (λ (e : Executed). e.reply)
@@ -299,7 +299,7 @@ module _ (success : Successes) (failure : Failures) where
           → AllByRecursion IsWordRead part → AreReplies replies
           → (run_body cells (requests_words (requests_from first part))).reply ≡ replies_words replies → (i : ℕ)
           (op : Op) → slice_get part i ≡ Some op
-          → IsThere cells op (answered (slice_get (answers_to (requests_from first part) replies) i))
+          → IsThere cells op (answer_result (slice_get (answers_to (requests_from first part) replies) i))
       answers_there first [] replies ranges reads items spelled i op at = absurd cc
       answers_there first (Read base count ∷ part) replies ranges reads items spelled i op at =
           with_first first base count part replies (read_word cells base) refl ranges reads.0 items spelled i op at
@@ -314,11 +314,11 @@ module _ (success : Successes) (failure : Failures) where
     pub joined_there : OneList → (cells : CellMap) (part : List Op) (answers : List Answer) (i : ℕ) (op : Op)
         → HoldsWords cells → AreRequests (body_requests part) → AllByRecursion IsWordRead part
         → IsJoined (body_words part) (run_body cells (body_words part)).reply answers → slice_get part i ≡ Some op
-        → IsThere cells op (answered (slice_get answers i))
+        → IsThere cells op (answer_result (slice_get answers i))
     joined_there one_list cells part answers i op holds ranges reads joined at =
         let is = joined.0 in
         let same : is.requests ≡ body_requests part =
         one_list is.requests (body_requests part) is.ranges ranges (sym is.asked) in
         let there = answers_there cells holds 0 part is.replies ranges reads is.items is.spelled i op at in
-        subst (λ (list : List Answer). IsThere cells op (answered (slice_get list i)))
+        subst (λ (list : List Answer). IsThere cells op (answer_result (slice_get list i)))
         (sym (joined.1 ∙ ap (λ (rs : List Request). answers_to rs is.replies) same)) there

@@ -4,12 +4,12 @@ use Rattle.std.proofs.Common.{refl, sym, ap, ◌∙◌, subst, if◌then◌else�
 use Rattle.std.specs.Prelude.{IsOk}
 use Rattle.std.specs.Int.{w32, bit_not}
 use Rattle.std.proofs.lemmas.Bool.{eqb-true}
-use Rattle.masked_fields.specs.Field.{FitsMask, put_field, shifted}
+use Rattle.masked_fields.specs.Field.{FitsMask, put_field, shifted_value}
 use Rattle.masked_fields.proofs.Masks.{joined}
 use Rattle.transaction_codec.specs.declared.request.Op.TheVariants.{Write}
 use Rattle.board_bus.specs.declared.fault.BusFault.{BusFault}
 use Rattle.board_bus.specs.Cells.{CellMap, read_word, write_word}
-use Rattle.board_bus.specs.Transactions.{◌>>=◌, Modified, Writing, masked, modify, of_modifying, of_writing, outcome}
+use Rattle.board_bus.specs.Transactions.{◌>>=◌, Modified, Writing, masked_word, modify, of_modifying, of_writing, outcome}
 use Rattle.board_bus.specs.Transactions.{write_on, write_words}
 use Rattle.node_tree.specs.declared.register.Register.{Register}
 use Rattle.script_lang.specs.Operations.{is_full, masked_write, write_op}
@@ -103,8 +103,8 @@ write_here again full cells r value word small fits value_small word_small read 
           ∙ ap (λ v. Ok v) (sym (ap (λ m. put_field word m value) (eqb-true r.mask 0xffffffff is)
           ∙ full word value word_small value_small))
       | false ↦ λ is fine.
-          change_here again cells r.address word (masked (bit_not w32 r.mask) (shifted r.mask value)) read fine
-          ∙ ap (λ v. Ok v) (joined r.mask word (shifted r.mask value) small fits)
+          change_here again cells r.address word (masked_word (bit_not w32 r.mask) (shifted_value r.mask value)) read fine
+          ∙ ap (λ v. Ok v) (joined r.mask word (shifted_value r.mask value) small fits)
     ] refl
 
 pub write_elsewhere : ReadElsewhere → (cells : CellMap) (r : Register) (value other : ℕ)
@@ -116,5 +116,5 @@ write_elsewhere elsewhere cells r value other apart = elim (is_full r.mask) as
     other ≡ read_word cells other) [
       | true ↦ λ _. plain_elsewhere elsewhere cells r.address value other apart
       | false ↦ λ _.
-          change_elsewhere elsewhere cells r.address other (masked (bit_not w32 r.mask) (shifted r.mask value)) apart
+          change_elsewhere elsewhere cells r.address other (masked_word (bit_not w32 r.mask) (shifted_value r.mask value)) apart
     ] refl

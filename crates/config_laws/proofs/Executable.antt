@@ -5,7 +5,7 @@ use Rattle.std.specs.List.{AllByRecursion, AllZip}
 use Rattle.std.proofs.lemmas.Bool.{cases_Bool}
 use Rattle.std.proofs.lemmas.Nat.{and_le_r}
 use Rattle.ipb_base.proofs.AllLemmas.{AllByRecursion-append}
-use Rattle.masked_fields.specs.Field.{FitsMask, shifted}
+use Rattle.masked_fields.specs.Field.{FitsMask, shifted_value}
 use Rattle.mtu_packer.specs.Cutting.{CanBeCut, HasWords}
 use Rattle.node_tree.specs.declared.register.Register.{Register}
 use Rattle.script_lang.specs.Operations.{is_full, write_op}
@@ -18,9 +18,9 @@ use Rattle.config_store.specs.Meanings.{HasWord}
 use Rattle.config_laws.specs.Fields.{HasField, HaveFields}
 use Rattle.config_laws.proofs.Givens.{IsGiven, IsRead}
 
-small_shifted : (mask value : ℕ) → mask < 2 ^ 32 → FitsMask mask value → shifted mask value < 2 ^ 32
+small_shifted : (mask value : ℕ) → mask < 2 ^ 32 → FitsMask mask value → shifted_value mask value < 2 ^ 32
 small_shifted mask value small fits =
-    let low : bit_and (shifted mask value) mask ≤ mask = and_le_r (shifted mask value) mask in
+    let low : bit_and (shifted_value mask value) mask ≤ mask = and_le_r (shifted_value mask value) mask in
     subst (λ n. n < 2 ^ 32) fits (omega (arith, low, small))
 
 write_cut : (r : Register) (value : ℕ) → HasField r → CanBeCut (write_op r (value ∷ []))

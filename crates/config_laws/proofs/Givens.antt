@@ -6,14 +6,14 @@ use Rattle.std.specs.FinMap.{get}
 use Rattle.std.proofs.lemmas.Bool.{cases_lt, eqb-true}
 use Rattle.std.proofs.lemmas.Option.{get_or_from_slice_get, same_Some, slice_get_within}
 use Rattle.board_node.specs.declared.spec.BoardSpec.{BoardSpec}
-use Rattle.masked_fields.specs.Field.{FitsMask, shifted}
+use Rattle.masked_fields.specs.Field.{FitsMask, shifted_value}
 use Rattle.node_tree.specs.Maps.{RegisterMap}
 use Rattle.node_tree.specs.declared.register.Register.{Register}
 use Rattle.script_lang.specs.OwnNames.{HaveOwnNames}
 use Rattle.script_steps.specs.declared.operation.Step.{Step}
 use Rattle.script_steps.specs.declared.operation.Step.TheVariants.{Do}
 use Rattle.config_store.specs.declared.state.StateEntry.{StateEntry}
-use Rattle.config_store.specs.Kept.{IndexedBoard, IsKept, KeptRegister, indexed, kept_of}
+use Rattle.config_store.specs.Kept.{IndexedBoard, IsKept, KeptRegister, indexed_boards, kept_of}
 use Rattle.config_store.specs.Meanings.{Reads, Writes, read_of, write_of}
 use Rattle.config_store.specs.Refusals.{entry_faults}
 use Rattle.config_store.proofs.KeptLines.{IsKeptOf, MayBeWritten, entries_written, entry_written, kept_of_has}
@@ -75,17 +75,17 @@ pub record IsRead (boards : List IndexedBoard) (kept : KeptRegister) (step : Ste
 
 module _ (specs : List BoardSpec) (indexes : List RegisterMap) (own : HaveOwnNames specs) where
   -- two boards of one name are one
-  pub one_board : (i j : ℕ) (a b : IndexedBoard) → slice_get (indexed specs indexes) i ≡ Some a
-      → slice_get (indexed specs indexes) j ≡ Some b → a.0.name ≡ b.0.name → (i ≡ j) × (a ≡ b)
+  pub one_board : (i j : ℕ) (a b : IndexedBoard) → slice_get (indexed_boards specs indexes) i ≡ Some a
+      → slice_get (indexed_boards specs indexes) j ≡ Some b → a.0.name ≡ b.0.name → (i ≡ j) × (a ≡ b)
   one_board i j a b at there same =
       let place = one_place specs i j a.0 b.0 own (first_of specs indexes i a at) (first_of specs indexes j b there) same
       in (
         place,
-        same_Some a b (sym at ∙ (ap (slice_get (indexed specs indexes)) place ∙ there)),
+        same_Some a b (sym at ∙ (ap (slice_get (indexed_boards specs indexes)) place ∙ there)),
       )
 
-  given : (entry : StateEntry) (step : Step) → MayBeWritten (indexed specs indexes) entry
-      → Writes (indexed specs indexes) entry step → IsGiven (indexed specs indexes) entry step
+  given : (entry : StateEntry) (step : Step) → MayBeWritten (indexed_boards specs indexes) entry
+      → Writes (indexed_boards specs indexes) entry step → IsGiven (indexed_boards specs indexes) entry step
   given entry step may w =
       let same = one_board may.place w.place may.board w.board may.there w.there (may.called ∙ sym w.called) in
       let found : get may.board.1 entry.name ≡ Some w.register =
@@ -99,20 +99,20 @@ module _ (specs : List BoardSpec) (indexes : List RegisterMap) (own : HaveOwnNam
         there = w.there;
         called = w.called;
         kept' = subst (λ (b : IndexedBoard). IsKept b.1 entry.name may.register) same.1 may.is;
-        fits = eqb-true _ (shifted may.register.mask entry.value) may.fits;
+        fits = eqb-true _ (shifted_value may.register.mask entry.value) may.fits;
         is = w.is ∙ ap (λ (r : Register). Do (write_of w.line w.place entry.name r entry.value)) (sym register);
       }
 
-  pub all_given : (entries : List StateEntry) (steps : List Step) → entry_faults (indexed specs indexes) entries ≡ []
-      → AllZip (Writes (indexed specs indexes)) entries steps → AllZip (IsGiven (indexed specs indexes)) entries steps
+  pub all_given : (entries : List StateEntry) (steps : List Step) → entry_faults (indexed_boards specs indexes) entries ≡ []
+      → AllZip (Writes (indexed_boards specs indexes)) entries steps → AllZip (IsGiven (indexed_boards specs indexes)) entries steps
   all_given entries steps none =
-      zip_with (MayBeWritten (indexed specs indexes)) (Writes (indexed specs indexes)) (IsGiven (indexed specs indexes))
+      zip_with (MayBeWritten (indexed_boards specs indexes)) (Writes (indexed_boards specs indexes)) (IsGiven (indexed_boards specs indexes))
       entries steps
-      (λ k e at. entry_written (indexed specs indexes) e (entries_written (indexed specs indexes) entries none k e at))
+      (λ k e at. entry_written (indexed_boards specs indexes) e (entries_written (indexed_boards specs indexes) entries none k e at))
       given
 
-  read : (kept : KeptRegister) (step : Step) → IsKeptOf (indexed specs indexes) kept
-      → Reads (indexed specs indexes) kept step → IsRead (indexed specs indexes) kept step
+  read : (kept : KeptRegister) (step : Step) → IsKeptOf (indexed_boards specs indexes) kept
+      → Reads (indexed_boards specs indexes) kept step → IsRead (indexed_boards specs indexes) kept step
   read kept step is r =
       let same = one_board is.place r.place is.board r.board is.there r.there (is.called ∙ sym r.called) in
       record {
@@ -125,8 +125,8 @@ module _ (specs : List BoardSpec) (indexes : List RegisterMap) (own : HaveOwnNam
         is = r.is;
       }
 
-  pub all_read : (steps : List Step) → AllZip (Reads (indexed specs indexes)) (kept_of (indexed specs indexes)) steps
-      → AllZip (IsRead (indexed specs indexes)) (kept_of (indexed specs indexes)) steps
+  pub all_read : (steps : List Step) → AllZip (Reads (indexed_boards specs indexes)) (kept_of (indexed_boards specs indexes)) steps
+      → AllZip (IsRead (indexed_boards specs indexes)) (kept_of (indexed_boards specs indexes)) steps
   all_read steps =
-      zip_with (IsKeptOf (indexed specs indexes)) (Reads (indexed specs indexes)) (IsRead (indexed specs indexes))
-      (kept_of (indexed specs indexes)) steps (λ k r at. kept_of_has (indexed specs indexes) k r at) read
+      zip_with (IsKeptOf (indexed_boards specs indexes)) (Reads (indexed_boards specs indexes)) (IsRead (indexed_boards specs indexes))
+      (kept_of (indexed_boards specs indexes)) steps (λ k r at. kept_of_has (indexed_boards specs indexes) k r at) read

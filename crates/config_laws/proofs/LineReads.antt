@@ -25,7 +25,7 @@ use Rattle.script_steps.specs.declared.operation.Step.{Step}
 use Rattle.script_steps.specs.declared.operation.Verb.{Verb}
 use Rattle.script_steps.specs.declared.operation.Verb.TheVariants as verb
 use Rattle.script_steps.specs.Executable.{AreExecutable}
-use Rattle.script_steps.specs.Rulings.{Asked, asked, allowed}
+use Rattle.script_steps.specs.Rulings.{Asked, asked_operations, allowed_operations}
 use Rattle.script_plans.specs.declared.greeting.Greeting.{Greeting}
 use Rattle.script_plans.specs.declared.greeting.Greeting.TheVariants.{Live, Silent, Down}
 use Rattle.script_plans.specs.declared.board_run.ClientPart.{ClientPart}
@@ -38,15 +38,15 @@ use Rattle.transcript.specs.declared.line.OpLine.{OpLine}
 use Rattle.transcript.specs.declared.line.OpResult.{OpResult}
 use Rattle.transcript.specs.declared.line.OpResult.TheVariants.{Value}
 use Rattle.transcript.specs.Claims.{IsDone, IsDoneResult}
-use Rattle.transcript.specs.Ends.{answered, end_of, ends_of, ends_with, piece_result, result_in, told_at, told_by}
+use Rattle.transcript.specs.Ends.{answer_result, end_of, ends_of, ends_with, piece_result, result_in, told_at, told_by}
 use Rattle.transcript.specs.Ends.{told_of}
-use Rattle.transcript.specs.Results.{combined, is_good}
+use Rattle.transcript.specs.Results.{combined_result, is_good}
 use Rattle.transcript.proofs.GoodResults.{good_piece}
 use Rattle.transcript.specs.Lines.{by_pieces, client_lines, line_of, lines_from, shown_behind, showing}
 use Rattle.transcript.proofs.Allowed.{allowed-append, asked_allowed}
 use Rattle.board_history.specs.InTurn.{IsUsedByOne, outcomes_from}
 use Rattle.board_history.specs.History.{bodies_by_client}
-use Rattle.board_history.specs.Runs.{RunsHere, board_run, greeting_of, opening_of, parts_in_turn}
+use Rattle.board_history.specs.Runs.{RunsHere, board_run, greeting_of, opens_with, parts_in_turn}
 use Rattle.board_history.proofs.Answering.{Answering, AnsweringAny, Garbling, IsTold, Joins, Keeping, KeepingAll}
 use Rattle.board_history.proofs.Answering.{body_told}
 use Rattle.board_history.proofs.Asking.{op_at}
@@ -75,11 +75,11 @@ bad_result r good bad = let both : true ≡ false = sym good ∙ bad in absurd c
 
 -- a read of one piece is good where its piece is, and shows the field of its word
 one_piece : (mask word : ℕ) (r : OpResult) → (is_good r ≡ true → r ≡ Value (word ∷ []))
-    → is_good (combined verb.Read mask (r ∷ [])) ≡ true
-    → combined verb.Read mask (r ∷ []) ≡ Value (field word mask ∷ [])
+    → is_good (combined_result verb.Read mask (r ∷ [])) ≡ true
+    → combined_result verb.Read mask (r ∷ []) ≡ Value (field word mask ∷ [])
 one_piece mask word r there good = elim (is_good r) as
-    (λ b. is_good r ≡ b → combined verb.Read mask (r ∷ []) ≡ Value (field word mask ∷ [])) [
-      | true ↦ λ is. ap (λ (x : OpResult). combined verb.Read mask (x ∷ [])) (there is)
+    (λ b. is_good r ≡ b → combined_result verb.Read mask (r ∷ []) ≡ Value (field word mask ∷ [])) [
+      | true ↦ λ is. ap (λ (x : OpResult). combined_result verb.Read mask (x ∷ [])) (there is)
       | false ↦ λ is. absurd (bad_result r (good_piece verb.Read mask r good) is)
     ] refl
 
@@ -181,7 +181,7 @@ abbrev pub Answered : Type 0
 Answered = (cells : CellMap) (part : List Op) (answers : List Answer) (i : ℕ) (op : Op) → HoldsWords cells
     → AreRequests (body_requests part) → AllByRecursion IsWordRead part
     → IsJoined (body_words part) (run_body cells (body_words part)).reply answers → slice_get part i ≡ Some op
-    → IsThere cells op (answered (slice_get answers i))
+    → IsThere cells op (answer_result (slice_get answers i))
 
 -- how the body of this number ended
 record EndsAs (cells : CellMap) (ends : List BodyEnd) (b : ℕ) (part : List Op) : Type 0 where
@@ -234,17 +234,17 @@ module _ (answering : Answering) (any : AnsweringAny) (keeping : Keeping) (keepi
     shown' : r ≡ Value (field word op.mask ∷ [])
 
   piece_shown : (cells : CellMap) (op : RegOp) (r : OpResult) → IsMaskedRead op → IsThere cells op.op r
-      → is_good (combined op.verb op.mask (r ∷ [])) ≡ true → WordShown cells op (combined op.verb op.mask (r ∷ []))
+      → is_good (combined_result op.verb op.mask (r ∷ [])) ≡ true → WordShown cells op (combined_result op.verb op.mask (r ∷ []))
   piece_shown cells op r reads is good =
-      let masked : is_good (combined verb.Read op.mask (r ∷ [])) ≡ true =
-      subst (λ (v : Verb). is_good (combined v op.mask (r ∷ [])) ≡ true) reads.verb' good in
-      elim (is_good r) as (λ b. is_good r ≡ b → WordShown cells op (combined op.verb op.mask (r ∷ []))) [
+      let masked : is_good (combined_result verb.Read op.mask (r ∷ [])) ≡ true =
+      subst (λ (v : Verb). is_good (combined_result v op.mask (r ∷ [])) ≡ true) reads.verb' good in
+      elim (is_good r) as (λ b. is_good r ≡ b → WordShown cells op (combined_result op.verb op.mask (r ∷ []))) [
         | true ↦ λ fine.
             let found = is fine in
             record {
               word = found.0;
               opened = found.1;
-              shown' = ap (λ (v : Verb). combined v op.mask (r ∷ [])) reads.verb'
+              shown' = ap (λ (v : Verb). combined_result v op.mask (r ∷ [])) reads.verb'
                   ∙ one_piece op.mask found.0 r (λ _. found.2) masked;
             }
         | false ↦ λ bad. absurd (bad_result r (good_piece verb.Read op.mask r masked) bad)
@@ -287,10 +287,10 @@ module _ (answering : Answering) (any : AnsweringAny) (keeping : Keeping) (keepi
   live_shown : (stays : BusStays) (spec : BoardSpec) (steps : List Step) (before later : List RegOp) (op : RegOp)
       → IsReady spec op.board (steps ∷ []) → ReadSingleWords steps → before ++ op ∷ later ≡ operations steps
       → is_good (showing (board_run spec op.board (steps ∷ [])) 0 (count_on op.board before) op).0 ≡ true
-      → WordShown (opening_of spec.link) op
+      → WordShown (opens_with spec.link) op
       (showing (board_run spec op.board (steps ∷ [])) 0 (count_on op.board before) op).0
   live_shown stays spec steps before later op ready reads ops =
-      let cells = opening_of spec.link in
+      let cells = opens_with spec.link in
       let k = count_on op.board before in
       let lives = lives_of spec.link ready.here in
       let packings = subst (λ (g : Greeting). ArePackedFor op.board g steps) lives.is ready.packed'.0 in
@@ -306,30 +306,30 @@ module _ (answering : Answering) (any : AnsweringAny) (keeping : Keeping) (keepi
   op_shown : (stays : BusStays) (specs : List BoardSpec) (steps : List Step) (run : BoardRun)
       (before later : List RegOp) (op : RegOp) (at : BoardAt specs steps op.board op.board run) → ReadSingleWords steps
       → before ++ op ∷ later ≡ operations steps → is_good (showing run 0 (count_on op.board before) op).0 ≡ true
-      → WordShown (opening_of at.spec.link) op (showing run 0 (count_on op.board before) op).0
+      → WordShown (opens_with at.spec.link) op (showing run 0 (count_on op.board before) op).0
   op_shown stays specs steps run before later op at reads ops good =
       let k = count_on op.board before in
       let live = live_if_good run 0 k op run.greeting refl good in
       let same = at.alone live.0 live.1 in
       subst (λ (r : BoardRun). is_good (showing r 0 k op).0 ≡ true
-      → WordShown (opening_of at.spec.link) op (showing r 0 k op).0) (sym same)
+      → WordShown (opens_with at.spec.link) op (showing r 0 k op).0) (sym same)
       (live_shown stays at.spec steps before later op at.ready reads ops) good
 
   ask_shown : (stays : BusStays) (specs : List BoardSpec) (steps : List Step) (run : BoardRun)
       (before later : List Asked) (op : RegOp) (denied : Option ℕ) (at : BoardAt specs steps op.board op.board run)
-      → ReadSingleWords steps → before ++ record { op = op; denied = denied } ∷ later ≡ asked steps
+      → ReadSingleWords steps → before ++ record { op = op; denied = denied } ∷ later ≡ asked_operations steps
       → is_good (shown_behind run 0 before op denied).0 ≡ true
-      → WordShown (opening_of at.spec.link) op (shown_behind run 0 before op denied).0
+      → WordShown (opens_with at.spec.link) op (shown_behind run 0 before op denied).0
   ask_shown stays specs steps run before later op None at reads asks good =
       let ask : Asked = record { op = op; denied = None } in
-      let ops : allowed before ++ op ∷ allowed later ≡ operations steps =
-      sym (allowed-append before (ask ∷ later)) ∙ (ap allowed asks ∙ asked_allowed steps) in
-      op_shown stays specs steps run (allowed before) (allowed later) op at reads ops good
+      let ops : allowed_operations before ++ op ∷ allowed_operations later ≡ operations steps =
+      sym (allowed-append before (ask ∷ later)) ∙ (ap allowed_operations asks ∙ asked_allowed steps) in
+      op_shown stays specs steps run (allowed_operations before) (allowed_operations later) op at reads ops good
   ask_shown stays specs steps run before later op (Some rule) at reads asks good = absurd cc
 
   line_shown : (stays : BusStays) (specs : List BoardSpec) (steps : List Step) (run : BoardRun)
       (before later : List Asked) (ask : Asked) → BoardAt specs steps ask.op.board ask.op.board run
-      → ReadSingleWords steps → before ++ ask ∷ later ≡ asked steps → IsGood (line_of 0 before ask run)
+      → ReadSingleWords steps → before ++ ask ∷ later ≡ asked_operations steps → IsGood (line_of 0 before ask run)
       → ShowsOpeningWord specs steps (line_of 0 before ask run)
   line_shown stays specs steps run before later ask at reads asks good =
       let is = ask_shown stays specs steps run before later ask.op ask.denied at reads asks good in
@@ -350,12 +350,12 @@ module _ (answering : Answering) (any : AnsweringAny) (keeping : Keeping) (keepi
   look_shown : (stays : BusStays) (specs : List BoardSpec) (steps : List Step) (runs : List BoardRun)
       → ((k : ℕ) (run : BoardRun) → slice_get runs k ≡ Some run → BoardAt specs steps k k run)
       → ReadSingleWords steps → (client : ℕ) (script : List Step) (before later : List Asked) (ask : Asked)
-      (run : BoardRun) → slice_get (steps ∷ []) client ≡ Some script → before ++ ask ∷ later ≡ asked script
+      (run : BoardRun) → slice_get (steps ∷ []) client ≡ Some script → before ++ ask ∷ later ≡ asked_operations script
       → slice_get runs ask.op.board ≡ Some run → IsGood (line_of client before ask run)
       → ShowsOpeningWord specs steps (line_of client before ask run)
   look_shown stays specs steps runs boards reads zero script before later ask run at asks there =
       line_shown stays specs steps run before later ask (boards ask.op.board run there) reads
-      (asks ∙ ap (λ (s : List Step). asked s) (sym (same_Some steps script at)))
+      (asks ∙ ap (λ (s : List Step). asked_operations s) (sym (same_Some steps script at)))
   look_shown stays specs steps runs boards reads (suc client) script before later ask run at asks there = absurd cc
 
   pub session_shown : BusStays → PacksWords → (settings : Limits) (specs : List BoardSpec) (steps : List Step)

@@ -3,14 +3,14 @@ use Rattle.std.proofs.Common.{◌≡◌, ℕ, ◌==◌, true, false, if◌then�
 use Rattle.std.proofs.Common.{inl, inr, refl, sym, ap, ◌∙◌, subst}
 use Rattle.std.specs.Int.{w32, bit_not}
 use Rattle.std.proofs.lemmas.Bool.{cases_Bool, eqb-true}
-use Rattle.masked_fields.specs.Field.{shifted}
+use Rattle.masked_fields.specs.Field.{shifted_value}
 use Rattle.transaction_codec.specs.declared.request.Op.TheVariants.{Write}
 use Rattle.board_bus.specs.declared.fault.BusFault.{BusFault}
 use Rattle.board_bus.specs.Cells.{Cell, CellMap, cell_at, read_cell, read_fault, read_word, unless, write_cell, write_word}
-use Rattle.board_bus.specs.Transactions.{◌>>=◌, Modified, masked, modify, of_modifying, of_writing, outcome}
+use Rattle.board_bus.specs.Transactions.{◌>>=◌, Modified, masked_word, modify, of_modifying, of_writing, outcome}
 use Rattle.node_tree.specs.declared.register.Register.{Register}
 use Rattle.script_lang.specs.Operations.{is_full, masked_write, write_op}
-use Rattle.config_laws.specs.Writes.{AreDone, ValueFor, after_writes, written}
+use Rattle.config_laws.specs.Writes.{AreDone, ValueFor, after_writes, write_outcome}
 use Rattle.config_laws.proofs.AllWrites.{Elsewhere, apart}
 use Rattle.config_laws.proofs.BusWrites.{after_write, changed}
 
@@ -63,17 +63,17 @@ write_refused here cells r value f read = elim (is_full r.mask) as
     r.address ≡ Err f) [
       | true ↦ λ is fine. plain_refused here cells r.address value f read fine
       | false ↦ λ is fine.
-          absurd (change_refused cells r.address (masked (bit_not w32 r.mask) (shifted r.mask value)) f read fine)
+          absurd (change_refused cells r.address (masked_word (bit_not w32 r.mask) (shifted_value r.mask value)) f read fine)
     ] refl
 
 one_refused : WrittenHere → Elsewhere → (cells : CellMap) (write : ValueFor) (address : ℕ) (f : BusFault)
-    → read_word cells address ≡ Err f → (written cells write).fault ≡ None
-    → read_word (written cells write).cells address ≡ Err f
+    → read_word cells address ≡ Err f → (write_outcome cells write).fault ≡ None
+    → read_word (write_outcome cells write).cells address ≡ Err f
 one_refused here elsewhere cells write address f read fine =
     elim (cases_Bool (write.register.address == address)) [
       | inl same ↦
           let at : write.register.address ≡ address = eqb-true write.register.address address same in
-          subst (λ n. read_word (written cells write).cells n ≡ Err f) at
+          subst (λ n. read_word (write_outcome cells write).cells n ≡ Err f) at
           (write_refused here cells write.register write.value f
           (subst (λ n. read_word cells n ≡ Err f) (sym at) read) fine)
       | inr differ ↦
@@ -84,7 +84,7 @@ all_refused : WrittenHere → Elsewhere → (cells : CellMap) (writes : List Val
     → read_word cells address ≡ Err f → AreDone cells writes → read_word (after_writes cells writes) address ≡ Err f
 all_refused here elsewhere cells [] address f read done = read
 all_refused here elsewhere cells (write ∷ writes) address f read done =
-    all_refused here elsewhere (written cells write).cells writes address f
+    all_refused here elsewhere (write_outcome cells write).cells writes address f
     (one_refused here elsewhere cells write address f read done.0) done.1
 
 pub readable_before : WrittenHere → Elsewhere → (cells : CellMap) (writes : List ValueFor) (address word : ℕ)

@@ -11,16 +11,16 @@ use Rattle.transaction_codec.specs.declared.request.Op.{Op}
 use Rattle.transaction_codec.specs.declared.request.Op.TheVariants.{Read, ReadPort, Write, WritePort, RmwBits, RmwSum}
 use Rattle.world_model.proofs.Lists.{either}
 use Rattle.mtu_packer.specs.declared.packed.Piece.{Piece}
-use Rattle.mtu_packer.specs.Cutting.{cut, piece, piece_count, piece_limit}
+use Rattle.mtu_packer.specs.Cutting.{cut_pieces, piece, piece_count, piece_limit}
 use Rattle.mtu_packer.specs.Packing.{AreReadable, body_words}
-use Rattle.mtu_packer.specs.Packed.{IsPacked, packed, piece_at, pieces_at}
+use Rattle.mtu_packer.specs.Packed.{IsPacked, packed_contents, piece_at, pieces_at}
 use Rattle.mtu_packer.proofs.Pieces.{piece_limit-some}
 use Rattle.script_steps.specs.declared.operation.RegOp.{RegOp}
 use Rattle.script_steps.specs.declared.operation.Step.{Step}
 use Rattle.script_steps.specs.declared.operation.Step.TheVariants.{Do, Denied, Dispatch}
 use Rattle.script_plans.specs.declared.greeting.Greeting.TheVariants.{Live}
 use Rattle.script_plans.specs.declared.planned.PieceAt.{PieceAt}
-use Rattle.script_plans.specs.Plan.{ClientBodies, all_dispatches, begun, dispatches, moved, operations, ops_on}
+use Rattle.script_plans.specs.Plan.{ClientBodies, all_dispatches, into_next_dispatch, dispatches, piece_behind, operations, ops_on}
 use Rattle.script_plans.specs.Plan.{planned_on}
 use Rattle.board_history.proofs.Asking.{heads}
 use Rattle.board_history.proofs.Readiness.{ArePacked}
@@ -34,7 +34,7 @@ exactly_one limit (suc zero) some low high = refl
 exactly_one limit (suc (suc n)) some low high =
     let more : limit + limit ≤ suc (suc n) * limit = grind arith in absurd (omega (arith, more, high, some))
 
-one_cut : (payload base : ℕ) → 16 ≤ payload → cut payload (Read base 1) ≡ Read base 1 ∷ []
+one_cut : (payload base : ℕ) → 16 ≤ payload → cut_pieces payload (Read base 1) ≡ Read base 1 ∷ []
 one_cut payload base low =
     let limit = piece_limit payload (Read base 1) in
     let some : 1 ≤ limit = piece_limit-some payload (Read base 1) low in
@@ -46,9 +46,9 @@ one_cut payload base low =
     ap (λ n. map (piece payload (Read base 1)) (range_with_len 0 n)) count
     ∙ (ap (λ a. Read a (min limit (1 - 0 * limit)) ∷ []) address ∙ ap (λ n. Read base n ∷ []) words)
 
-word_cut : (payload : ℕ) (op : Op) → 16 ≤ payload → IsWordRead op → cut payload op ≡ op ∷ []
+word_cut : (payload : ℕ) (op : Op) → 16 ≤ payload → IsWordRead op → cut_pieces payload op ≡ op ∷ []
 word_cut payload (Read base count) low one =
-    subst (λ n. cut payload (Read base n) ≡ Read base n ∷ []) (sym one) (one_cut payload base low)
+    subst (λ n. cut_pieces payload (Read base n) ≡ Read base n ∷ []) (sym one) (one_cut payload base low)
 word_cut payload (ReadPort base count) low one = absurd one
 word_cut payload (Write base words) low one = absurd one
 word_cut payload (WritePort base words) low one = absurd one
@@ -56,10 +56,10 @@ word_cut payload (RmwBits base and_term or_term) low one = absurd one
 word_cut payload (RmwSum base addend) low one = absurd one
 
 whole_cut : (payload : ℕ) (ops : List Op) → 16 ≤ payload → AllByRecursion IsWordRead ops
-    → flat_map (cut payload) ops ≡ ops
+    → flat_map (cut_pieces payload) ops ≡ ops
 whole_cut payload [] low reads = refl
 whole_cut payload (op ∷ ops) low reads =
-    ap (λ (xs : List Op). xs ++ flat_map (cut payload) ops) (word_cut payload op low reads.0)
+    ap (λ (xs : List Op). xs ++ flat_map (cut_pieces payload) ops) (word_cut payload op low reads.0)
     ∙ ap (λ (xs : List Op). op ∷ xs) (whole_cut payload ops low reads.1)
 
 -- ---- all of several lists
@@ -105,13 +105,13 @@ record HasPlace (parts : List (List Op)) (pieces : List (List Piece)) (k : ℕ) 
   stands : StandsAt parts places op
 
 has_place : (payload : ℕ) (parts : List (List Op)) (ops : List Op) (pieces : List (List Piece)) → 16 ≤ payload
-    → AllByRecursion IsWordRead ops → map (pieces_at parts) pieces ≡ map (λ op. map Some (cut payload op)) ops
+    → AllByRecursion IsWordRead ops → map (pieces_at parts) pieces ≡ map (λ op. map Some (cut_pieces payload op)) ops
     → (k : ℕ) (op : Op) → slice_get ops k ≡ Some op → HasPlace parts pieces k op
 has_place payload parts [] pieces low reads same k op at = absurd cc
 has_place payload parts (o ∷ ops) [] low reads same k op at = absurd cc
 has_place payload parts (o ∷ ops) (ps ∷ pieces) low reads same zero op at =
-    let both = heads (pieces_at parts ps) (map Some (cut payload o)) (map (pieces_at parts) pieces)
-    (map (λ op. map Some (cut payload op)) ops) same in
+    let both = heads (pieces_at parts ps) (map Some (cut_pieces payload o)) (map (pieces_at parts) pieces)
+    (map (λ op. map Some (cut_pieces payload op)) ops) same in
     let one : map (piece_at parts) ps ≡ Some o ∷ [] =
     both.head ∙ ap (λ (xs : List Op). map Some xs) (word_cut payload o low reads.0) in
     record {
@@ -120,8 +120,8 @@ has_place payload parts (o ∷ ops) (ps ∷ pieces) low reads same zero op at =
       stands = subst (λ (x : Op). StandsAt parts ps x) (same_Some o op at) (one_there parts ps o one);
     }
 has_place payload parts (o ∷ ops) (ps ∷ pieces) low reads same (suc k) op at =
-    let both = heads (pieces_at parts ps) (map Some (cut payload o)) (map (pieces_at parts) pieces)
-    (map (λ op. map Some (cut payload op)) ops) same in
+    let both = heads (pieces_at parts ps) (map Some (cut_pieces payload o)) (map (pieces_at parts) pieces)
+    (map (λ op. map Some (cut_pieces payload op)) ops) same in
     let later = has_place payload parts ops pieces low reads.1 both.tail k op at in
     record { places = later.places; here = later.here; stands = later.stands }
 
@@ -135,7 +135,7 @@ reads_of (Dispatch ∷ steps) reads = absurd reads.0
 
 one_dispatch : (steps : List Step) → ReadSingleWords steps → dispatches steps ≡ operations steps ∷ []
 one_dispatch [] reads = refl
-one_dispatch (Do op ∷ steps) reads = ap (begun op) (one_dispatch steps reads.1)
+one_dispatch (Do op ∷ steps) reads = ap (into_next_dispatch op) (one_dispatch steps reads.1)
 one_dispatch (Denied rule op ∷ steps) reads = absurd reads.0
 one_dispatch (Dispatch ∷ steps) reads = absurd reads.0
 
@@ -165,13 +165,13 @@ pub planned_reads : (payload board : ℕ) (steps : List Step) → 16 ≤ payload
     → IsReadAt (planned_on board (Live payload) steps) k op
 planned_reads payload board steps low reads packings k op at =
     let ops = ops_on board (operations steps) in
-    let contents = packed payload ops in
+    let contents = packed_contents payload ops in
     let one = one_dispatch steps reads in
     let each : AllByRecursion IsWordRead ops = reads_on board (operations steps) (reads_of steps reads) in
     let is : IsPacked ops payload contents = (subst (λ (ds : List (List RegOp)).
-    AllByRecursion (λ d. IsPacked (ops_on board d) payload (packed payload (ops_on board d))) ds) one packings).0 in
+    AllByRecursion (λ d. IsPacked (ops_on board d) payload (packed_contents payload (ops_on board d))) ds) one packings).0 in
     let planned : all_dispatches (contents ∷ []) ≡ planned_on board (Live payload) steps =
-    ap (λ (ds : List (List RegOp)). all_dispatches (map (λ d. packed payload (ops_on board d)) ds)) (sym one) in
+    ap (λ (ds : List (List RegOp)). all_dispatches (map (λ d. packed_contents payload (ops_on board d)) ds)) (sym one) in
     let whole : flat_map (λ part. part) is.parts ≡ ops = is.packing.whole ∙ whole_cut payload ops low each in
     let found = has_place payload is.parts ops contents.pieces low each is.pieces k op at in
     let place = found.stands.place in
@@ -181,9 +181,9 @@ planned_reads payload board steps low reads packings k op at =
       bodies' = is.bodies;
       readable = is.readable;
       reads = each_all IsWordRead is.parts (subst (λ (xs : List Op). AllByRecursion IsWordRead xs) (sym whole) each);
-      place = moved 0 place;
-      pieces' = slice_get-map (λ (ps : List Piece). map (moved 0) ps) contents.pieces k
-          ∙ ap (option_map (λ (ps : List Piece). map (moved 0) ps))
+      place = piece_behind 0 place;
+      pieces' = slice_get-map (λ (ps : List Piece). map (piece_behind 0) ps) contents.pieces k
+          ∙ ap (option_map (λ (ps : List Piece). map (piece_behind 0) ps))
           (found.here ∙ ap (λ (ps : List Piece). Some ps) found.stands.only);
       part = found.stands.part;
       there = subst (λ n. slice_get is.parts n ≡ Some found.stands.part) first found.stands.there;

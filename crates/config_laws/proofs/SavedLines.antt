@@ -11,17 +11,17 @@ use Rattle.board_node.specs.declared.spec.BoardSpec.{BoardSpec}
 use Rattle.world_model.specs.Settings.{Limits}
 use Rattle.node_tree.specs.Maps.{Name, RegisterMap}
 use Rattle.script_steps.specs.declared.operation.Step.{Step}
-use Rattle.script_steps.specs.Rulings.{Asked, asked}
+use Rattle.script_steps.specs.Rulings.{Asked, asked_operations}
 use Rattle.script_plans.specs.declared.board_run.BoardRun.{BoardRun}
 use Rattle.transcript.specs.declared.line.OpLine.{OpLine}
 use Rattle.transcript.specs.declared.line.OpResult.{OpResult}
 use Rattle.transcript.specs.declared.line.OpResult.TheVariants.{Value}
 use Rattle.transcript.specs.Lines.{client_lines, line_of, lines_behind}
-use Rattle.board_history.specs.Runs.{opening_of}
+use Rattle.board_history.specs.Runs.{opens_with}
 use Rattle.lane_history.specs.Links.{LinkReport}
 use Rattle.lane_history.specs.Runs.{AreRunsOver}
 use Rattle.config_store.specs.declared.state.StateEntry.{StateEntry}
-use Rattle.config_store.specs.Kept.{IndexedBoard, KeptRegister, indexed}
+use Rattle.config_store.specs.Kept.{IndexedBoard, KeptRegister, indexed_boards}
 use Rattle.config_store.specs.Meanings.{Reads, read_of}
 use Rattle.config_store.specs.Text.{by_value, heading, is_read_on, register_text, registers_text, state_text}
 use Rattle.config_store.specs.Text.{value_of}
@@ -94,21 +94,21 @@ module _ (specs : List BoardSpec) (indexes : List RegisterMap) (steps : List Ste
       (later : List Asked) (line place : ℕ) (board : IndexedBoard) (run : BoardRun)
       → let ask : Asked = record { op = read_of line place r.name r.register; denied = None } in
       slice_get specs place ≡ Some board.0 → board.0.name ≡ r.board → run.name ≡ board.0.name
-      → before ++ ask ∷ later ≡ asked steps → ShowsOpeningWord specs steps (line_of 0 before ask run)
+      → before ++ ask ∷ later ≡ asked_operations steps → ShowsOpeningWord specs steps (line_of 0 before ask run)
       → SavedLines specs kept rest → SavedLines specs (r ∷ kept) (line_of 0 before ask run ∷ rest)
   line_saved r kept rest before later line place board run on called named asks shows saved =
       let ask : Asked = record { op = read_of line place r.name r.register; denied = None } in
       let shown_line = line_of 0 before ask run in
       let number : length before ≡ shows.place = omega (arith, shows.number') in
-      let here : slice_get (asked steps) shows.place ≡ Some ask =
-      subst (λ n. slice_get (asked steps) n ≡ Some ask) number
+      let here : slice_get (asked_operations steps) shows.place ≡ Some ask =
+      subst (λ n. slice_get (asked_operations steps) n ≡ Some ask) number
       (subst (λ (xs : List Asked). slice_get xs (length before) ≡ Some ask) asks (behind before later ask)) in
       let same : shows.ask ≡ ask = same_Some shows.ask ask (sym shows.asked' ∙ here) in
       let spec : shows.spec ≡ board.0 = same_Some shows.spec board.0
       (sym shows.on ∙ (ap (λ (a : Asked). slice_get specs a.op.board) same ∙ on)) in
-      let opened : read_word (opening_of board.0.link) r.register.address ≡ Ok shows.word =
-      subst (λ (s : BoardSpec). read_word (opening_of s.link) r.register.address ≡ Ok shows.word) spec
-      (subst (λ (a : Asked). read_word (opening_of shows.spec.link) (base_of a.op.op) ≡ Ok shows.word) same
+      let opened : read_word (opens_with board.0.link) r.register.address ≡ Ok shows.word =
+      subst (λ (s : BoardSpec). read_word (opens_with s.link) r.register.address ≡ Ok shows.word) spec
+      (subst (λ (a : Asked). read_word (opens_with shows.spec.link) (base_of a.op.op) ≡ Ok shows.word) same
       shows.opened) in
       let value = field shows.word r.register.mask in
       let entry : StateEntry = record { board = r.board; name = r.name; value = value } in
@@ -141,39 +141,39 @@ module _ (specs : List BoardSpec) (indexes : List RegisterMap) (steps : List Ste
   read_saved : (r : KeptRegister) (kept : List KeptRegister) (later : List Step) (before : List Asked) (line place : ℕ)
       (board : IndexedBoard)
       → let ask : Asked = record { op = read_of line place r.name r.register; denied = None } in
-      slice_get (indexed specs indexes) place ≡ Some board → board.0.name ≡ r.board
-      → before ++ ask ∷ asked later ≡ asked steps
-      → (AllByRecursion (ShowsOpeningWord specs steps) (lines_behind runs 0 (before ++ ask ∷ []) (asked later))
-      → SavedLines specs kept (lines_behind runs 0 (before ++ ask ∷ []) (asked later)))
-      → AllByRecursion (ShowsOpeningWord specs steps) (lines_behind runs 0 before (ask ∷ asked later))
-      → SavedLines specs (r ∷ kept) (lines_behind runs 0 before (ask ∷ asked later))
+      slice_get (indexed_boards specs indexes) place ≡ Some board → board.0.name ≡ r.board
+      → before ++ ask ∷ asked_operations later ≡ asked_operations steps
+      → (AllByRecursion (ShowsOpeningWord specs steps) (lines_behind runs 0 (before ++ ask ∷ []) (asked_operations later))
+      → SavedLines specs kept (lines_behind runs 0 (before ++ ask ∷ []) (asked_operations later)))
+      → AllByRecursion (ShowsOpeningWord specs steps) (lines_behind runs 0 before (ask ∷ asked_operations later))
+      → SavedLines specs (r ∷ kept) (lines_behind runs 0 before (ask ∷ asked_operations later))
   read_saved r kept later before line place board there called asks rest =
       let ask : Asked = record { op = read_of line place r.name r.register; denied = None } in
       let on = first_of specs indexes place board there in
       let found = over place board.0 on in
-      let others = lines_behind runs 0 (before ++ ask ∷ []) (asked later) in
+      let others = lines_behind runs 0 (before ++ ask ∷ []) (asked_operations later) in
       subst (λ (o : Option BoardRun).
       AllByRecursion (ShowsOpeningWord specs steps) (option_to_list (option_map (line_of 0 before ask) o) ++ others)
       → SavedLines specs (r ∷ kept) (option_to_list (option_map (line_of 0 before ask) o) ++ others)) (sym found.there)
-      (λ shows. line_saved r kept others before (asked later) line place board found.run on called found.named asks
+      (λ shows. line_saved r kept others before (asked_operations later) line place board found.run on called found.named asks
       shows.0 (rest shows.1))
 
   lines_saved : (kept : List KeptRegister) (later : List Step) (before : List Asked)
-      → AllZip (Reads (indexed specs indexes)) kept later → before ++ asked later ≡ asked steps
-      → AllByRecursion (ShowsOpeningWord specs steps) (lines_behind runs 0 before (asked later))
-      → SavedLines specs kept (lines_behind runs 0 before (asked later))
+      → AllZip (Reads (indexed_boards specs indexes)) kept later → before ++ asked_operations later ≡ asked_operations steps
+      → AllByRecursion (ShowsOpeningWord specs steps) (lines_behind runs 0 before (asked_operations later))
+      → SavedLines specs kept (lines_behind runs 0 before (asked_operations later))
   lines_saved [] [] before reads asks shows = record { entries = []; saved = tt; text = λ name. refl }
   lines_saved [] (step ∷ later) before reads asks shows = absurd reads
   lines_saved (r ∷ kept) [] before reads asks shows = absurd reads
   lines_saved (r ∷ kept) (step ∷ later) before reads asks shows =
       let is = reads.0 in
       let ask : Asked = record { op = read_of is.line is.place r.name r.register; denied = None } in
-      subst (λ (s : Step). before ++ asked (s ∷ later) ≡ asked steps
-      → AllByRecursion (ShowsOpeningWord specs steps) (lines_behind runs 0 before (asked (s ∷ later)))
-      → SavedLines specs (r ∷ kept) (lines_behind runs 0 before (asked (s ∷ later)))) (sym is.is)
+      subst (λ (s : Step). before ++ asked_operations (s ∷ later) ≡ asked_operations steps
+      → AllByRecursion (ShowsOpeningWord specs steps) (lines_behind runs 0 before (asked_operations (s ∷ later)))
+      → SavedLines specs (r ∷ kept) (lines_behind runs 0 before (asked_operations (s ∷ later)))) (sym is.is)
       (λ all good. read_saved r kept later before is.line is.place is.board is.there is.called all
       (λ rest. lines_saved kept later (before ++ ask ∷ []) reads.1
-      (append_assoc before (ask ∷ []) (asked later) ∙ all) rest) good)
+      (append_assoc before (ask ∷ []) (asked_operations later) ∙ all) rest) good)
       asks shows
 
 -- ---- the text
@@ -188,7 +188,7 @@ same_text lines entries (board ∷ boards) same =
 
 pub saved_text_is : (settings : Limits) (specs : List BoardSpec) (indexes : List RegisterMap) (kept : List KeptRegister)
     (steps : List Step) (runs : List BoardRun) (links : List LinkReport)
-    → AreRunsOver settings 0 specs (steps ∷ []) runs links → AllZip (Reads (indexed specs indexes)) kept steps
+    → AreRunsOver settings 0 specs (steps ∷ []) runs links → AllZip (Reads (indexed_boards specs indexes)) kept steps
     → AllByRecursion (ShowsOpeningWord specs steps) (client_lines runs 0 steps)
     → (entries : List StateEntry) × AreSaved specs kept entries
     × (state_text specs (client_lines runs 0 steps) ≡ saved_text specs entries)

@@ -7,7 +7,7 @@ use Rattle.masked_fields.specs.Field.{field, shift}
 use Rattle.board_bus.proofs.WordsKept.{read-word}
 use Rattle.board_node.specs.declared.spec.BoardSpec.{BoardSpec}
 use Rattle.board_node.specs.OpeningWords.{OpensOnWords}
-use Rattle.board_history.specs.Runs.{opening_of}
+use Rattle.board_history.specs.Runs.{opens_with}
 use Rattle.board_history.proofs.Lists.{all_at}
 use Rattle.config_store.specs.declared.state.StateEntry.{StateEntry}
 use Rattle.config_store.specs.Kept.{KeptRegister}
@@ -24,7 +24,7 @@ field_small word mask small =
 saved_word : (specs : List BoardSpec) → AllByRecursion OpensOnWords specs → (r : KeptRegister) (e : StateEntry)
     → IsSaved specs r e → HasWord e
 saved_word specs words r e is =
-    let small = read-word (opening_of is.spec.link) r.register.address is.word
+    let small = read-word (opens_with is.spec.link) r.register.address is.word
     (opens is.spec.link (all_at OpensOnWords specs is.place is.spec words is.on)) is.opened in
     subst (λ n. n < 2 ^ 32) (sym is.value') (field_small is.word r.register.mask small)
 

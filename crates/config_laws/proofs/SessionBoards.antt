@@ -25,7 +25,7 @@ use Rattle.script_lang.specs.declared.session.Session.{Session}
 use Rattle.script_lang.proofs.Kept.{each_table, items_kept, kept_value, mapped_none, no_fault, parts_none}
 use Rattle.script_lang.proofs.Registers.{AreSoundRegisters, IsSoundRegister, session_registers}
 use Rattle.board_history.proofs.Lists.{all_at}
-use Rattle.config_store.specs.Kept.{indexed}
+use Rattle.config_store.specs.Kept.{indexed_boards}
 use Rattle.config_store.specs.Meanings.{HaveWordNames, IsBoardWord, IsOneWord}
 use Rattle.config_laws.specs.Fields.{HasField, HaveFields}
 use Rattle.config_laws.proofs.SavedLines.{first_of}
@@ -120,7 +120,7 @@ zip_at R (x ∷ xs) (y ∷ ys) (suc k) pair all at = zip_at R xs ys k pair all.1
 pub word_names : BoardWords → RegisterWords → (document : Members) (session : Session) (indexes : List RegisterMap)
     → IsSession document session
     → AllZip (λ (b : BoardSpec) (index : RegisterMap). IsIndexOf session.tables b.table index) session.boards indexes
-    → HaveWordNames (indexed session.boards indexes)
+    → HaveWordNames (indexed_boards session.boards indexes)
 word_names words names document session indexes is are = record {
   boards' = λ i b at.
       all_at (λ (board : BoardSpec). IsBoardWord board.name) session.boards i b.0 (session_named words document session is)
@@ -137,7 +137,7 @@ has_field r is = record { address' = omega (arith, is.register'.last); some = is
 pub have_fields : (document : Members) (session : Session) (indexes : List RegisterMap) → IsSession document session
     → AllByRecursion (λ (b : BoardSpec). KeepsRules session.tables b.table) session.boards
     → AllZip (λ (b : BoardSpec) (index : RegisterMap). IsIndexOf session.tables b.table index) session.boards indexes
-    → HaveFields (indexed session.boards indexes)
+    → HaveFields (indexed_boards session.boards indexes)
 have_fields document session indexes is kept are i b name r at there =
     has_field r (all_at AreSoundRegisters indexes i b.1 (session_registers document session indexes is kept are)
     (second_of session.boards indexes i b at) name r there)

@@ -17,7 +17,7 @@ use Rattle.script_lang.specs.Limits.{IsWithin}
 use Rattle.script_lang.specs.OwnNames.{HaveOwnNames}
 use Rattle.script_lang.specs.declared.session.Session.{Session}
 use Rattle.config_store.specs.declared.state.StateEntry.{StateEntry}
-use Rattle.config_store.specs.Kept.{KeptRegister, indexed, is_kept, kept, kept_of, kept_register}
+use Rattle.config_store.specs.Kept.{KeptRegister, indexed_boards, is_kept, registers_kept, kept_of, kept_register}
 use Rattle.config_store.specs.Meanings.{HasWord}
 use Rattle.config_store.proofs.InOrder.{same_name}
 use Rattle.config_store.proofs.KeptLines.{IsKeptOf, kept_of_has}
@@ -84,7 +84,7 @@ filter_apart p (e ∷ es) apart = elim (cases_Bool (p e)) [
   | inr away ↦ rw away (filter_apart p es apart.1)
 ]
 
-kept_apart : (index : RegisterMap) → NamesApart (kept index)
+kept_apart : (index : RegisterMap) → NamesApart (registers_kept index)
 kept_apart index =
     filter_apart (is_kept (entries index)) (entries index)
     (names_apart (entries index) (entries_sorted index) 0 (entries index) (λ k o is.
@@ -130,18 +130,18 @@ same_board board name (e ∷ es) rs differ later = (differ, same_board board nam
 
 later_boards : (name : Name) (specs : List BoardSpec) (indexes : List RegisterMap)
     → AllByRecursion (λ (o : BoardSpec). name ≢ o.name) specs
-    → AllByRecursion (IsOfOther name) (kept_of (indexed specs indexes))
+    → AllByRecursion (IsOfOther name) (kept_of (indexed_boards specs indexes))
 later_boards name [] indexes apart = tt
 later_boards name (s ∷ specs) [] apart = tt
 later_boards name (s ∷ specs) (index ∷ indexes) apart =
-    same_board s.name name (kept index) (kept_of (indexed specs indexes)) apart.0 (later_boards name specs indexes apart.1)
+    same_board s.name name (registers_kept index) (kept_of (indexed_boards specs indexes)) apart.0 (later_boards name specs indexes apart.1)
 
 all_apart : (specs : List BoardSpec) (indexes : List RegisterMap) → BoardsApart specs
-    → RegistersApart (kept_of (indexed specs indexes))
+    → RegistersApart (kept_of (indexed_boards specs indexes))
 all_apart [] indexes apart = tt
 all_apart (s ∷ specs) [] apart = tt
 all_apart (s ∷ specs) (index ∷ indexes) apart =
-    board_apart s.name (kept index) (kept_apart index) (kept_of (indexed specs indexes))
+    board_apart s.name (registers_kept index) (kept_apart index) (kept_of (indexed_boards specs indexes))
     (later_boards s.name specs indexes apart.0) (all_apart specs indexes apart.1)
 
 -- ---- values for them
@@ -167,9 +167,9 @@ entries_apart (r ∷ rs) (e ∷ es) apart are =
     (entry_apart r e rs es are.0 apart.0 are.1, entries_apart rs es apart.1 are.1)
 
 module _ (specs : List BoardSpec) (indexes : List RegisterMap)
-    (quotable : (r : KeptRegister) → IsKeptOf (indexed specs indexes) r → IsQuotable r.name) where
+    (quotable : (r : KeptRegister) → IsKeptOf (indexed_boards specs indexes) r → IsQuotable r.name) where
   entries_spelled : (rs : List KeptRegister) (es : List StateEntry)
-      → ((k : ℕ) (r : KeptRegister) → slice_get rs k ≡ Some r → IsKeptOf (indexed specs indexes) r) → AreFor rs es
+      → ((k : ℕ) (r : KeptRegister) → slice_get rs k ≡ Some r → IsKeptOf (indexed_boards specs indexes) r) → AreFor rs es
       → AllByRecursion HasWord es
       → AllByRecursion CanBeSpelled es × AllByRecursion (IsOfSomeBoard specs) es
   entries_spelled [] [] each are words = (tt, tt)
@@ -204,11 +204,11 @@ OwnBoards = (document : Members) (session : Session) → IsSession document sess
 pub can_be_read_back : KeepsLimits → OwnBoards → (document : Members) (session : Session) (indexes : List RegisterMap)
     (entries : List StateEntry) → IsSession document session
     → AllZip (λ (b : BoardSpec) (index : RegisterMap). IsIndexOf session.tables b.table index) session.boards indexes
-    → AreFor (kept_of (indexed session.boards indexes)) entries → AllByRecursion HasWord entries
+    → AreFor (kept_of (indexed_boards session.boards indexes)) entries → AllByRecursion HasWord entries
     → CanBeReadBack session.boards entries
 can_be_read_back limits own document session indexes entries is indexes_are are words =
     let specs = session.boards in
-    let boards = indexed specs indexes in
+    let boards = indexed_boards specs indexes in
     let apart = boards_apart specs (own document session is) in
     let quotable : (r : KeptRegister) → IsKeptOf boards r → IsQuotable r.name =
     λ r of.

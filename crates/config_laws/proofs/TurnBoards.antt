@@ -17,7 +17,7 @@ use Rattle.script_plans.specs.Plan.{ClientBodies}
 use Rattle.transcript.specs.declared.body_end.BodyEnd.{BodyEnd}
 use Rattle.transcript.specs.declared.line.OpResult.{OpResult}
 use Rattle.transcript.specs.Ends.{ends_of, ends_with, piece_result}
-use Rattle.transcript.specs.Results.{combined, is_good, shown}
+use Rattle.transcript.specs.Results.{combined_result, is_good, shown_result}
 use Rattle.transcript.proofs.GoodResults.{good_piece}
 use Rattle.transcript.specs.Lines.{by_pieces}
 use Rattle.board_history.specs.InTurn.{outcomes_from}
@@ -64,7 +64,7 @@ AllShownGood cells planned ops =
 pub record IsDoneBehind (cells : CellMap) (planned : ClientBodies) (before : List Op) (op : RegOp) : Type 0 where
   pub done : (outcome (after_ops cells before) op.op).fault ≡ None
   pub shown' : (by_pieces (part_alone cells planned) op (slice_get planned.pieces (length before))).0
-      ≡ shown op.verb op.mask (outcome (after_ops cells before) op.op).values
+      ≡ shown_result op.verb op.mask (outcome (after_ops cells before) op.op).values
 
 module _ (success : Successes) (failure : Failures) (only : OneAnswer) (answering : Answering) (any : AnsweringAny)
     (keeping : Keeping) (keeping_all : KeepingAll) (garbling : Garbling) (joins : Joins) where
@@ -79,14 +79,14 @@ module _ (success : Successes) (failure : Failures) (only : OneAnswer) (answerin
     -- what the operation of a number came to
     piece_at_place : (k : ℕ) (asked : RegOp) (p : PieceAt) → slice_get places k ≡ Some p
         → (by_pieces (part_alone cells planned) asked (slice_get planned.pieces k)).0
-        ≡ combined asked.verb asked.mask (piece_result (ends 1 cells laid.parts) p ∷ [])
+        ≡ combined_result asked.verb asked.mask (piece_result (ends 1 cells laid.parts) p ∷ [])
     piece_at_place k asked p at =
         let here : slice_get planned.pieces k ≡ Some (p ∷ []) =
         ap (λ (ps : List (List PieceAt)). slice_get ps k) laid.pieces'
         ∙ slice_get-map (λ (x : PieceAt). x ∷ []) places k
         ∙ ap (option_map (λ (x : PieceAt). x ∷ [])) at in
         ap (λ (o : Option (List PieceAt)). (by_pieces (part_alone cells planned) asked o).0) here
-        ∙ ap (λ (es : List BodyEnd). combined asked.verb asked.mask (piece_result es p ∷ [])) ends_are
+        ∙ ap (λ (es : List BodyEnd). combined_result asked.verb asked.mask (piece_result es p ∷ [])) ends_are
 
     all_good : AllShownGood cells planned ops → AllGood (map (piece_result (ends 1 cells laid.parts)) places)
     all_good good = good_from places (λ k p at. each k p at) where
@@ -130,7 +130,7 @@ module _ (success : Successes) (failure : Failures) (only : OneAnswer) (answerin
         record {
           done = none;
           shown' = piece_at_place (length before) op found.0 found.1
-              ∙ ap (λ (r : OpResult). combined op.verb op.mask (r ∷ []))
+              ∙ ap (λ (r : OpResult). combined_result op.verb op.mask (r ∷ []))
               (same_Some (piece_result (ends 1 cells laid.parts) found.0) (told_turn (after_ops cells before) op.op)
               here)
               ∙ shown_done (after_ops cells before) op.op op.verb op.mask none;

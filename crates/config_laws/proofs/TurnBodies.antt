@@ -20,7 +20,7 @@ use Rattle.reply_join.specs.declared.answer.Answer.{Answer}
 use Rattle.reply_join.specs.declared.answer.Answer.TheVariants.{Skipped}
 use Rattle.reply_join.specs.Joining.{IsJoined, answer_of, answers_to}
 use Rattle.transcript.specs.declared.line.OpResult.{OpResult}
-use Rattle.transcript.specs.Ends.{answered}
+use Rattle.transcript.specs.Ends.{answer_result}
 use Rattle.transcript.specs.Results.{is_good}
 use Rattle.config_laws.specs.Turns.{after_ops}
 use Rattle.config_laws.proofs.BusReads.{Failures, Successes}
@@ -31,7 +31,7 @@ abbrev pub AllGood : List OpResult → Type 0
 AllGood results = AllByRecursion (λ (r : OpResult). is_good r ≡ true) results
 
 abbrev pub told_answer : Answer → OpResult
-told_answer a = answered (Some a)
+told_answer a = answer_result (Some a)
 
 abbrev pub told_answers : List Answer → List OpResult
 told_answers list = map told_answer list

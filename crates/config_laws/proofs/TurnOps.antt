@@ -17,14 +17,14 @@ use Rattle.reply_join.specs.declared.answer.Answer.TheVariants.{Values, Done, Fa
 use Rattle.reply_join.specs.Joining.{answer_of}
 use Rattle.script_steps.specs.declared.operation.Verb.{Verb}
 use Rattle.transcript.specs.declared.line.OpResult.{OpResult}
-use Rattle.transcript.specs.Ends.{answered}
-use Rattle.transcript.specs.Results.{combined, shown}
+use Rattle.transcript.specs.Ends.{answer_result}
+use Rattle.transcript.specs.Results.{combined_result, shown_result}
 use Rattle.config_laws.specs.Turns.{after_ops}
 
 -- ---- what is told of an operation
 
 abbrev pub told_turn : CellMap → Op → OpResult
-told_turn cells op = answered (Some (answer_of (transact cells (record { tid = 0; op = op })).reply))
+told_turn cells op = answer_result (Some (answer_of (transact cells (record { tid = 0; op = op })).reply))
 
 -- what is told of operations one after another
 abbrev pub turns : CellMap → List Op → List OpResult
@@ -55,18 +55,18 @@ answer_by found count kind values =
 
 -- an operation that was done shows the words that it carries
 pub shown_done : (cells : CellMap) (op : Op) (verb : Verb) (mask : ℕ) → (outcome cells op).fault ≡ None
-    → combined verb mask (told_turn cells op ∷ []) ≡ shown verb mask (outcome cells op).values
+    → combined_result verb mask (told_turn cells op ∷ []) ≡ shown_result verb mask (outcome cells op).values
 shown_done cells op verb mask none =
-    ap (λ (f : Option BusFault). combined verb mask
-    (answered (Some (answer_by f (outcome cells op).count (op_kind op) (outcome cells op).values)) ∷ [])) none
+    ap (λ (f : Option BusFault). combined_result verb mask
+    (answer_result (Some (answer_by f (outcome cells op).count (op_kind op) (outcome cells op).values)) ∷ [])) none
     ∙ by_kind cells op verb mask where
-      carried : (verb : Verb) (mask : ℕ) (values : List ℕ) → shown verb mask (values ++ []) ≡ shown verb mask values
-      carried verb mask values = ap (shown verb mask) (append-nil values)
+      carried : (verb : Verb) (mask : ℕ) (values : List ℕ) → shown_result verb mask (values ++ []) ≡ shown_result verb mask values
+      carried verb mask values = ap (shown_result verb mask) (append-nil values)
 
       by_kind : (cells : CellMap) (op : Op) (verb : Verb) (mask : ℕ)
-          → combined verb mask
-          (answered (Some (answer_by None (outcome cells op).count (op_kind op) (outcome cells op).values)) ∷ [])
-          ≡ shown verb mask (outcome cells op).values
+          → combined_result verb mask
+          (answer_result (Some (answer_by None (outcome cells op).count (op_kind op) (outcome cells op).values)) ∷ [])
+          ≡ shown_result verb mask (outcome cells op).values
       by_kind cells (Read base count) verb mask = carried verb mask (outcome cells (Read base count)).values
       by_kind cells (ReadPort base count) verb mask = carried verb mask (outcome cells (ReadPort base count)).values
       by_kind cells (Write base words) verb mask = refl

@@ -18,7 +18,7 @@ use Rattle.transcript.specs.declared.body_end.BodyEnd.{BodyEnd}
 use Rattle.transcript.specs.declared.body_end.Told.{Told}
 use Rattle.transcript.specs.declared.body_end.Told.TheVariants.{Answered}
 use Rattle.transcript.specs.declared.line.OpResult.{OpResult}
-use Rattle.transcript.specs.Ends.{answered, end_of, ends_with, piece_result, result_in, told_at, told_by, told_of}
+use Rattle.transcript.specs.Ends.{answer_result, end_of, ends_with, piece_result, result_in, told_at, told_by, told_of}
 use Rattle.transcript.specs.Results.{is_good}
 use Rattle.board_history.specs.InTurn.{outcomes_from}
 use Rattle.board_history.proofs.Answering.{Answering, AnsweringAny, Garbling, IsTold, Joins, Keeping, KeepingAll}
@@ -90,13 +90,13 @@ results_at place cells parts = results_behind [] place cells parts
 
 -- the answers to a body, place by place
 answers_in_order : (front list : List Answer)
-    → map (λ i. answered (slice_get (front ++ list) i)) (range_with_len (length front) (length list))
+    → map (λ i. answer_result (slice_get (front ++ list) i)) (range_with_len (length front) (length list))
     ≡ told_answers list
 answers_in_order front [] = refl
 answers_in_order front (a ∷ list) =
     let more : length front + 1 ≡ length (front ++ a ∷ []) = omega (arith, length-append front (a ∷ [])) in
-    let at : List Answer → ℕ → OpResult = λ all i. answered (slice_get all i) in
-    ap (λ (o : Option Answer). answered o ∷ map (at (front ++ a ∷ list)) (range_with_len (length front + 1) (length list)))
+    let at : List Answer → ℕ → OpResult = λ all i. answer_result (slice_get all i) in
+    ap (λ (o : Option Answer). answer_result o ∷ map (at (front ++ a ∷ list)) (range_with_len (length front + 1) (length list)))
     (get_seam front list a)
     ∙ ap (λ (rs : List OpResult). told_answer a ∷ rs)
     (ap (λ n. map (at (front ++ a ∷ list)) (range_with_len n (length list))) more

@@ -12,16 +12,16 @@ use Rattle.transaction_codec.specs.declared.request.Op.{Op}
 use Rattle.transaction_codec.specs.declared.request.Op.TheVariants.{Read, ReadPort, Write, WritePort, RmwBits, RmwSum}
 use Rattle.transaction_codec.specs.Request.{AreRequests, op_count}
 use Rattle.mtu_packer.specs.declared.packed.Piece.{Piece}
-use Rattle.mtu_packer.specs.Cutting.{cut, part_of, piece, piece_count, piece_limit}
+use Rattle.mtu_packer.specs.Cutting.{cut_pieces, part_of, piece, piece_count, piece_limit}
 use Rattle.mtu_packer.specs.Packing.{AreReadable, body_requests, body_words}
-use Rattle.mtu_packer.specs.Packed.{Contents, IsPacked, packed, pieces_at, places_from}
+use Rattle.mtu_packer.specs.Packed.{Contents, IsPacked, packed_contents, pieces_at, places_from}
 use Rattle.mtu_packer.proofs.Pieces.{piece_limit-some}
 use Rattle.script_steps.specs.declared.operation.RegOp.{RegOp}
 use Rattle.script_steps.specs.declared.operation.Step.{Step}
 use Rattle.script_steps.specs.declared.operation.Step.TheVariants.{Do, Denied, Dispatch}
 use Rattle.script_plans.specs.declared.greeting.Greeting.TheVariants.{Live}
 use Rattle.script_plans.specs.declared.planned.PieceAt.{PieceAt}
-use Rattle.script_plans.specs.Plan.{ClientBodies, begun, dispatches, moved, no_bodies, operations, ops_on, planned_on}
+use Rattle.script_plans.specs.Plan.{ClientBodies, into_next_dispatch, dispatches, piece_behind, no_bodies, operations, ops_on, planned_on}
 use Rattle.script_plans.specs.Plan.{with_dispatch}
 use Rattle.script_plans.proofs.PackedDispatches.{AreDispatchesPacked}
 use Rattle.board_history.proofs.Asking.{heads}
@@ -58,7 +58,7 @@ part_one (WritePort base words) offset count one none first =
 part_one (RmwBits base and_term or_term) offset count one none first = refl
 part_one (RmwSum base addend) offset count one none first = refl
 
-word_cut : (payload : ℕ) (op : Op) → 16 ≤ payload → HasOneWord op → cut payload op ≡ op ∷ []
+word_cut : (payload : ℕ) (op : Op) → 16 ≤ payload → HasOneWord op → cut_pieces payload op ≡ op ∷ []
 word_cut payload op low one =
     let limit = piece_limit payload op in
     let some : 1 ≤ limit = piece_limit-some payload op low in
@@ -71,10 +71,10 @@ word_cut payload op low one =
     ∙ ap (λ (x : Op). x ∷ []) (part_one op (0 * limit) (min limit (op_count op - 0 * limit)) one none words)
 
 whole_cut : (payload : ℕ) (ops : List Op) → 16 ≤ payload → AllByRecursion HasOneWord ops
-    → flat_map (cut payload) ops ≡ ops
+    → flat_map (cut_pieces payload) ops ≡ ops
 whole_cut payload [] low one = refl
 whole_cut payload (op ∷ ops) low one =
-    ap (λ (xs : List Op). xs ++ flat_map (cut payload) ops) (word_cut payload op low one.0)
+    ap (λ (xs : List Op). xs ++ flat_map (cut_pieces payload) ops) (word_cut payload op low one.0)
     ∙ ap (λ (xs : List Op). op ∷ xs) (whole_cut payload ops low one.1)
 
 abbrev alone : {T : Type 0} → T → List T
@@ -82,14 +82,14 @@ alone x = x ∷ []
 
 -- each operation has one place
 singles : (payload : ℕ) (parts : List (List Op)) (ops : List Op) (pieces : List (List Piece)) → 16 ≤ payload
-    → AllByRecursion HasOneWord ops → map (pieces_at parts) pieces ≡ map (λ op. map Some (cut payload op)) ops
+    → AllByRecursion HasOneWord ops → map (pieces_at parts) pieces ≡ map (λ op. map Some (cut_pieces payload op)) ops
     → pieces ≡ map alone (flat_map (λ places. places) pieces)
 singles payload parts [] [] low one same = refl
 singles payload parts [] (ps ∷ pieces) low one same = absurd cc
 singles payload parts (o ∷ ops) [] low one same = absurd cc
 singles payload parts (o ∷ ops) (ps ∷ pieces) low one same =
-    let both = heads (pieces_at parts ps) (map Some (cut payload o)) (map (pieces_at parts) pieces)
-    (map (λ op. map Some (cut payload op)) ops) same in
+    let both = heads (pieces_at parts ps) (map Some (cut_pieces payload o)) (map (pieces_at parts) pieces)
+    (map (λ op. map Some (cut_pieces payload op)) ops) same in
     first ps (both.head ∙ ap (λ (xs : List Op). map Some xs) (word_cut payload o low one.0))
     (singles payload parts ops pieces low one.1 both.tail) where
       first : (places : List Piece) → pieces_at parts places ≡ Some o ∷ []
@@ -102,18 +102,18 @@ singles payload parts (o ∷ ops) (ps ∷ pieces) low one same =
 -- ---- places through all dispatches
 
 moved_in : (first body : ℕ) (is : List ℕ)
-    → map (moved first) (map (λ index. record { body = body; index = index }) is) ≡ map (spot (first + body)) is
+    → map (piece_behind first) (map (λ index. record { body = body; index = index }) is) ≡ map (spot (first + body)) is
 moved_in first body [] = refl
 moved_in first body (i ∷ is) = ap (λ (ps : List PieceAt). spot (first + body) i ∷ ps) (moved_in first body is)
 
 moved_spots : (first body : ℕ) (parts : List (List Op))
-    → map (moved first) (places_from body parts) ≡ spots (first + body) parts
+    → map (piece_behind first) (places_from body parts) ≡ spots (first + body) parts
 moved_spots first body [] = refl
 moved_spots first body (part ∷ parts) =
     let next : first + (body + 1) ≡ first + body + 1 = omega arith in
-    map-append (moved first) (map (λ index. record { body = body; index = index }) (range_with_len 0 (length part)))
+    map-append (piece_behind first) (map (λ index. record { body = body; index = index }) (range_with_len 0 (length part)))
     (places_from (body + 1) parts)
-    ∙ ap (λ (ps : List PieceAt). ps ++ map (moved first) (places_from (body + 1) parts))
+    ∙ ap (λ (ps : List PieceAt). ps ++ map (piece_behind first) (places_from (body + 1) parts))
     (moved_in first body (range_with_len 0 (length part)))
     ∙ ap (λ (ps : List PieceAt). spots_in (first + body) (length part) ++ ps)
     (moved_spots first (body + 1) parts ∙ ap (λ n. spots n parts) next)
@@ -127,9 +127,9 @@ spots_append body (x ∷ xs) ys =
     ∙ sym (append_assoc (spots_in body (length x)) (spots (body + 1) xs) (spots (body + suc (length xs)) ys))
 
 moved_alone : (first : ℕ) (places : List Piece)
-    → map (λ (ps : List Piece). map (moved first) ps) (map alone places) ≡ map alone (map (moved first) places)
+    → map (λ (ps : List Piece). map (piece_behind first) ps) (map alone places) ≡ map alone (map (piece_behind first) places)
 moved_alone first [] = refl
-moved_alone first (p ∷ ps) = ap (λ (rest : List (List PieceAt)). (moved first p ∷ []) ∷ rest) (moved_alone first ps)
+moved_alone first (p ∷ ps) = ap (λ (rest : List (List PieceAt)). (piece_behind first p ∷ []) ∷ rest) (moved_alone first ps)
 
 -- ---- the plan
 
@@ -151,9 +151,9 @@ laid_more payload all contents before ops low one is laid =
     let first : n + 0 ≡ 0 + length laid.parts = omega (arith, count) in
     let places : contents.pieces ≡ map alone (places_from 0 is.parts) =
     singles payload is.parts ops contents.pieces low one is.pieces ∙ ap (map alone) is.places in
-    let moved_here : map (λ (ps : List Piece). map (moved n) ps) contents.pieces
+    let moved_here : map (λ (ps : List Piece). map (piece_behind n) ps) contents.pieces
     ≡ map alone (spots (0 + length laid.parts) is.parts) =
-    ap (map (λ (ps : List Piece). map (moved n) ps)) places ∙ moved_alone n (places_from 0 is.parts)
+    ap (map (λ (ps : List Piece). map (piece_behind n) ps)) places ∙ moved_alone n (places_from 0 is.parts)
     ∙ ap (map alone) (moved_spots n 0 is.parts ∙ ap (λ m. spots m is.parts) first) in
     record {
       parts = laid.parts ++ is.parts;
@@ -165,7 +165,7 @@ laid_more payload all contents before ops low one is laid =
       whole = flat_map-append (λ (part : List Op). part) laid.parts is.parts
           ∙ ap (λ (xs : List Op). xs ++ flat_map (λ (part : List Op). part) is.parts) laid.whole
           ∙ ap (λ (xs : List Op). before ++ xs) (is.packing.whole ∙ whole_cut payload ops low one);
-      pieces' = ap (λ (ps : List (List PieceAt)). ps ++ map (λ (ps : List Piece). map (moved n) ps) contents.pieces)
+      pieces' = ap (λ (ps : List (List PieceAt)). ps ++ map (λ (ps : List Piece). map (piece_behind n) ps) contents.pieces)
           laid.pieces'
           ∙ ap (λ (ps : List (List PieceAt)). map alone (spots 0 laid.parts) ++ ps) moved_here
           ∙ sym (map-append alone (spots 0 laid.parts) (spots (0 + length laid.parts) is.parts))
@@ -175,17 +175,17 @@ laid_more payload all contents before ops low one is laid =
 laid_all : (payload board : ℕ) (ds : List (List RegOp)) (all : ClientBodies) (before : List Op) → 16 ≤ payload
     → AreDispatchesPacked payload board ds → AllByRecursion HasOneWord (flat_map (ops_on board) ds)
     → IsLaidOut all before
-    → IsLaidOut (fold with_dispatch all (map (λ dispatch. packed payload (ops_on board dispatch)) ds))
+    → IsLaidOut (fold with_dispatch all (map (λ dispatch. packed_contents payload (ops_on board dispatch)) ds))
     (before ++ flat_map (ops_on board) ds)
 laid_all payload board [] all before low packings one laid =
     subst (IsLaidOut all) (sym (append-nil before)) laid
 laid_all payload board (d ∷ ds) all before low packings one laid =
     let here = ops_on board d in
     let later = flat_map (ops_on board) ds in
-    let contents = packed payload here in
+    let contents = packed_contents payload here in
     let next = laid_more payload all contents before here low (front_of_all HasOneWord here later one) packings.0 laid in
     subst (IsLaidOut (fold with_dispatch (with_dispatch all contents)
-    (map (λ dispatch. packed payload (ops_on board dispatch)) ds))) (append_assoc before here later)
+    (map (λ dispatch. packed_contents payload (ops_on board dispatch)) ds))) (append_assoc before here later)
     (laid_all payload board ds (with_dispatch all contents) (before ++ here) low packings.1
     (back_of_all HasOneWord here later one) next)
 
@@ -206,7 +206,7 @@ ops_append board (x ∷ xs) ys =
     ∙ ap (λ (os : List Op). os ++ ops_on board ys) (sym (one_and_more board x xs))
 
 begun_ops : (board : ℕ) (op : RegOp) (ds : List (List RegOp))
-    → flat_map (ops_on board) (begun op ds) ≡ ops_on board (op ∷ []) ++ flat_map (ops_on board) ds
+    → flat_map (ops_on board) (into_next_dispatch op ds) ≡ ops_on board (op ∷ []) ++ flat_map (ops_on board) ds
 begun_ops board op [] = refl
 begun_ops board op (d ∷ later) =
     ap (λ (xs : List Op). xs ++ flat_map (ops_on board) later) (one_and_more board op d)

@@ -10,12 +10,12 @@ use Rattle.board_bus.specs.Cells.{CellMap}
 use Rattle.board_bus.specs.Transactions.{outcome}
 use Rattle.board_node.specs.declared.spec.BoardSpec.{BoardSpec}
 use Rattle.board_node.specs.declared.spec.LinkSpec.{LinkSpec}
-use Rattle.script_steps.specs.Rulings.{Asked, allowed}
+use Rattle.script_steps.specs.Rulings.{Asked, allowed_operations}
 use Rattle.script_steps.specs.declared.operation.RegOp.{RegOp}
 use Rattle.script_plans.specs.Plan.{ops_on}
 use Rattle.transcript.specs.declared.line.OpLine.{OpLine}
 use Rattle.transcript.proofs.Allowed.{allowed-append}
-use Rattle.board_history.specs.Runs.{opening_of}
+use Rattle.board_history.specs.Runs.{opens_with}
 use Rattle.config_laws.specs.Turns.{ShowTurns, ShowsTurn, after_ops, bus_behind}
 use Rattle.config_laws.proofs.TurnLines.{on_away, on_here, undenied}
 use Rattle.config_laws.proofs.TurnPlans.{ops_append}
@@ -27,9 +27,9 @@ bus_more : (link : LinkSpec) (board : ℕ) (before : List Asked) (it : RegOp)
     → bus_behind link board (before ++ undenied it ∷ [])
     ≡ after_ops (bus_behind link board before) (ops_on board (it ∷ []))
 bus_more link board before it =
-    ap (λ (ops : List RegOp). after_ops (opening_of link) (ops_on board ops)) (allowed-append before (undenied it ∷ []))
-    ∙ ap (after_ops (opening_of link)) (ops_append board (allowed before) (it ∷ []))
-    ∙ after_append (opening_of link) (ops_on board (allowed before)) (ops_on board (it ∷ []))
+    ap (λ (ops : List RegOp). after_ops (opens_with link) (ops_on board ops)) (allowed-append before (undenied it ∷ []))
+    ∙ ap (after_ops (opens_with link)) (ops_append board (allowed_operations before) (it ∷ []))
+    ∙ after_append (opens_with link) (ops_on board (allowed_operations before)) (ops_on board (it ∷ []))
 
 -- a read leaves it as it is
 read_leaves : (cells : CellMap) (board : ℕ) (it : RegOp) (base count : ℕ) → it.op ≡ Read base count
@@ -51,9 +51,9 @@ module _ (specs : List BoardSpec) (board : ℕ) (spec : BoardSpec) (on : slice_g
   one_done : (before : List Asked) (op : RegOp) (denied : Option ℕ) (asks : List Asked) (line : OpLine)
       → ShowsTurn specs before (record { op = op; denied = denied }) line
       → AreAllDone (bus_behind spec.link board (before ++ record { op = op; denied = denied } ∷ []))
-      (ops_on board (allowed asks))
+      (ops_on board (allowed_operations asks))
       → AreAllDone (bus_behind spec.link board before)
-      (ops_on board (allowed (record { op = op; denied = denied } ∷ asks)))
+      (ops_on board (allowed_operations (record { op = op; denied = denied } ∷ asks)))
   one_done before op None asks line turn later =
       let cells = bus_behind spec.link board before in
       elim (cases_Bool (op.board == board)) [
@@ -67,18 +67,18 @@ module _ (specs : List BoardSpec) (board : ℕ) (spec : BoardSpec) (on : slice_g
             in
             let next : bus_behind spec.link board (before ++ undenied op ∷ []) ≡ (outcome cells op.op).cells =
             bus_more spec.link board before op ∙ ap (after_ops cells) (on_here board op [] here) in
-            subst (AreAllDone cells) (sym (on_here board op (allowed asks) here))
-            (fine, subst (λ (c : CellMap). AreAllDone c (ops_on board (allowed asks))) next later)
+            subst (AreAllDone cells) (sym (on_here board op (allowed_operations asks) here))
+            (fine, subst (λ (c : CellMap). AreAllDone c (ops_on board (allowed_operations asks))) next later)
         | inr away ↦
             let next : bus_behind spec.link board (before ++ undenied op ∷ []) ≡ cells =
             bus_more spec.link board before op ∙ ap (after_ops cells) (on_away board op [] away) in
-            subst (AreAllDone cells) (sym (on_away board op (allowed asks) away))
-            (subst (λ (c : CellMap). AreAllDone c (ops_on board (allowed asks))) next later)
+            subst (AreAllDone cells) (sym (on_away board op (allowed_operations asks) away))
+            (subst (λ (c : CellMap). AreAllDone c (ops_on board (allowed_operations asks))) next later)
       ]
   one_done before op (Some rule) asks line turn later = let bad : Some rule ≡ None = turn.allowed' in absurd cc
 
   pub turns_done : (before asks : List Asked) (lines : List OpLine) → ShowTurns specs before asks lines
-      → AreAllDone (bus_behind spec.link board before) (ops_on board (allowed asks))
+      → AreAllDone (bus_behind spec.link board before) (ops_on board (allowed_operations asks))
   turns_done before [] lines turns = tt
   turns_done before (ask ∷ asks) [] turns = absurd turns
   turns_done before (ask ∷ asks) (line ∷ lines) turns =

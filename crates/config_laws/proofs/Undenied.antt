@@ -7,7 +7,7 @@ use Rattle.access_policy.specs.Decisions.{decisions, names_of, ruled_from, ruled
 use Rattle.access_policy.specs.declared.policy.Rule.{Rule}
 use Rattle.board_node.specs.declared.spec.BoardSpec.{BoardSpec}
 use Rattle.world_model.specs.Settings.{Limits}
-use Rattle.script_steps.specs.Rulings.{Asked, asked, ruled}
+use Rattle.script_steps.specs.Rulings.{Asked, asked_operations, steps_under_policy}
 use Rattle.script_steps.specs.declared.operation.Decision.{Decision}
 use Rattle.script_steps.specs.declared.operation.Decision.TheVariants as decision
 use Rattle.script_steps.specs.declared.operation.Step.{Step}
@@ -45,7 +45,7 @@ none_shown (lines ∷ clients) done = (no_rules lines done.0, none_shown clients
 
 -- ---- steps under a policy
 
-none_denied : (steps : List Step) (said : List Decision) → AreNone (rules_of (ruled steps said)) → ruled steps said ≡ steps
+none_denied : (steps : List Step) (said : List Decision) → AreNone (rules_of (steps_under_policy steps said)) → steps_under_policy steps said ≡ steps
 none_denied [] said none = refl
 none_denied (step ∷ steps) [] none = refl
 none_denied (Do op ∷ steps) (decision.Allowed ∷ said) none =
@@ -75,14 +75,14 @@ undenied (Some policy) names scripts none = scripts_undenied policy names 1 scri
 abbrev IsBelow : ℕ → Asked → Type 0
 IsBelow most ask = ask.op.board < most
 
-steps_on : (most : ℕ) (steps : List Step) → StepsAreOn most steps → AllByRecursion (IsBelow most) (asked steps)
+steps_on : (most : ℕ) (steps : List Step) → StepsAreOn most steps → AllByRecursion (IsBelow most) (asked_operations steps)
 steps_on most [] on = tt
 steps_on most (Do op ∷ steps) on = (on.0, steps_on most steps on.1)
 steps_on most (Denied rule op ∷ steps) on = (on.0, steps_on most steps on.1)
 steps_on most (Dispatch ∷ steps) on = steps_on most steps on.1
 
 ruled_on : (most : ℕ) (steps : List Step) (said : List Decision) → StepsAreOn most steps
-    → AllByRecursion (IsBelow most) (asked (ruled steps said))
+    → AllByRecursion (IsBelow most) (asked_operations (steps_under_policy steps said))
 ruled_on most [] said on = tt
 ruled_on most (step ∷ steps) [] on = steps_on most (step ∷ steps) on
 ruled_on most (Do op ∷ steps) (decision.Allowed ∷ said) on = (on.0, ruled_on most steps said on.1)
@@ -91,7 +91,7 @@ ruled_on most (Denied rule op ∷ steps) (d ∷ said) on = (on.0, ruled_on most 
 ruled_on most (Dispatch ∷ steps) (d ∷ said) on = ruled_on most steps said on.1
 
 abbrev AreBelow : ℕ → List Step → Type 0
-AreBelow most steps = AllByRecursion (IsBelow most) (asked steps)
+AreBelow most steps = AllByRecursion (IsBelow most) (asked_operations steps)
 
 scripts_on : (most : ℕ) (policy : List Rule) (names : List (List ℕ)) (client : ℕ) (scripts : List (List Step))
     → AllByRecursion (StepsAreOn most) scripts

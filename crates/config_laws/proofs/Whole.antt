@@ -16,7 +16,7 @@ use Rattle.script_steps.specs.declared.operation.Step.{Step}
 use Rattle.board_history.proofs.Asking.{heads}
 use Rattle.board_history.proofs.Lists.{all_at, get_back}
 use Rattle.config_store.specs.declared.state.StateEntry.{StateEntry}
-use Rattle.config_store.specs.Kept.{IndexedBoard, KeptRegister, indexed, kept, kept_of, kept_on, kept_register}
+use Rattle.config_store.specs.Kept.{IndexedBoard, KeptRegister, indexed_boards, registers_kept, kept_of, kept_on, kept_register}
 use Rattle.config_store.specs.Order.{AreInOrder, entry_cmp}
 use Rattle.config_store.specs.Text.{heading}
 use Rattle.config_store.proofs.InOrder.{same_name}
@@ -90,13 +90,13 @@ shown_as_given specs (r ∷ kept) state (e ∷ entries) (x ∷ shown) order appl
 -- ---- each value that is given is shown
 
 in_kept : (boards : List IndexedBoard) (place : ℕ) (b : IndexedBoard) → slice_get boards place ≡ Some b → (m : ℕ)
-    (e : Name × Register) → slice_get (kept b.1) m ≡ Some e → (n : ℕ)
+    (e : Name × Register) → slice_get (registers_kept b.1) m ≡ Some e → (n : ℕ)
     × (slice_get (kept_of boards) n ≡ Some (kept_register b.0.name e))
 in_kept [] place b at m e there = absurd cc
 in_kept (x ∷ boards) zero b at m e there =
     let same : x ≡ b = same_Some x b at in
     let here : slice_get (kept_on b) m ≡ Some (kept_register b.0.name e) =
-    slice_get-map (kept_register b.0.name) (kept b.1) m ∙ ap (option_map (kept_register b.0.name)) there in (
+    slice_get-map (kept_register b.0.name) (registers_kept b.1) m ∙ ap (option_map (kept_register b.0.name)) there in (
       m,
       get_front (kept_on x) (kept_of boards) m (kept_register b.0.name e)
           (subst (λ (y : IndexedBoard). slice_get (kept_on y) m ≡ Some (kept_register b.0.name e)) (sym same) here),
@@ -139,15 +139,15 @@ all_shown specs boards state shown (e ∷ entries) (step ∷ steps) order applie
 -- ---- boards of the same names and tables
 
 pub kept_same : (specs others : List BoardSpec) (indexes : List RegisterMap) → names_of specs ≡ names_of others
-    → kept_of (indexed specs indexes) ≡ kept_of (indexed others indexes)
+    → kept_of (indexed_boards specs indexes) ≡ kept_of (indexed_boards others indexes)
 kept_same [] [] indexes same = refl
 kept_same [] (o ∷ others) indexes same = absurd cc
 kept_same (s ∷ specs) [] indexes same = absurd cc
 kept_same (s ∷ specs) (o ∷ others) [] same = refl
 kept_same (s ∷ specs) (o ∷ others) (index ∷ indexes) same =
     let both = heads s.name o.name (names_of specs) (names_of others) same in
-    ap (λ (n : Name). map (kept_register n) (kept index) ++ kept_of (indexed specs indexes)) both.head
-    ∙ ap (λ (rest : List KeptRegister). map (kept_register o.name) (kept index) ++ rest)
+    ap (λ (n : Name). map (kept_register n) (registers_kept index) ++ kept_of (indexed_boards specs indexes)) both.head
+    ∙ ap (λ (rest : List KeptRegister). map (kept_register o.name) (registers_kept index) ++ rest)
     (kept_same specs others indexes both.tail)
 
 pub text_same : (specs others : List BoardSpec) (entries : List StateEntry) → names_of specs ≡ names_of others

@@ -15,13 +15,13 @@ use Rattle.node_tree.specs.Maps.{RegisterMap}
 use Rattle.node_tree.specs.declared.register.Register.{Register}
 use Rattle.script_lang.specs.Operations.{write_op}
 use Rattle.script_lang.specs.OwnNames.{HaveOwnNames}
-use Rattle.script_steps.specs.Rulings.{allowed, asked}
+use Rattle.script_steps.specs.Rulings.{allowed_operations, asked_operations}
 use Rattle.script_steps.specs.declared.operation.RegOp.{RegOp}
 use Rattle.script_steps.specs.declared.operation.Step.{Step}
 use Rattle.script_plans.specs.Plan.{ops_on}
 use Rattle.world_model.proofs.Lists.{either}
 use Rattle.config_store.specs.declared.state.StateEntry.{StateEntry}
-use Rattle.config_store.specs.Kept.{IndexedBoard, IsKept, KeptRegister, indexed, kept}
+use Rattle.config_store.specs.Kept.{IndexedBoard, IsKept, KeptRegister, indexed_boards, registers_kept}
 use Rattle.config_store.specs.Meanings.{HasWord, write_of}
 use Rattle.config_store.specs.Overlaps.{overlapping_names}
 use Rattle.config_store.specs.Puts.{AreApartFrom, CanBePut}
@@ -78,14 +78,14 @@ module _ (boards : List IndexedBoard) where
       else written_on board entries steps given.1
 
   pub ops_written : (board : ℕ) (entries : List StateEntry) (steps : List Step) (given : AllZip (IsGiven boards) entries steps)
-      → ops_on board (allowed (asked steps)) ≡ map op_for (written_on board entries steps given)
+      → ops_on board (allowed_operations (asked_operations steps)) ≡ map op_for (written_on board entries steps given)
   ops_written board [] [] given = refl
   ops_written board [] (step ∷ steps) given = absurd given
   ops_written board (e ∷ entries) [] given = absurd given
   ops_written board (e ∷ entries) (step ∷ steps) given =
       let is = given.0 in
-      ap (λ (s : Step). ops_on board (allowed (asked (s ∷ steps)))) is.is
-      ∙ one_op board (write_of is.line is.place e.name is.register e.value) (allowed (asked steps)) (value_of e step is)
+      ap (λ (s : Step). ops_on board (allowed_operations (asked_operations (s ∷ steps)))) is.is
+      ∙ one_op board (write_of is.line is.place e.name is.register e.value) (allowed_operations (asked_operations steps)) (value_of e step is)
       (written_on board entries steps given.1) refl (ops_written board entries steps given.1)
 
   can_more : (test : Bool) (write : ValueFor) (writes : List ValueFor) → CanBeWritten write
@@ -143,26 +143,26 @@ bytes_cases xs ys = elim (cases_Bool (bytes_eq xs ys)) [
 ]
 
 module _ (law : OverlapInABit) (specs : List BoardSpec) (indexes : List RegisterMap) (own : HaveOwnNames specs)
-    (fields : HaveFields (indexed specs indexes)) (board : ℕ) (b : IndexedBoard)
-    (at : slice_get (indexed specs indexes) board ≡ Some b) (none : overlapping_names [] (kept b.1) ≡ [])
+    (fields : HaveFields (indexed_boards specs indexes)) (board : ℕ) (b : IndexedBoard)
+    (at : slice_get (indexed_boards specs indexes) board ≡ Some b) (none : overlapping_names [] (registers_kept b.1) ≡ [])
     (r : KeptRegister) (called : b.0.name ≡ r.board) (is_kept : IsKept b.1 r.name r.register) where
   -- a value that is written on this board goes to a register of its table
-  on_this : (entry : StateEntry) (step : Step) (is : IsGiven (indexed specs indexes) entry step) → is.place ≡ board
+  on_this : (entry : StateEntry) (step : Step) (is : IsGiven (indexed_boards specs indexes) entry step) → is.place ≡ board
       → IsKept b.1 entry.name is.register
   on_this entry step is same =
       let one : is.board ≡ b =
-      same_Some is.board b (sym is.there ∙ (ap (slice_get (indexed specs indexes)) same ∙ at)) in
+      same_Some is.board b (sym is.there ∙ (ap (slice_get (indexed_boards specs indexes)) same ∙ at)) in
       subst (λ (x : IndexedBoard). IsKept x.1 entry.name is.register) one is.kept'
 
   -- a value that is for the register is written on this board
-  goes_here : (entry : StateEntry) (step : Step) (is : IsGiven (indexed specs indexes) entry step) → IsFor r entry
+  goes_here : (entry : StateEntry) (step : Step) (is : IsGiven (indexed_boards specs indexes) entry step) → IsFor r entry
       → is.place ≡ board
   goes_here entry step is for_it =
       (one_board specs indexes own is.place board is.board b is.there at
       (is.called ∙ (for_it.board' ∙ sym called))).0
 
   -- another register of this board shares no bit with it
-  shares_no_bit : (entry : StateEntry) (step : Step) (is : IsGiven (indexed specs indexes) entry step)
+  shares_no_bit : (entry : StateEntry) (step : Step) (is : IsGiven (indexed_boards specs indexes) entry step)
       → AllByRecursion HasWord (entry ∷ []) → entry.name ≢ r.name → (is.place == board) ≡ true
       → is.register.address ≡ r.register.address
       → CanBePut (is.register.mask, entry.value) × (bit_and is.register.mask r.register.mask ≡ 0)
@@ -174,13 +174,13 @@ module _ (law : OverlapInABit) (specs : List BoardSpec) (indexes : List Register
             same,
       )
 
-  abbrev writes_of : (state : List StateEntry) (steps : List Step) → AllZip (IsGiven (indexed specs indexes)) state steps
+  abbrev writes_of : (state : List StateEntry) (steps : List Step) → AllZip (IsGiven (indexed_boards specs indexes)) state steps
       → List ValueFor
-  writes_of state steps given = written_on (indexed specs indexes) board state steps given
+  writes_of state steps given = written_on (indexed_boards specs indexes) board state steps given
 
   -- the first value is for the register, and none of the later ones
   written_first : (e : StateEntry) (state : List StateEntry) (step : Step) (steps : List Step)
-      (given : AllZip (IsGiven (indexed specs indexes)) (e ∷ state) (step ∷ steps))
+      (given : AllZip (IsGiven (indexed_boards specs indexes)) (e ∷ state) (step ∷ steps))
       → IsLeft r (writes_of state steps given.1) state → e.name ≡ r.name → given.0.place ≡ board
       → IsWritten r (writes_of (e ∷ state) (step ∷ steps) given) (e ∷ state)
   written_first e state step steps given left same place =
@@ -190,7 +190,7 @@ module _ (law : OverlapInABit) (specs : List BoardSpec) (indexes : List Register
       subst (λ name. get b.1 name ≡ Some is.register) same (on_this e step is place).found in
       let register : is.register ≡ r.register = same_Some is.register r.register (sym found ∙ is_kept.found) in
       let board_same : is.board ≡ b =
-      same_Some is.board b (sym is.there ∙ (ap (slice_get (indexed specs indexes)) place ∙ at)) in
+      same_Some is.board b (sym is.there ∙ (ap (slice_get (indexed_boards specs indexes)) place ∙ at)) in
       record {
         entry = e;
         place = zero;
@@ -201,26 +201,26 @@ module _ (law : OverlapInABit) (specs : List BoardSpec) (indexes : List Register
         };
         before = [];
         after = writes_of state steps given.1;
-        split = ap (λ (t : Bool). if t then value_of (indexed specs indexes) e step is ∷ writes_of state steps given.1
+        split = ap (λ (t : Bool). if t then value_of (indexed_boards specs indexes) e step is ∷ writes_of state steps given.1
             else writes_of state steps given.1) here
             ∙ ap (λ (x : Register). record { register = x; value = e.value } ∷ writes_of state steps given.1) register;
         apart = left.apart;
       }
 
   left_first : (e : StateEntry) (state : List StateEntry) (step : Step) (steps : List Step)
-      (given : AllZip (IsGiven (indexed specs indexes)) (e ∷ state) (step ∷ steps))
+      (given : AllZip (IsGiven (indexed_boards specs indexes)) (e ∷ state) (step ∷ steps))
       → IsLeft r (writes_of state steps given.1) state → ¬ IsFor r e
       → ((given.0.place == board) ≡ true → given.0.register.address ≡ r.register.address
       → CanBePut (given.0.register.mask, e.value) × (bit_and given.0.register.mask r.register.mask ≡ 0))
       → IsLeft r (writes_of (e ∷ state) (step ∷ steps) given) (e ∷ state)
   left_first e state step steps given left no_value one = record {
     none = (no_value, left.none);
-    apart = apart_more (given.0.place == board) (value_of (indexed specs indexes) e step given.0)
+    apart = apart_more (given.0.place == board) (value_of (indexed_boards specs indexes) e step given.0)
         (writes_of state steps given.1) r.register one left.apart;
   }
 
   first_of_all : (e : StateEntry) (state : List StateEntry) (step : Step) (steps : List Step)
-      (given : AllZip (IsGiven (indexed specs indexes)) (e ∷ state) (step ∷ steps))
+      (given : AllZip (IsGiven (indexed_boards specs indexes)) (e ∷ state) (step ∷ steps))
       → AllByRecursion HasWord (e ∷ state) → IsLeft r (writes_of state steps given.1) state
       → IsWritten r (writes_of (e ∷ state) (step ∷ steps) given) (e ∷ state)
       ⊎ IsLeft r (writes_of (e ∷ state) (step ∷ steps) given) (e ∷ state)
@@ -238,7 +238,7 @@ module _ (law : OverlapInABit) (specs : List BoardSpec) (indexes : List Register
   ]
 
   pub written_or_left : (state : List StateEntry) (steps : List Step)
-      (given : AllZip (IsGiven (indexed specs indexes)) state steps) → AllByRecursion HasWord state
+      (given : AllZip (IsGiven (indexed_boards specs indexes)) state steps) → AllByRecursion HasWord state
       → IsWritten r (writes_of state steps given) state ⊎ IsLeft r (writes_of state steps given) state
   written_or_left [] [] given values = inr (record { none = tt; apart = tt })
   written_or_left [] (step ∷ steps) given values = absurd given
@@ -249,9 +249,9 @@ module _ (law : OverlapInABit) (specs : List BoardSpec) (indexes : List Register
       place = suc is.place;
       there = is.there;
       for' = is.for';
-      before = if given.0.place == board then value_of (indexed specs indexes) e step given.0 ∷ is.before else is.before;
+      before = if given.0.place == board then value_of (indexed_boards specs indexes) e step given.0 ∷ is.before else is.before;
       after = is.after;
-      split = split_more (given.0.place == board) (value_of (indexed specs indexes) e step given.0)
+      split = split_more (given.0.place == board) (value_of (indexed_boards specs indexes) e step given.0)
           (record { register = r.register; value = is.entry.value }) (writes_of state steps given.1) is.before is.after
           is.split;
       apart = is.apart;

@@ -10,10 +10,10 @@ use Rattle.script_steps.specs.declared.operation.RegOp.{RegOp}
 use Rattle.script_steps.specs.declared.operation.Step.{Step}
 use Rattle.script_steps.specs.declared.operation.Step.TheVariants as step
 use Rattle.script_steps.specs.declared.operation.Verb.TheVariants as verb
-use Rattle.script_steps.specs.Rulings.{Asked, asked}
+use Rattle.script_steps.specs.Rulings.{Asked, asked_operations}
 use Rattle.transcript.specs.declared.line.OpLine.{OpLine}
 use Rattle.transcript.specs.declared.line.OpResult.TheVariants.{Value}
-use Rattle.board_history.specs.Runs.{opening_of}
+use Rattle.board_history.specs.Runs.{opens_with}
 
 -- ---- what is asked
 
@@ -57,9 +57,9 @@ pub record ShowsOpeningWord (specs : List BoardSpec) (steps : List Step) (line :
   pub place : ℕ
   pub number' : line.number ≡ place + 1
   pub ask : Asked
-  pub asked' : slice_get (asked steps) place ≡ Some ask
+  pub asked' : slice_get (asked_operations steps) place ≡ Some ask
   pub spec : BoardSpec
   pub on : slice_get specs ask.op.board ≡ Some spec
   pub word : ℕ
-  pub opened : read_word (opening_of spec.link) (base_of ask.op.op) ≡ Ok word
+  pub opened : read_word (opens_with spec.link) (base_of ask.op.op) ≡ Ok word
   pub shown : line.result ≡ Value (field word ask.op.mask ∷ [])

@@ -7,7 +7,7 @@ use Rattle.masked_fields.specs.Field.{field}
 use Rattle.board_bus.specs.Cells.{read_word}
 use Rattle.board_node.specs.declared.spec.BoardSpec.{BoardSpec}
 use Rattle.node_tree.specs.Maps.{Name}
-use Rattle.board_history.specs.Runs.{opening_of}
+use Rattle.board_history.specs.Runs.{opens_with}
 use Rattle.config_store.specs.declared.state.StateEntry.{StateEntry}
 use Rattle.config_store.specs.Kept.{KeptRegister}
 use Rattle.config_store.specs.Text.{heading, value_text}
@@ -22,7 +22,7 @@ pub record IsSaved (specs : List BoardSpec) (kept : KeptRegister) (entry : State
   pub on : slice_get specs place ≡ Some spec
   pub called : spec.name ≡ kept.board
   pub word : ℕ
-  pub opened : read_word (opening_of spec.link) kept.register.address ≡ Ok word
+  pub opened : read_word (opens_with spec.link) kept.register.address ≡ Ok word
   pub value' : entry.value ≡ field word kept.register.mask
 
 -- so of each register, in their order

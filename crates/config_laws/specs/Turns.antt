@@ -10,11 +10,11 @@ use Rattle.board_node.specs.declared.spec.BoardSpec.{BoardSpec}
 use Rattle.board_node.specs.declared.spec.LinkSpec.{LinkSpec}
 use Rattle.script_steps.specs.declared.operation.RegOp.{RegOp}
 use Rattle.script_steps.specs.declared.operation.Step.{Step}
-use Rattle.script_steps.specs.Rulings.{Asked, allowed}
+use Rattle.script_steps.specs.Rulings.{Asked, allowed_operations}
 use Rattle.script_plans.specs.Plan.{operations, ops_on}
 use Rattle.transcript.specs.declared.line.OpLine.{OpLine}
-use Rattle.transcript.specs.Results.{shown}
-use Rattle.board_history.specs.Runs.{opening_of}
+use Rattle.transcript.specs.Results.{shown_result}
+use Rattle.board_history.specs.Runs.{opens_with}
 
 -- ---- what is asked
 
@@ -35,7 +35,7 @@ after_ops cells (op ∷ ops) = after_ops (outcome cells op).cells ops
 
 -- what the bus of a board is that did these operations of a client, and nothing else
 abbrev pub bus_behind : LinkSpec → ℕ → List Asked → CellMap
-bus_behind link board before = after_ops (opening_of link) (ops_on board (allowed before))
+bus_behind link board before = after_ops (opens_with link) (ops_on board (allowed_operations before))
 
 -- ---- what is shown
 
@@ -51,7 +51,7 @@ pub record ShowsTurn (specs : List BoardSpec) (before : List Asked) (ask : Asked
   pub name' : line.name ≡ ask.op.name
   pub done : (outcome (bus_behind spec.link ask.op.board before) ask.op.op).fault ≡ None
   pub result' : line.result
-      ≡ shown ask.op.verb ask.op.mask (outcome (bus_behind spec.link ask.op.board before) ask.op.op).values
+      ≡ shown_result ask.op.verb ask.op.mask (outcome (bus_behind spec.link ask.op.board before) ask.op.op).values
 
 -- so of each of these operations: there is one line for each, in order
 abbrev pub ShowTurns : List BoardSpec → List Asked → List Asked → List OpLine → Type 0

@@ -18,18 +18,18 @@ pub record CanBeWritten (write : ValueFor) : Type 0 where
   pub value : write.value < 2 ^ 32
   pub fits : FitsMask write.register.mask write.value
 
-abbrev pub written : CellMap → ValueFor → Outcome
-written cells write = outcome cells (write_op write.register (write.value ∷ []))
+abbrev pub write_outcome : CellMap → ValueFor → Outcome
+write_outcome cells write = outcome cells (write_op write.register (write.value ∷ []))
 
 -- the bus after all of them
 abbrev pub after_writes : CellMap → List ValueFor → CellMap
 after_writes cells [] = cells
-after_writes cells (write ∷ writes) = after_writes (written cells write).cells writes
+after_writes cells (write ∷ writes) = after_writes (write_outcome cells write).cells writes
 
 -- no write of them is refused
 abbrev pub AreDone : CellMap → List ValueFor → Type 0
 AreDone cells [] = Unit {0}
-AreDone cells (write ∷ writes) = ((written cells write).fault ≡ None) × AreDone (written cells write).cells writes
+AreDone cells (write ∷ writes) = ((write_outcome cells write).fault ≡ None) × AreDone (write_outcome cells write).cells writes
 
 -- the mask and the value of each write to this address, in order
 abbrev pub puts_at : ℕ → List ValueFor → List (ℕ × ℕ)

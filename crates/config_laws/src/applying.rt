@@ -16,7 +16,7 @@ ghost use Rattle.transcript.specs.Lines.{client_lines, run_status, transcript_of
 ghost use Rattle.lane_history.specs.Links.{CanBeMade, LinkReport};
 ghost use Rattle.lane_history.specs.Runs.{AreRunsOver};
 ghost use Rattle.config_store.specs.declared.state.StateEntry.{StateEntry};
-ghost use Rattle.config_store.specs.Kept.{KeptRegister, indexed, kept_of};
+ghost use Rattle.config_store.specs.Kept.{KeptRegister, indexed_boards, kept_of};
 ghost use Rattle.config_store.specs.Lines.{apply_lines};
 ghost use Rattle.config_store.specs.Meanings.{HasWord, HaveWordNames};
 ghost use Rattle.config_store.specs.Order.{AreInOrder};
@@ -40,14 +40,14 @@ use script_lang::laws::scripts_ask_of_boards_that_are_there;
 pub fn an_applied_text_is_that_of_given_and_opening_values()
     ensures { (settings : Limits) (specs : List BoardSpec) (indexes : List RegisterMap) (steps : List Step)
         (runs : List BoardRun) (links : List LinkReport) (state : List StateEntry) →
-        steps ≡ steps_from specs indexes 1 (apply_lines state (kept_of (indexed specs indexes))) →
-        HaveOwnNames specs → HaveWordNames (indexed specs indexes) → HaveFields (indexed specs indexes) →
-        applying_faults (indexed specs indexes) state ≡ [] → AreInOrder state → AllByRecursion HasWord state →
+        steps ≡ steps_from specs indexes 1 (apply_lines state (kept_of (indexed_boards specs indexes))) →
+        HaveOwnNames specs → HaveWordNames (indexed_boards specs indexes) → HaveFields (indexed_boards specs indexes) →
+        applying_faults (indexed_boards specs indexes) state ≡ [] → AreInOrder state → AllByRecursion HasWord state →
         AreRunsOver settings 0 specs (steps ∷ []) runs links →
         AllByRecursion (λ link. is_some link.telling ≡ true) links →
         AllByRecursion (λ spec. CanBeMade spec.link) specs → AllByRecursion OpensOnWords specs → AreExecutable steps →
         run_status (transcript_of (steps ∷ []) runs).clients ≡ 0 →
-        (shown : List StateEntry) × AreApplied specs state (kept_of (indexed specs indexes)) shown
+        (shown : List StateEntry) × AreApplied specs state (kept_of (indexed_boards specs indexes)) shown
         × AreAmong state shown × (state_text specs (client_lines runs 0 steps) ≡ saved_text specs shown) }
 {
     good_lines_show_operations_one_after_another();
@@ -73,10 +73,10 @@ pub fn what_was_saved_is_written_again()
     ensures { (settings : Limits) (specs others : List BoardSpec) (indexes : List RegisterMap) (steps : List Step)
         (runs : List BoardRun) (links : List LinkReport) (state entries : List StateEntry) →
         names_of specs ≡ names_of others →
-        AreSaved others (kept_of (indexed others indexes)) entries → AreAmong entries state →
-        steps ≡ steps_from specs indexes 1 (apply_lines state (kept_of (indexed specs indexes))) →
-        HaveOwnNames specs → HaveWordNames (indexed specs indexes) → HaveFields (indexed specs indexes) →
-        applying_faults (indexed specs indexes) state ≡ [] → AreInOrder state → AllByRecursion HasWord state →
+        AreSaved others (kept_of (indexed_boards others indexes)) entries → AreAmong entries state →
+        steps ≡ steps_from specs indexes 1 (apply_lines state (kept_of (indexed_boards specs indexes))) →
+        HaveOwnNames specs → HaveWordNames (indexed_boards specs indexes) → HaveFields (indexed_boards specs indexes) →
+        applying_faults (indexed_boards specs indexes) state ≡ [] → AreInOrder state → AllByRecursion HasWord state →
         AreRunsOver settings 0 specs (steps ∷ []) runs links →
         AllByRecursion (λ link. is_some link.telling ≡ true) links →
         AllByRecursion (λ spec. CanBeMade spec.link) specs → AllByRecursion OpensOnWords specs → AreExecutable steps →

@@ -22,7 +22,7 @@ ghost use Rattle.transcript.specs.Lines.{client_lines, run_status, transcript_of
 ghost use Rattle.lane_history.specs.Links.{CanBeMade, LinkReport};
 ghost use Rattle.lane_history.specs.Runs.{AreRunsOver};
 ghost use Rattle.config_store.specs.declared.state.StateEntry.{StateEntry};
-ghost use Rattle.config_store.specs.Kept.{KeptRegister, indexed, kept_of};
+ghost use Rattle.config_store.specs.Kept.{KeptRegister, indexed_boards, kept_of};
 ghost use Rattle.config_store.specs.Lines.{apply_lines};
 ghost use Rattle.config_store.specs.Meanings.{HasWord, HaveWordNames};
 ghost use Rattle.config_store.specs.Order.{AreInOrder};
@@ -51,7 +51,7 @@ pub fn configurations_of_a_session_can_be_read_back()
         IsSession document session →
         AllZip (λ (b : BoardSpec) (index : RegisterMap). IsIndexOf session.tables b.table index)
         session.boards indexes →
-        AreFor (kept_of (indexed session.boards indexes)) entries → AllByRecursion HasWord entries →
+        AreFor (kept_of (indexed_boards session.boards indexes)) entries → AllByRecursion HasWord entries →
         CanBeReadBack session.boards entries }
 {
     a_session_keeps_its_limits();
@@ -71,12 +71,12 @@ pub fn saved_values_have_words()
 pub fn a_saved_text_is_written_again()
     ensures { (settings : Limits) (specs others : List BoardSpec) (indexes : List RegisterMap) (steps : List Step)
         (runs : List BoardRun) (links : List LinkReport) (entries : List StateEntry) (saved : Members) (value : Data) →
-        names_of specs ≡ names_of others → AreSaved others (kept_of (indexed others indexes)) entries →
+        names_of specs ≡ names_of others → AreSaved others (kept_of (indexed_boards others indexes)) entries →
         CanBeReadBack others entries → parse_document (saved_text others entries) ≡ Some saved →
         get_member (codes "state") saved ≡ Some value → let state = state_entries value in
-        steps ≡ steps_from specs indexes 1 (apply_lines state (kept_of (indexed specs indexes))) →
-        HaveOwnNames specs → HaveWordNames (indexed specs indexes) → HaveFields (indexed specs indexes) →
-        applying_faults (indexed specs indexes) state ≡ [] → AreInOrder state → AllByRecursion HasWord state →
+        steps ≡ steps_from specs indexes 1 (apply_lines state (kept_of (indexed_boards specs indexes))) →
+        HaveOwnNames specs → HaveWordNames (indexed_boards specs indexes) → HaveFields (indexed_boards specs indexes) →
+        applying_faults (indexed_boards specs indexes) state ≡ [] → AreInOrder state → AllByRecursion HasWord state →
         AreRunsOver settings 0 specs (steps ∷ []) runs links →
         AllByRecursion (λ link. is_some link.telling ≡ true) links →
         AllByRecursion (λ spec. CanBeMade spec.link) specs → AllByRecursion OpensOnWords specs → AreExecutable steps →

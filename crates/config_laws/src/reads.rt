@@ -9,7 +9,7 @@ ghost use Rattle.reply_join.specs.declared.answer.Answer.{Answer};
 ghost use Rattle.reply_join.specs.Joining.{IsJoined};
 ghost use Rattle.transaction_codec.specs.Request.{AreRequests};
 ghost use Rattle.transaction_codec.specs.declared.request.Op.{Op};
-ghost use Rattle.transcript.specs.Ends.{answered};
+ghost use Rattle.transcript.specs.Ends.{answer_result};
 ghost use Rattle.transcript.specs.Results.{is_good};
 ghost use Rattle.transcript.specs.declared.line.OpResult.TheVariants.{Value};
 ghost use Rattle.transcript.specs.Lines.{client_lines, run_status, transcript_of};
@@ -38,8 +38,8 @@ pub fn a_body_of_word_reads_answers_what_is_there()
     ensures answers { (cells : CellMap) (part : List Op) (answers : List Answer) (i : ℕ) (op : Op) →
         HoldsWords cells → AreRequests (body_requests part) → AllByRecursion IsWordRead part →
         IsJoined (body_words part) (run_body cells (body_words part)).reply answers → slice_get part i ≡ Some op →
-        is_good (answered (slice_get answers i)) ≡ true → (word : ℕ) × (read_word cells (base_of op) ≡ Ok word)
-        × (answered (slice_get answers i) ≡ Value (word ∷ [])) }
+        is_good (answer_result (slice_get answers i)) ≡ true → (word : ℕ) × (read_word cells (base_of op) ≡ Ok word)
+        × (answer_result (slice_get answers i) ≡ Value (word ∷ [])) }
 {
     a_body_is_executed_in_order();
     written_is_read_again();

@@ -15,7 +15,7 @@ ghost use Rattle.transcript.specs.Lines.{client_lines, run_status, transcript_of
 ghost use Rattle.lane_history.specs.Links.{CanBeMade, LinkReport};
 ghost use Rattle.lane_history.specs.Runs.{AreRunsOver};
 ghost use Rattle.config_store.specs.declared.state.StateEntry.{StateEntry};
-ghost use Rattle.config_store.specs.Kept.{indexed, kept_of};
+ghost use Rattle.config_store.specs.Kept.{indexed_boards, kept_of};
 ghost use Rattle.config_store.specs.Lines.{save_lines};
 ghost use Rattle.config_store.specs.Meanings.{HaveWordNames};
 ghost use Rattle.config_store.specs.Text.{state_text};
@@ -31,12 +31,12 @@ use config_store::laws::the_scripts_write_and_read;
 pub fn a_saved_text_is_that_of_the_opening_values()
     ensures { (settings : Limits) (specs : List BoardSpec) (indexes : List RegisterMap) (steps : List Step)
         (runs : List BoardRun) (links : List LinkReport) →
-        steps ≡ steps_from specs indexes 1 (save_lines (kept_of (indexed specs indexes))) → HaveOwnNames specs →
-        HaveWordNames (indexed specs indexes) → AreRunsOver settings 0 specs (steps ∷ []) runs links →
+        steps ≡ steps_from specs indexes 1 (save_lines (kept_of (indexed_boards specs indexes))) → HaveOwnNames specs →
+        HaveWordNames (indexed_boards specs indexes) → AreRunsOver settings 0 specs (steps ∷ []) runs links →
         AllByRecursion (λ link. is_some link.telling ≡ true) links →
         AllByRecursion (λ spec. CanBeMade spec.link) specs → AllByRecursion OpensOnWords specs → AreExecutable steps →
         run_status (transcript_of (steps ∷ []) runs).clients ≡ 0 →
-        (entries : List StateEntry) × AreSaved specs (kept_of (indexed specs indexes)) entries
+        (entries : List StateEntry) × AreSaved specs (kept_of (indexed_boards specs indexes)) entries
         × (state_text specs (client_lines runs 0 steps) ≡ saved_text specs entries) }
 {
     good_reads_show_the_words_that_boards_open_with();

@@ -14,7 +14,7 @@ ghost use Rattle.script_lang.specs.OwnNames.{HaveOwnNames};
 ghost use Rattle.script_lang.specs.Scripts.{steps_from};
 ghost use Rattle.script_lang.specs.declared.session.Session.{Session};
 ghost use Rattle.config_store.specs.declared.state.StateEntry.{StateEntry};
-ghost use Rattle.config_store.specs.Kept.{indexed, kept_of};
+ghost use Rattle.config_store.specs.Kept.{indexed_boards, kept_of};
 ghost use Rattle.config_store.specs.Lines.{apply_lines, save_lines};
 ghost use Rattle.config_store.specs.Meanings.{HasWord, HaveWordNames};
 ghost use Rattle.config_store.specs.Refusals.{entry_faults};
@@ -29,13 +29,13 @@ pub fn the_boards_of_a_session_have_words_and_fields()
         IsSession document session →
         AllZip (λ (b : BoardSpec) (index : RegisterMap). IsIndexOf session.tables b.table index)
         session.boards indexes →
-        HaveWordNames (indexed session.boards indexes) }
+        HaveWordNames (indexed_boards session.boards indexes) }
     ensures fields { (document : Members) (session : Session) (indexes : List RegisterMap) →
         IsSession document session →
         AllByRecursion (λ (b : BoardSpec). KeepsRules session.tables b.table) session.boards →
         AllZip (λ (b : BoardSpec) (index : RegisterMap). IsIndexOf session.tables b.table index)
         session.boards indexes →
-        HaveFields (indexed session.boards indexes) }
+        HaveFields (indexed_boards session.boards indexes) }
 {
     names_are_words_of_lines();
 }
@@ -44,12 +44,12 @@ pub fn the_boards_of_a_session_have_words_and_fields()
 /// operation can be packed for any board, its address and its words have 32 bits, and it is one that its verb asks for.
 pub fn the_scripts_can_be_executed()
     ensures save { (specs : List BoardSpec) (indexes : List RegisterMap) →
-        HaveOwnNames specs → HaveWordNames (indexed specs indexes) → HaveFields (indexed specs indexes) →
-        AreExecutable (steps_from specs indexes 1 (save_lines (kept_of (indexed specs indexes)))) }
+        HaveOwnNames specs → HaveWordNames (indexed_boards specs indexes) → HaveFields (indexed_boards specs indexes) →
+        AreExecutable (steps_from specs indexes 1 (save_lines (kept_of (indexed_boards specs indexes)))) }
     ensures apply { (specs : List BoardSpec) (indexes : List RegisterMap) (state : List StateEntry) →
-        HaveOwnNames specs → HaveWordNames (indexed specs indexes) → HaveFields (indexed specs indexes) →
-        entry_faults (indexed specs indexes) state ≡ [] → AllByRecursion HasWord state →
-        AreExecutable (steps_from specs indexes 1 (apply_lines state (kept_of (indexed specs indexes)))) }
+        HaveOwnNames specs → HaveWordNames (indexed_boards specs indexes) → HaveFields (indexed_boards specs indexes) →
+        entry_faults (indexed_boards specs indexes) state ≡ [] → AllByRecursion HasWord state →
+        AreExecutable (steps_from specs indexes 1 (apply_lines state (kept_of (indexed_boards specs indexes)))) }
 {
     the_scripts_write_and_read();
 }

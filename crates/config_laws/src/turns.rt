@@ -7,7 +7,7 @@ ghost use Rattle.world_model.specs.Settings.{Limits};
 ghost use Rattle.board_node.specs.declared.spec.BoardSpec.{BoardSpec};
 ghost use Rattle.board_node.specs.OpeningWords.{OpensOnWords};
 ghost use Rattle.script_steps.specs.Executable.{AreExecutable};
-ghost use Rattle.script_steps.specs.Rulings.{asked};
+ghost use Rattle.script_steps.specs.Rulings.{asked_operations};
 ghost use Rattle.script_steps.specs.declared.operation.Step.{Step};
 ghost use Rattle.script_lang.specs.OnBoards.{StepsAreOn};
 ghost use Rattle.script_plans.specs.declared.board_run.BoardRun.{BoardRun};
@@ -33,7 +33,7 @@ pub fn good_lines_show_operations_one_after_another()
         AllByRecursion (λ link. is_some link.telling ≡ true) links →
         AllByRecursion (λ spec. CanBeMade spec.link) specs → AllByRecursion OpensOnWords specs → AreExecutable steps →
         StepsAreOn (length specs) steps → AreOfOneWord steps → run_status (transcript_of (steps ∷ []) runs).clients ≡ 0 →
-        ShowTurns specs [] (asked steps) (client_lines runs 0 steps) }
+        ShowTurns specs [] (asked_operations steps) (client_lines runs 0 steps) }
 {
     a_body_is_executed_in_order();
     a_reply_answers_its_body();

@@ -12,7 +12,7 @@ use Rattle.node_tree.specs.Maps.{Name, RegisterMap}
 use Rattle.script_lang.specs.OwnNames.{HaveOwnNames}
 use Rattle.script_lang.specs.Scripts.{script_faults}
 use Rattle.config_store.specs.declared.state.StateEntry.{StateEntry}
-use Rattle.config_store.specs.Kept.{indexed, IndexedBoard, kept, kept_of, kept_on, kept_register, KeptRegister}
+use Rattle.config_store.specs.Kept.{indexed_boards, IndexedBoard, registers_kept, kept_of, kept_on, kept_register, KeptRegister}
 use Rattle.config_store.specs.Order.{AreInOrder, entry_cmp}
 use Rattle.config_store.specs.Lines.{apply_lines}
 use Rattle.config_store.specs.Meanings.{HasWord, HaveWordNames}
@@ -147,7 +147,7 @@ few_values boards es order none =
     let it = entry_written boards e (entries_written boards es none m e at) in
     let (i, stands) = kept_place it.board.1 e.name it.register it.is in
     let here : slice_get (kept_on it.board) i ≡ Some (kept_register it.board.0.name (e.name, it.register)) =
-    slice_get-map (kept_register it.board.0.name) (kept it.board.1) i
+    slice_get-map (kept_register it.board.0.name) (registers_kept it.board.1) i
     ∙ ap (option_map (kept_register it.board.0.name)) stands in
     let register = kept_register it.board.0.name (e.name, it.register) in
     let among : Member register (kept_of boards) =
@@ -159,11 +159,11 @@ few_values boards es order none =
 
 -- values in order that break no rule are few enough
 pub applying_in_order : (boards : List BoardSpec) (indexes : List RegisterMap) (own : HaveOwnNames boards)
-    (words : HaveWordNames (indexed boards indexes)) (es : List StateEntry) → AreInOrder es
-    → applying_faults (indexed boards indexes) es ≡ [] → AllByRecursion HasWord es
-    → script_faults boards indexes (apply_lines es (kept_of (indexed boards indexes)) ∷ []) ≡ []
+    (words : HaveWordNames (indexed_boards boards indexes)) (es : List StateEntry) → AreInOrder es
+    → applying_faults (indexed_boards boards indexes) es ≡ [] → AllByRecursion HasWord es
+    → script_faults boards indexes (apply_lines es (kept_of (indexed_boards boards indexes)) ∷ []) ≡ []
 applying_in_order boards indexes own words es order none values =
-    let bs = indexed boards indexes in
+    let bs = indexed_boards boards indexes in
     let parts = no_more (keeping_faults bs) (entry_faults bs es) none in
     let fewer = few_values bs es order parts.1 in
     let small = few boards indexes own words parts.0 in

@@ -18,7 +18,7 @@ use Rattle.script_lang.specs.Scripts.{script_faults}
 use Rattle.config_store.specs.declared.state.StateEntry.{StateEntry}
 use Rattle.config_store.specs.declared.refusal.StoreWhy.{StoreWhy}
 use Rattle.config_store.specs.declared.refusal.StoreWhy.TheVariants.{NotKept, BitsOutside, TooMany}
-use Rattle.config_store.specs.Kept.{IndexedBoard, indexed, is_kept, IsKept, kept, kept_of, kept_on, kept_register}
+use Rattle.config_store.specs.Kept.{IndexedBoard, indexed_boards, is_kept, IsKept, registers_kept, kept_of, kept_on, kept_register}
 use Rattle.config_store.specs.Kept.{KeptRegister}
 use Rattle.config_store.specs.Limits.{most_kept}
 use Rattle.config_store.specs.Lines.{apply_lines, read_line, save_lines, write_line, write_text, read_text}
@@ -85,7 +85,7 @@ pub kept_of_has : (boards : List IndexedBoard) (k : ℕ) (register : KeptRegiste
     → IsKeptOf boards register
 kept_of_has boards k register at =
     let found = flat_map_has kept_on boards k register at in
-    let image = map_has (kept_register found.from.0.name) (kept found.from.1) found.at register found.has in
+    let image = map_has (kept_register found.from.0.name) (registers_kept found.from.1) found.at register found.has in
     record {
       board = found.from;
       place = found.place;
@@ -195,12 +195,12 @@ few_kept n h = by_test (nat_le n most_kept) refl h
     by_test false is e = let bad : ⊥ = cc in absurd bad
 
 module _ (boards : List BoardSpec) (indexes : List RegisterMap) (own : HaveOwnNames boards)
-    (words : HaveWordNames (indexed boards indexes)) where
-  reads_fine : AreFine boards indexes (save_lines (kept_of (indexed boards indexes)))
-      (length (kept_of (indexed boards indexes)))
+    (words : HaveWordNames (indexed_boards boards indexes)) where
+  reads_fine : AreFine boards indexes (save_lines (kept_of (indexed_boards boards indexes)))
+      (length (kept_of (indexed_boards boards indexes)))
   reads_fine =
-      fine_map boards indexes read_line (kept_of (indexed boards indexes)) (λ k n register at.
-      let it = kept_of_has (indexed boards indexes) k register at in
+      fine_map boards indexes read_line (kept_of (indexed_boards boards indexes)) (λ k n register at.
+      let it = kept_of_has (indexed_boards boards indexes) k register at in
       record {
         op = read_of n it.place register.name register.register;
         means = subst
@@ -212,11 +212,11 @@ module _ (boards : List BoardSpec) (indexes : List RegisterMap) (own : HaveOwnNa
         word = refl;
       })
 
-  writes_fine : (es : List StateEntry) → entry_faults (indexed boards indexes) es ≡ [] → AllByRecursion HasWord es
+  writes_fine : (es : List StateEntry) → entry_faults (indexed_boards boards indexes) es ≡ [] → AllByRecursion HasWord es
       → AreFine boards indexes (map write_line es) (length es)
   writes_fine es none values =
       fine_map boards indexes write_line es (λ k n e at.
-      let it = entry_written (indexed boards indexes) e (entries_written (indexed boards indexes) es none k e at) in
+      let it = entry_written (indexed_boards boards indexes) e (entries_written (indexed_boards boards indexes) es none k e at) in
       record {
         op = write_of n it.place e.name it.register e.value;
         means = subst
@@ -228,23 +228,23 @@ module _ (boards : List BoardSpec) (indexes : List RegisterMap) (own : HaveOwnNa
         word = refl;
       })
 
-  pub few : keeping_faults (indexed boards indexes) ≡ [] → length (kept_of (indexed boards indexes)) ≤ most_kept
-  few none = few_kept (length (kept_of (indexed boards indexes)))
-      (no_more (flat_map overlap_faults (indexed boards indexes)) _ none).1
+  pub few : keeping_faults (indexed_boards boards indexes) ≡ [] → length (kept_of (indexed_boards boards indexes)) ≤ most_kept
+  few none = few_kept (length (kept_of (indexed_boards boards indexes)))
+      (no_more (flat_map overlap_faults (indexed_boards boards indexes)) _ none).1
 
-  pub saving_no_fault : keeping_faults (indexed boards indexes) ≡ []
-      → script_faults boards indexes (save_lines (kept_of (indexed boards indexes)) ∷ []) ≡ []
+  pub saving_no_fault : keeping_faults (indexed_boards boards indexes) ≡ []
+      → script_faults boards indexes (save_lines (kept_of (indexed_boards boards indexes)) ∷ []) ≡ []
   saving_no_fault none =
       let small = few none in
-      let long = length-map (kept_of (indexed boards indexes)) read_line in
-      no_faults boards indexes (save_lines (kept_of (indexed boards indexes))) _ reads_fine (omega arith) (omega arith)
+      let long = length-map (kept_of (indexed_boards boards indexes)) read_line in
+      no_faults boards indexes (save_lines (kept_of (indexed_boards boards indexes))) _ reads_fine (omega arith) (omega arith)
 
-  pub applying_no_fault : (es : List StateEntry) → applying_faults (indexed boards indexes) es ≡ []
+  pub applying_no_fault : (es : List StateEntry) → applying_faults (indexed_boards boards indexes) es ≡ []
       → length es ≤ most_kept → AllByRecursion HasWord es
-      → script_faults boards indexes (apply_lines es (kept_of (indexed boards indexes)) ∷ []) ≡ []
+      → script_faults boards indexes (apply_lines es (kept_of (indexed_boards boards indexes)) ∷ []) ≡ []
   applying_no_fault es none few_values values =
-      let kept' = kept_of (indexed boards indexes) in
-      let parts = no_more (keeping_faults (indexed boards indexes)) (entry_faults (indexed boards indexes) es) none in
+      let kept' = kept_of (indexed_boards boards indexes) in
+      let parts = no_more (keeping_faults (indexed_boards boards indexes)) (entry_faults (indexed_boards boards indexes) es) none in
       let small = few parts.0 in
       let fine = fine_append boards indexes (map write_line es) (codes "dispatch" ∷ save_lines kept') (length es)
       (0 + length kept') (writes_fine es parts.1 values)

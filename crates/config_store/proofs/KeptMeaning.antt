@@ -13,7 +13,7 @@ use Rattle.node_tree.specs.Maps.{Name, RegisterMap}
 use Rattle.node_tree.specs.Overlaps.{is_dotted_prefix}
 use Rattle.node_tree.specs.declared.register.Register.{Register}
 use Rattle.node_tree.proofs.EntryLemmas.{all-get, get-at}
-use Rattle.config_store.specs.Kept.{has_below, is_kept, is_rw, is_rw_word, is_single, IsKept, kept}
+use Rattle.config_store.specs.Kept.{has_below, is_kept, is_rw, is_rw_word, is_single, IsKept, registers_kept}
 use Rattle.config_store.proofs.KeptLemmas.{kept_parts}
 use Rattle.config_store.proofs.NameSearch.{Registers}
 use Rattle.config_store.proofs.Places.{any_has, filter_has, none_has}
@@ -89,17 +89,17 @@ kept_is index name r found passes =
     }
 
 -- what stands among the kept registers
-pub is_kept_at : (index : RegisterMap) (k : ℕ) (name : Name) (r : Register) → slice_get (kept index) k ≡ Some (name, r)
+pub is_kept_at : (index : RegisterMap) (k : ℕ) (name : Name) (r : Register) → slice_get (registers_kept index) k ≡ Some (name, r)
     → IsKept index name r
 is_kept_at index k name r at =
     let (passes, (m, place)) = filter_has (is_kept (entries index)) (entries index) k (name, r) at in
     kept_is index name r (get-at index m name r place) passes
 
-pub is_kept_so : (index : RegisterMap) (name : Name) (r : Register) → Contains (kept index) (name, r)
+pub is_kept_so : (index : RegisterMap) (name : Name) (r : Register) → Contains (registers_kept index) (name, r)
     → IsKept index name r
 unfolding HasPlace
 is_kept_so index name r there =
-    let (k, at) = contains_place (kept index) (name, r) there in
+    let (k, at) = contains_place (registers_kept index) (name, r) there in
     is_kept_at index k name r at
 
 pub kept_so : (index : RegisterMap) (name : Name) (r : Register) → IsKept index name r → is_kept (entries index) (name, r)
@@ -115,12 +115,12 @@ kept_so index name r is =
 
 -- where a kept register stands among those that are
 pub kept_place : (index : RegisterMap) (name : Name) (r : Register) → IsKept index name r
-    → (m : ℕ) × (slice_get (kept index) m ≡ Some (name, r))
+    → (m : ℕ) × (slice_get (registers_kept index) m ≡ Some (name, r))
 unfolding HasPlace
 kept_place index name r is =
     let (k, at) = place_of index name r is.found in
     filter_keeps (is_kept (entries index)) (entries index) k (name, r) at (kept_so index name r is)
 
-pub so_is_kept : (index : RegisterMap) (name : Name) (r : Register) → IsKept index name r → Contains (kept index) (name, r)
+pub so_is_kept : (index : RegisterMap) (name : Name) (r : Register) → IsKept index name r → Contains (registers_kept index) (name, r)
 so_is_kept index name r is =
-    let (m, there) = kept_place index name r is in place_contains (kept index) (name, r) m there
+    let (m, there) = kept_place index name r is in place_contains (registers_kept index) (name, r) m there

@@ -13,7 +13,7 @@ use Rattle.script_lang.specs.Lines.{words, command_of}
 use Rattle.script_lang.specs.Operations.{board_from, meaning, fits_mask, step_of}
 use Rattle.script_lang.specs.OwnNames.{HaveOwnNames}
 use Rattle.script_steps.specs.declared.operation.Step.TheVariants.{Do}
-use Rattle.config_store.specs.Kept.{IndexedBoard, indexed, IsKept}
+use Rattle.config_store.specs.Kept.{IndexedBoard, indexed_boards, IsKept}
 use Rattle.config_store.specs.Lines.{place_text, read_text, write_text}
 use Rattle.config_store.specs.Meanings.{IsBoardWord, IsOneWord, read_of, write_of}
 use Rattle.config_store.proofs.LineWords.{cut_place, decimal_word, first_piece, number_read, one_piece, place_word}
@@ -69,7 +69,7 @@ board_here k (suc i) (x ∷ boards) b own at =
 
 -- the board and the index at a place
 parts_at : (boards : List BoardSpec) (indexes : List RegisterMap) (i : ℕ) (b : IndexedBoard)
-    → slice_get (indexed boards indexes) i ≡ Some b → (slice_get boards i ≡ Some b.0) × (slice_get indexes i ≡ Some b.1)
+    → slice_get (indexed_boards boards indexes) i ≡ Some b → (slice_get boards i ≡ Some b.0) × (slice_get indexes i ≡ Some b.1)
 parts_at [] indexes i b at = let bad : ⊥ = cc in absurd bad
 parts_at (x ∷ boards) [] i b at = let bad : ⊥ = cc in absurd bad
 parts_at (x ∷ boards) (y ∷ indexes) zero b at = (cc, cc)
@@ -84,7 +84,7 @@ fits_none : (size : ℕ) (b : Bool) → (nat_le 0 size || b) ≡ true
 fits_none size b = grind (arith, nat_tests)
 
 module _ (boards : List BoardSpec) (indexes : List RegisterMap) (own : HaveOwnNames boards) (i line : ℕ)
-    (b : IndexedBoard) (at : slice_get (indexed boards indexes) i ≡ Some b) (board_word : IsBoardWord b.0.name)
+    (b : IndexedBoard) (at : slice_get (indexed_boards boards indexes) i ≡ Some b) (board_word : IsBoardWord b.0.name)
     (name : Name) (r : Register) (word : IsOneWord name) (is : IsKept b.1 name r) where
   first : board_from 0 b.0.name boards ≡ Some i
   first = board_here 0 i boards b.0 own (parts_at boards indexes i b at).0 ∙ ap (λ n. Some n) (none_before i)

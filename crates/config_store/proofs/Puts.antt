@@ -5,7 +5,7 @@ use Rattle.std.specs.Int.{bit_at, bit_not, w32}
 use Rattle.std.proofs.lemmas.Nat.Bits.{bit_at_and, bit_at_or, bit_at_not, bit_at-lt, bit_at-zero}
 use Rattle.std.proofs.lemmas.Nat.Bits.{same_from_bits_below}
 use Rattle.std.proofs.lemmas.Nat.{and_le_r}
-use Rattle.masked_fields.specs.Field.{field, FitsMask, put_field, shifted}
+use Rattle.masked_fields.specs.Field.{field, FitsMask, put_field, shifted_value}
 use Rattle.masked_fields.proofs.FieldValues.{field-put_field}
 use Rattle.masked_fields.proofs.Masks.{joined, joined_word}
 use Rattle.config_store.specs.Puts.{AreApartFrom, CanAllBePut, CanBePut, put_all}
@@ -14,7 +14,7 @@ use Rattle.config_store.specs.Puts.{AreApartFrom, CanAllBePut, CanBePut, put_all
 bits_stay : (word mask value other : ℕ) → mask < 2 ^ 32 → other < 2 ^ 32 → FitsMask mask value → bit_and mask other ≡ 0
     → bit_and (put_field word mask value) other ≡ bit_and word other
 bits_stay word mask value other small low fits apart =
-    let b = shifted mask value in
+    let b = shifted_value mask value in
     ap (λ n. bit_and n other) (sym (joined mask word b small fits))
     ∙ same_from_bits_below 32 _ _ (omega (arith, and_le_r (bit_or (bit_and word (bit_not w32 mask)) b) other))
     (omega (arith, and_le_r word other)) (λ i within.
@@ -39,7 +39,7 @@ pub field_stays : (word mask value other : ℕ) → mask < 2 ^ 32 → other < 2 
 field_stays word mask value other small low fits apart = rw (bits_stay word mask value other small low fits apart) refl
 
 put_word : (word : ℕ) (put : ℕ × ℕ) → word < 2 ^ 32 → CanBePut put → put_field word put.0 put.1 < 2 ^ 32
-put_word word put small can = joined_word put.0 word (shifted put.0 put.1) can.word small can.fits
+put_word word put small can = joined_word put.0 word (shifted_value put.0 put.1) can.word small can.fits
 
 pub others_stay : (word mask : ℕ) (puts : List (ℕ × ℕ)) → word < 2 ^ 32 → mask < 2 ^ 32 → AreApartFrom mask puts
     → field (put_all word puts) mask ≡ field word mask

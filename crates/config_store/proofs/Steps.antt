@@ -11,7 +11,7 @@ use Rattle.script_lang.specs.Scripts.{lines_from, line_meaning, ScriptLine, step
 use Rattle.script_steps.specs.declared.operation.Step.{Step}
 use Rattle.script_steps.specs.declared.operation.Step.TheVariants.{Do, Dispatch}
 use Rattle.config_store.specs.declared.state.StateEntry.{StateEntry}
-use Rattle.config_store.specs.Kept.{indexed, kept_of}
+use Rattle.config_store.specs.Kept.{indexed_boards, kept_of}
 use Rattle.config_store.specs.Lines.{apply_lines, read_line, read_text, save_lines, write_line, write_text}
 use Rattle.config_store.specs.Meanings.{HasWord, HaveWordNames, read_of, Reads, write_of, Writes}
 use Rattle.config_store.specs.Refusals.{entry_faults}
@@ -45,12 +45,12 @@ module _ (boards : List BoardSpec) (indexes : List RegisterMap) where
       ∙ filter_map-append (λ (line : ScriptLine). step_in boards indexes (line_meaning boards indexes line)) (lines_from 1 n xs)
       (lines_from 1 (n + length xs) ys)
 
-  module _ (own : HaveOwnNames boards) (words : HaveWordNames (indexed boards indexes)) where
-    pub reads_of : (n : ℕ) → AllZip (Reads (indexed boards indexes)) (kept_of (indexed boards indexes))
-        (steps_from boards indexes n (save_lines (kept_of (indexed boards indexes))))
+  module _ (own : HaveOwnNames boards) (words : HaveWordNames (indexed_boards boards indexes)) where
+    pub reads_of : (n : ℕ) → AllZip (Reads (indexed_boards boards indexes)) (kept_of (indexed_boards boards indexes))
+        (steps_from boards indexes n (save_lines (kept_of (indexed_boards boards indexes))))
     reads_of n =
-        steps_of_map (Reads (indexed boards indexes)) read_line n (kept_of (indexed boards indexes)) (λ k m register at.
-        let it = kept_of_has (indexed boards indexes) k register at in
+        steps_of_map (Reads (indexed_boards boards indexes)) read_line n (kept_of (indexed_boards boards indexes)) (λ k m register at.
+        let it = kept_of_has (indexed_boards boards indexes) k register at in
         record {
           step = Do (read_of m it.place register.name register.register);
           means = subst
@@ -62,11 +62,11 @@ module _ (boards : List BoardSpec) (indexes : List RegisterMap) where
           stands = record { line = m; place = it.place; board = it.board; there = it.there; called = it.called; is = refl };
         })
 
-    writes_of : (n : ℕ) (es : List StateEntry) → entry_faults (indexed boards indexes) es ≡ [] → AllByRecursion HasWord es
-        → AllZip (Writes (indexed boards indexes)) es (steps_from boards indexes n (map write_line es))
+    writes_of : (n : ℕ) (es : List StateEntry) → entry_faults (indexed_boards boards indexes) es ≡ [] → AllByRecursion HasWord es
+        → AllZip (Writes (indexed_boards boards indexes)) es (steps_from boards indexes n (map write_line es))
     writes_of n es none values =
-        steps_of_map (Writes (indexed boards indexes)) write_line n es (λ k m e at.
-        let it = entry_written (indexed boards indexes) e (entries_written (indexed boards indexes) es none k e at) in
+        steps_of_map (Writes (indexed_boards boards indexes)) write_line n es (λ k m e at.
+        let it = entry_written (indexed_boards boards indexes) e (entries_written (indexed_boards boards indexes) es none k e at) in
         record {
           step = Do (write_of m it.place e.name it.register e.value);
           means = subst
@@ -87,15 +87,15 @@ module _ (boards : List BoardSpec) (indexes : List RegisterMap) where
           };
         })
 
-    pub applied_steps : (es : List StateEntry) → entry_faults (indexed boards indexes) es ≡ [] → AllByRecursion HasWord es
-        → (writes : List Step) × (reads : List Step) × AllZip (Writes (indexed boards indexes)) es writes
-        × AllZip (Reads (indexed boards indexes)) (kept_of (indexed boards indexes)) reads
-        × (steps_from boards indexes 1 (apply_lines es (kept_of (indexed boards indexes))) ≡ writes ++ Dispatch ∷ reads)
+    pub applied_steps : (es : List StateEntry) → entry_faults (indexed_boards boards indexes) es ≡ [] → AllByRecursion HasWord es
+        → (writes : List Step) × (reads : List Step) × AllZip (Writes (indexed_boards boards indexes)) es writes
+        × AllZip (Reads (indexed_boards boards indexes)) (kept_of (indexed_boards boards indexes)) reads
+        × (steps_from boards indexes 1 (apply_lines es (kept_of (indexed_boards boards indexes))) ≡ writes ++ Dispatch ∷ reads)
     applied_steps es none values =
         let from = 1 + length (map write_line es) in (
           steps_from boards indexes 1 (map write_line es),
-          steps_from boards indexes (from + 1) (save_lines (kept_of (indexed boards indexes))),
+          steps_from boards indexes (from + 1) (save_lines (kept_of (indexed_boards boards indexes))),
           writes_of 1 es none values,
           reads_of (from + 1),
-          steps_append 1 (map write_line es) (codes "dispatch" ∷ save_lines (kept_of (indexed boards indexes))),
+          steps_append 1 (map write_line es) (codes "dispatch" ∷ save_lines (kept_of (indexed_boards boards indexes))),
         )

@@ -36,8 +36,8 @@ abbrev pub is_kept : List (Name × Register) → Name × Register → Bool
 is_kept es e = is_rw_word e.1 && not (has_below es e.0)
 
 -- the kept registers of a table, in byte order of their names
-abbrev pub kept : RegisterMap → List (Name × Register)
-kept index = filter (is_kept (entries index)) (entries index)
+abbrev pub registers_kept : RegisterMap → List (Name × Register)
+registers_kept index = filter (is_kept (entries index)) (entries index)
 
 -- What it is to be kept, of the register of a name: it is one word that is read and written, and no other name begins
 -- with its name and a dot.
@@ -54,8 +54,8 @@ abbrev pub IndexedBoard : Type 0
 IndexedBoard = BoardSpec × RegisterMap
 
 -- the boards in the order of the document, one index for each
-abbrev pub indexed : List BoardSpec → List RegisterMap → List IndexedBoard
-indexed boards indexes = zip boards indexes
+abbrev pub indexed_boards : List BoardSpec → List RegisterMap → List IndexedBoard
+indexed_boards boards indexes = zip boards indexes
 
 -- a kept register, and the name of its board
 pub record KeptRegister : Type 0 where
@@ -67,7 +67,7 @@ abbrev pub kept_register : Name → Name × Register → KeptRegister
 kept_register board e = record { board = board; name = e.0; register = e.1 }
 
 abbrev pub kept_on : IndexedBoard → List KeptRegister
-kept_on board = map (kept_register board.0.name) (kept board.1)
+kept_on board = map (kept_register board.0.name) (registers_kept board.1)
 
 -- those of all boards: board by board, and in byte order of their names
 abbrev pub kept_of : List IndexedBoard → List KeptRegister

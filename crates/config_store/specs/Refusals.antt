@@ -14,7 +14,7 @@ use Rattle.config_store.specs.declared.refusal.StoreWhy.TheVariants.{Overlap, To
 use Rattle.config_store.specs.declared.refusal.StoreWhy.TheVariants.{NotKept, BitsOutside}
 use Rattle.config_store.specs.declared.refusal.StoreRefusal.{StoreRefusal}
 use Rattle.config_store.specs.declared.refusal.StoreRefusal.TheVariants.{At, NoMemory}
-use Rattle.config_store.specs.Kept.{IndexedBoard, is_kept, kept, kept_of}
+use Rattle.config_store.specs.Kept.{IndexedBoard, is_kept, registers_kept, kept_of}
 use Rattle.config_store.specs.Limits.{most_kept}
 use Rattle.config_store.specs.Overlaps.{overlapping_names}
 use Rattle.config_store.specs.States.{StoreFault}
@@ -33,7 +33,7 @@ IsAt board name why NoMemory = Unit {0}
 
 -- the kept registers of a board that overlap an earlier one
 abbrev pub overlap_faults : IndexedBoard → List StoreFault
-overlap_faults board = map (λ name. (board.0.name, name, Overlap)) (overlapping_names [] (kept board.1))
+overlap_faults board = map (λ name. (board.0.name, name, Overlap)) (overlapping_names [] (registers_kept board.1))
 
 abbrev pub count_faults : ℕ → List StoreFault
 count_faults count = if nat_le count most_kept then [] else ([], [], TooMany) ∷ []

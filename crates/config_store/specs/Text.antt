@@ -23,14 +23,14 @@ value_of (Value words) = one_word words
 value_of _ = None
 
 -- a name in quotes: with its dots it is one key
-abbrev pub quoted : Name → List ℕ
-quoted name = codes "\"" ++ (name ++ codes "\"")
+abbrev pub quoted_name : Name → List ℕ
+quoted_name name = codes "\"" ++ (name ++ codes "\"")
 
 abbrev pub value_text : Name → ℕ → List ℕ
-value_text name word = quoted name ++ (codes " = " ++ (word_text word ++ codes "\n"))
+value_text name word = quoted_name name ++ (codes " = " ++ (word_text word ++ codes "\n"))
 
 abbrev pub comment_text : Name → OpResult → List ℕ
-comment_text name result = codes "# " ++ (quoted name ++ (codes " " ++ (result_text result ++ codes "\n")))
+comment_text name result = codes "# " ++ (quoted_name name ++ (codes " " ++ (result_text result ++ codes "\n")))
 
 abbrev pub by_value : Name → OpResult → Option ℕ → List ℕ
 by_value name result None = comment_text name result

@@ -4,7 +4,7 @@ ghost use Rattle.std.specs.Prelude.{◌≡◌, ◌<◌, [], length, true, IfOk, 
 ghost use Rattle.std.specs.FinMap as map;
 ghost use Rattle.node_tree.specs.Maps.{IsRegister};
 ghost use Rattle.script_lang.specs.Operations.{fits_mask};
-ghost use Rattle.config_store.specs.Kept.{indexed};
+ghost use Rattle.config_store.specs.Kept.{indexed_boards};
 ghost use Rattle.config_store.specs.Refusals as spec;
 
 use crate::kept::is_kept;
@@ -27,7 +27,7 @@ fn fits(mask: u32, value: u32) -> bool
 /// The registers of the first board of a name.
 fn index_of<'a>(boards: &[BoardSpec], indexes: &'a [Index], name: &[u8]) -> Option<&'a Index>
     requires { length indexes.now ≡ length boards.now }
-    ensures { option_map (λ index. index.now) result ≡ spec.index_of name.now (indexed boards.now indexes.now) }
+    ensures { option_map (λ index. index.now) result ≡ spec.index_of name.now (indexed_boards boards.now indexes.now) }
 {
     for i in 0..boards.len() {
         let board = &boards[i];
@@ -65,7 +65,7 @@ fn entry_why(
     entry: &StateEntry,
 ) -> Result<Option<StoreWhy>, NoMemory>
     requires { length indexes.now ≡ length boards.now }
-    ensures { IfOk result (λ why. why ≡ spec.entry_why (indexed boards.now indexes.now) entry.now) }
+    ensures { IfOk result (λ why. why ≡ spec.entry_why (indexed_boards boards.now indexes.now) entry.now) }
 {
     let Some(index) = index_of(boards, indexes, entry.board.as_slice()) else {
         return Ok(Some(StoreWhy::UnknownBoard));
@@ -84,9 +84,9 @@ pub(crate) fn check_entries(
     entries: &[StateEntry],
 ) -> Result<(), StoreRefusal>
     requires { length indexes.now ≡ length boards.now }
-    ensures none { OnOk result (spec.entry_faults (indexed boards.now indexes.now) entries.now ≡ []) }
+    ensures none { OnOk result (spec.entry_faults (indexed_boards boards.now indexes.now) entries.now ≡ []) }
     ensures first { IfErr result
-        (spec.TellsFirst (spec.entry_faults (indexed boards.now indexes.now) entries.now)) }
+        (spec.TellsFirst (spec.entry_faults (indexed_boards boards.now indexes.now) entries.now)) }
 {
     for entry in entries {
         if let Some(why) = entry_why(alloc, boards, indexes, entry)? {

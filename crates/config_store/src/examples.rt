@@ -23,7 +23,7 @@ ghost use Rattle.config_store.specs.Examples.{
   small_table,
   value_for,
 };
-ghost use Rattle.config_store.specs.Kept.{kept, kept_of};
+ghost use Rattle.config_store.specs.Kept.{registers_kept, kept_of};
 ghost use Rattle.config_store.specs.Lines.{save_lines, apply_lines};
 ghost use Rattle.config_store.specs.Refusals.{applying_faults, keeping_faults};
 ghost use Rattle.config_store.specs.States.{shape_faults, state_entries};
@@ -31,12 +31,12 @@ ghost use Rattle.config_store.specs.Text.{state_text};
 
 /// Of a register and its top bit the top bit is kept; a register that is only read is not.
 pub fn a_register_with_a_field_is_not_kept()
-    ensures { map (λ e. e.0) (kept small_table) ≡ codes "a.top" ∷ [] }
+    ensures { map (λ e. e.0) (registers_kept small_table) ≡ codes "a.top" ∷ [] }
 {}
 
 /// `a.b` is below `a`, also where `a-b` stands between; `ab.c` is not.
 pub fn names_are_parted_by_dots()
-    ensures { map (λ e. e.0) (kept dashed_table) ≡ codes "a-b" ∷ codes "a.b" ∷ codes "ab.c" ∷ [] }
+    ensures { map (λ e. e.0) (registers_kept dashed_table) ≡ codes "a-b" ∷ codes "a.b" ∷ codes "ab.c" ∷ [] }
 {}
 
 /// Of kept registers that share a bit the later is told.

@@ -82,7 +82,7 @@ pub(crate) fn is_kept(
 
 /// The kept registers of a table, in byte order of their names.
 pub(crate) fn kept_registers(alloc: Global, index: &Index) -> Result<Vec<Entry>, NoMemory>
-    ensures kept { IfOk result (λ found. found.items ≡ spec.kept index.now) }
+    ensures kept { IfOk result (λ found. found.items ≡ spec.registers_kept index.now) }
     ensures words { IfOk result (λ found. AreWords found.items) }
 {
     let mut found = Vec::new(alloc);

@@ -17,7 +17,7 @@ ghost use Rattle.script_steps.specs.declared.operation.Step.TheVariants.{Do, Dis
 ghost use Rattle.script_lang.specs.Scripts.{script_faults, steps_from};
 ghost use Rattle.script_steps.specs.declared.operation.Step.{Step};
 ghost use Rattle.config_store.specs.declared.state.StateEntry.{StateEntry as EntryValue};
-ghost use Rattle.config_store.specs.Kept.{IndexedBoard, IsKept, indexed, kept, kept_of};
+ghost use Rattle.config_store.specs.Kept.{IndexedBoard, IsKept, indexed_boards, registers_kept, kept_of};
 ghost use Rattle.config_store.specs.Lines.{apply_lines, read_text, save_lines, write_text};
 ghost use Rattle.config_store.specs.Meanings.{
   HasWord,
@@ -38,7 +38,7 @@ ghost use Rattle.config_store.specs.Puts.{AreApartFrom, CanAllBePut, CanBePut, p
 /// name below theirs.
 pub fn a_register_is_kept_by_what_it_is()
     ensures { (index : RegisterMap) (name : Name) (r : Reg)
-        → Contains (kept index) (name, r) ↔ IsKept index name r }
+        → Contains (registers_kept index) (name, r) ↔ IsKept index name r }
 {}
 
 /// Kept registers of a table overlap where they share a bit of a word.
@@ -64,12 +64,12 @@ pub fn values_under_masks_that_are_apart_stay_apart()
 pub fn lines_mean_what_they_say()
     ensures read { (boards : List BoardSpec) (indexes : List RegisterMap) (i line : ℕ) (b : IndexedBoard) (name : Name)
         (r : Reg)
-        → HaveOwnNames boards → slice_get (indexed boards indexes) i ≡ Some b → IsBoardWord b.0.name → IsOneWord name
+        → HaveOwnNames boards → slice_get (indexed_boards boards indexes) i ≡ Some b → IsBoardWord b.0.name → IsOneWord name
         → IsKept b.1 name r
         → meaning boards indexes line (read_text b.0.name name) ≡ Ok (Some (Do (read_of line i name r))) }
     ensures write { (boards : List BoardSpec) (indexes : List RegisterMap) (i line : ℕ) (b : IndexedBoard) (name : Name)
         (r : Reg) (value : ℕ)
-        → HaveOwnNames boards → slice_get (indexed boards indexes) i ≡ Some b → IsBoardWord b.0.name → IsOneWord name
+        → HaveOwnNames boards → slice_get (indexed_boards boards indexes) i ≡ Some b → IsBoardWord b.0.name → IsOneWord name
         → IsKept b.1 name r → value < 2 ^ 32 → fits_mask r.mask value ≡ true
         → meaning boards indexes line (write_text b.0.name name value)
         ≡ Ok (Some (Do (write_of line i name r value))) }
@@ -80,29 +80,29 @@ pub fn lines_mean_what_they_say()
 /// Where no rule is broken, compiling the script that saves, and the one that applies values in order, finds no fault.
 pub fn the_scripts_have_no_fault()
     ensures save { (boards : List BoardSpec) (indexes : List RegisterMap)
-        → HaveOwnNames boards → HaveWordNames (indexed boards indexes)
-        → keeping_faults (indexed boards indexes) ≡ []
-        → script_faults boards indexes (save_lines (kept_of (indexed boards indexes)) ∷ []) ≡ [] }
+        → HaveOwnNames boards → HaveWordNames (indexed_boards boards indexes)
+        → keeping_faults (indexed_boards boards indexes) ≡ []
+        → script_faults boards indexes (save_lines (kept_of (indexed_boards boards indexes)) ∷ []) ≡ [] }
     ensures apply { (boards : List BoardSpec) (indexes : List RegisterMap) (entries : List EntryValue)
-        → HaveOwnNames boards → HaveWordNames (indexed boards indexes)
-        → applying_faults (indexed boards indexes) entries ≡ []
+        → HaveOwnNames boards → HaveWordNames (indexed_boards boards indexes)
+        → applying_faults (indexed_boards boards indexes) entries ≡ []
         → AreInOrder entries → AllByRecursion HasWord entries
-        → script_faults boards indexes (apply_lines entries (kept_of (indexed boards indexes)) ∷ []) ≡ [] }
+        → script_faults boards indexes (apply_lines entries (kept_of (indexed_boards boards indexes)) ∷ []) ≡ [] }
 {}
 
 /// Where no rule is broken, the script that saves reads each kept register, and the one that applies writes each value,
 /// awaits the writes, and then reads each kept register, all in their order.
 pub fn the_scripts_write_and_read()
     ensures save { (boards : List BoardSpec) (indexes : List RegisterMap)
-        → HaveOwnNames boards → HaveWordNames (indexed boards indexes)
-        → AllZip (Reads (indexed boards indexes)) (kept_of (indexed boards indexes))
-        (steps_from boards indexes 1 (save_lines (kept_of (indexed boards indexes)))) }
+        → HaveOwnNames boards → HaveWordNames (indexed_boards boards indexes)
+        → AllZip (Reads (indexed_boards boards indexes)) (kept_of (indexed_boards boards indexes))
+        (steps_from boards indexes 1 (save_lines (kept_of (indexed_boards boards indexes)))) }
     ensures apply { (boards : List BoardSpec) (indexes : List RegisterMap) (entries : List EntryValue)
-        → HaveOwnNames boards → HaveWordNames (indexed boards indexes)
-        → entry_faults (indexed boards indexes) entries ≡ [] → AllByRecursion HasWord entries
-        → (writes : List Step) × (reads : List Step) × AllZip (Writes (indexed boards indexes)) entries writes
-        × AllZip (Reads (indexed boards indexes)) (kept_of (indexed boards indexes)) reads
-        × (steps_from boards indexes 1 (apply_lines entries (kept_of (indexed boards indexes)))
+        → HaveOwnNames boards → HaveWordNames (indexed_boards boards indexes)
+        → entry_faults (indexed_boards boards indexes) entries ≡ [] → AllByRecursion HasWord entries
+        → (writes : List Step) × (reads : List Step) × AllZip (Writes (indexed_boards boards indexes)) entries writes
+        × AllZip (Reads (indexed_boards boards indexes)) (kept_of (indexed_boards boards indexes)) reads
+        × (steps_from boards indexes 1 (apply_lines entries (kept_of (indexed_boards boards indexes)))
         ≡ writes ++ Dispatch ∷ reads) }
 {}
 

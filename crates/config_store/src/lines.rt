@@ -30,11 +30,11 @@ pub fn save_lines(
 ) -> Result<Vec<Text>, StoreRefusal>
     requires { length indexes.now ≡ length session.now.boards }
     ensures lines { IfOk result (λ lines. lines.items
-        ≡ spec.save_lines (kept.kept_of (kept.indexed session.now.boards indexes.now))) }
+        ≡ spec.save_lines (kept.kept_of (kept.indexed_boards session.now.boards indexes.now))) }
     ensures accepted { OnOk result
-        (fault.keeping_faults (kept.indexed session.now.boards indexes.now) ≡ []) }
+        (fault.keeping_faults (kept.indexed_boards session.now.boards indexes.now) ≡ []) }
     ensures refused { IfErr result
-        (fault.TellsFirst (fault.keeping_faults (kept.indexed session.now.boards indexes.now))) }
+        (fault.TellsFirst (fault.keeping_faults (kept.indexed_boards session.now.boards indexes.now))) }
 {
     let lines = reads(alloc, session.boards.as_slice(), indexes)?;
     if lines.len() > MAX_KEPT {
@@ -55,11 +55,11 @@ pub fn apply_lines(
 ) -> Result<Vec<Text>, StoreRefusal>
     requires { length indexes.now ≡ length session.now.boards }
     ensures lines { IfOk result (λ lines. lines.items ≡ spec.apply_lines state.now
-        (kept.kept_of (kept.indexed session.now.boards indexes.now))) }
+        (kept.kept_of (kept.indexed_boards session.now.boards indexes.now))) }
     ensures accepted { OnOk result
-        (fault.applying_faults (kept.indexed session.now.boards indexes.now) state.now ≡ []) }
+        (fault.applying_faults (kept.indexed_boards session.now.boards indexes.now) state.now ≡ []) }
     ensures refused { IfErr result
-        (fault.TellsFirst (fault.applying_faults (kept.indexed session.now.boards indexes.now) state.now)) }
+        (fault.TellsFirst (fault.applying_faults (kept.indexed_boards session.now.boards indexes.now) state.now)) }
 {
     let saves = save_lines(alloc, session, indexes)?;
     let entries = state.as_slice();
@@ -84,10 +84,10 @@ fn push_all(lines: &mut Vec<Text>, others: Vec<Text>) -> Result<(), NoMemory>
 fn reads(alloc: Global, boards: &[BoardSpec], indexes: &[Index]) -> Result<Vec<Text>, StoreRefusal>
     requires { length indexes.now ≡ length boards.now }
     ensures lines { IfOk result (λ lines. lines.items
-        ≡ spec.save_lines (kept.kept_of (kept.indexed boards.now indexes.now))) }
-    ensures none { OnOk result (flat_map fault.overlap_faults (kept.indexed boards.now indexes.now) ≡ []) }
+        ≡ spec.save_lines (kept.kept_of (kept.indexed_boards boards.now indexes.now))) }
+    ensures none { OnOk result (flat_map fault.overlap_faults (kept.indexed_boards boards.now indexes.now) ≡ []) }
     ensures first { IfErr result
-        (fault.TellsFirst (flat_map fault.overlap_faults (kept.indexed boards.now indexes.now))) }
+        (fault.TellsFirst (flat_map fault.overlap_faults (kept.indexed_boards boards.now indexes.now))) }
 {
     let mut lines = Vec::new(alloc);
     for i in 0..boards.len() {

@@ -18,10 +18,10 @@ Steps [] old new = new ≡ old
 Steps (call ∷ calls) old new = (between : List ℕ) × Step call old between × Steps calls between new
 
 -- all bytes that were fed, as one stream
-abbrev pub fed : List FramerCall → List ℕ
-fed [] = []
-fed (Feed piece ∷ calls) = piece ++ fed calls
-fed (HandOut frame ∷ calls) = fed calls
+abbrev pub fed_bytes : List FramerCall → List ℕ
+fed_bytes [] = []
+fed_bytes (Feed piece ∷ calls) = piece ++ fed_bytes calls
+fed_bytes (HandOut frame ∷ calls) = fed_bytes calls
 
 -- all frames that were handed out, in order
 abbrev pub handed_out : List FramerCall → List RequestFrame

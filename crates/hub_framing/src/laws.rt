@@ -8,7 +8,7 @@ ghost use Rattle.hub_framing.specs.Frames.{RequestFrame, IsFrame, IsFrameStream,
 ghost use Rattle.hub_framing.specs.Frames.{least_length, greatest_length, most_packet_bytes};
 ghost use Rattle.hub_framing.specs.Frames.{IsTooLong, IsTooShort, IsBegun};
 ghost use Rattle.hub_framing.specs.Frames.{ReplyFrame, IsReplyFrame, reply_bytes};
-ghost use Rattle.hub_framing.specs.Calls.{FramerCall, Steps, fed, handed_out};
+ghost use Rattle.hub_framing.specs.Calls.{FramerCall, Steps, fed_bytes, handed_out};
 
 /// The lengths of frames, and the most bytes of a packet, which are those of the most words.
 pub fn the_numbers_of_a_frame()
@@ -29,14 +29,14 @@ pub fn a_stream_is_read_in_one_way()
 /// handed out and what it holds.
 pub fn what_was_fed_is_handed_out_or_held()
     ensures { (calls : List FramerCall) (held : List ℕ) → Steps calls [] held
-        → AllByRecursion IsFrame (handed_out calls) × (fed calls ≡ frames_bytes (handed_out calls) ++ held) }
+        → AllByRecursion IsFrame (handed_out calls) × (fed_bytes calls ≡ frames_bytes (handed_out calls) ++ held) }
 {}
 
 /// How a stream is cut into pieces makes no difference: two framers that were fed the same bytes, and from which all
 /// whole frames were taken, handed out the same frames and hold the same rest.
 pub fn frames_do_not_depend_on_the_pieces()
     ensures { (calls others : List FramerCall) (held left : List ℕ) → Steps calls [] held → Steps others [] left
-        → fed calls ≡ fed others → IsFrameStream held [] held → IsFrameStream left [] left
+        → fed_bytes calls ≡ fed_bytes others → IsFrameStream held [] held → IsFrameStream left [] left
         → (handed_out calls ≡ handed_out others) × (held ≡ left) }
 {}
 

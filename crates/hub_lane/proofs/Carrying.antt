@@ -1,6 +1,6 @@
 -- What a pump does to a link that tells, call by call.
 use Rattle.std.proofs.Common.{◌≡◌, ◌∙◌, ℕ, suc, List, [], ◌∷◌, ◌++◌, Option, Some, None, refl, sym, ap, subst}
-use Rattle.world_model.specs.Hub.{Hub, drained}
+use Rattle.world_model.specs.Hub.{Hub, after_handing_out}
 use Rattle.world_model.specs.Links.{Told, sent_on}
 use Rattle.world_model.specs.Sends.{Next, bytes_to_send, next_send}
 use Rattle.reliable_engine.specs.Answers.{hub_next}
@@ -116,7 +116,7 @@ carried pumped bytes old between (Some s) (Some t) (Some u) all put brings =
 -- ---- a pump
 
 pumping_by : (pumped : Pumped) (bytes : List ℕ) (old new : Hub) (s u : Telling) → IsEventAs (all_sent old) bytes pumped
-    → new ≡ drained (hub_after pumped bytes (all_sent old)) → Carries pumped bytes old s u
+    → new ≡ after_handing_out (hub_after pumped bytes (all_sent old)) → Carries pumped bytes old s u
     → Pumping pumped old new s u
 pumping_by (Reply place) bytes old new s u event hub is =
     record { bytes = bytes; carries = is; event = event; heard = hub }
@@ -130,7 +130,7 @@ pumping_by Idle bytes old new s u event hub is = absurd event
 pumping_by LinkDown bytes old new s u event hub is = tt
 
 pub pumping : (pumped : Pumped) (bytes : List ℕ) (old new : Hub) (first last : Option Telling)
-    → IsEventAs (all_sent old) bytes pumped → new ≡ drained (hub_after pumped bytes (all_sent old))
+    → IsEventAs (all_sent old) bytes pumped → new ≡ after_handing_out (hub_after pumped bytes (all_sent old))
     → IfTelling first last (Carries pumped bytes old) → IfTelling first last (Pumping pumped old new)
 pumping pumped bytes old new None None event hub is = tt
 pumping pumped bytes old new None (Some u) event hub is = absurd is

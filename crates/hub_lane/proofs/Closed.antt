@@ -11,7 +11,7 @@ use Rattle.world_model.specs.declared.offered.Offered.{Offered}
 use Rattle.world_model.specs.declared.offered.OpenPlace.{OpenPlace}
 use Rattle.world_model.specs.Messages.{Reply, ToHub, to_hub}
 use Rattle.world_model.specs.Board.{Board, replies}
-use Rattle.world_model.specs.Hub.{Hub, abandoned, drained, hear_quiet, new_hub, offer, places, take_message}
+use Rattle.world_model.specs.Hub.{Hub, abandoned_place, after_handing_out, hear_quiet, new_hub, offer, places, take_message}
 use Rattle.world_model.specs.Hub.{want_control}
 use Rattle.world_model.specs.Sends.{Next, bytes_to_send, next_send}
 use Rattle.world_model.specs.Facts.{IsDatagram, bodies_of, has, offered_body}
@@ -104,7 +104,7 @@ offered_closed hub offered t closed = record {
       (λ _ there. there) open_there);
 }
 
-pub handed_out_closed : (hub : Hub) (t : Telling) → NoneOpenHanded hub t → NoneOpenHanded (drained hub) t
+pub handed_out_closed : (hub : Hub) (t : Telling) → NoneOpenHanded hub t → NoneOpenHanded (after_handing_out hub) t
 handed_out_closed hub t closed = record { in_air = closed.in_air; none = closed.none }
 
 -- ---- a send
@@ -188,7 +188,7 @@ module _ (longer : AirGrows) (board : SameBoard) where
       (λ _. record {
         in_air = kept.in_air;
         none = λ place words there. kept.none place words
-            (ap (has place) (sym (places_map abandoned hub.open_places (λ o. refl))) ∙ there);
+            (ap (has place) (sym (places_map abandoned_place hub.open_places (λ o. refl))) ∙ there);
       })
 
   -- one that hands out a datagram, which the hub hears

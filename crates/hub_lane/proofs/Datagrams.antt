@@ -8,7 +8,7 @@ use Rattle.world_model.specs.declared.offered.Fate.{Fate}
 use Rattle.world_model.specs.declared.offered.Fate.TheVariants as fate
 use Rattle.world_model.specs.declared.offered.OpenPlace.{OpenPlace}
 use Rattle.world_model.specs.Messages.{ToHub, StatusReply, Reply, to_hub}
-use Rattle.world_model.specs.Hub.{Hub, hear_quiet, recovered, settle, take_message, told_place}
+use Rattle.world_model.specs.Hub.{Hub, hear_quiet, after_recovery, settle, take_message, told_place}
 use Rattle.world_model.specs.Hub.{insert_fate, open_with, tag_of}
 use Rattle.world_model.specs.Places.{at_place}
 use Rattle.lane_record.specs.declared.outcome.Outcome.{Outcome}
@@ -137,7 +137,7 @@ found_fates hub words (Some o) none = either (λ (fs : List (ℕ × Fate)). leng
     (insert_fate o.place (tag_of (at_place hub.sent o.place), fate.Replied o.place words) hub.fates) hub.fates
     (λ _. rw none (omega arith)) (λ _. rw none (omega arith))
 
-recovered_fates : (hub : Hub) (told : Option ℕ) → hub.fates ≡ [] → length (recovered hub told).fates ≤ 1
+recovered_fates : (hub : Hub) (told : Option ℕ) → hub.fates ≡ [] → length (after_recovery hub told).fates ≤ 1
 recovered_fates hub None none = rw none (omega arith)
 recovered_fates hub (Some place) none = rw none (omega arith)
 
@@ -146,7 +146,7 @@ message_fates : (hub : Hub) (message : Option ToHub) → hub.fates ≡ []
     → length (take_message hub message).fates ≤ 1
 message_fates hub None none = rw none (omega arith)
 message_fates hub (Some (StatusReply mtu buffers next)) none = either (λ (h : Hub). length h.fates ≤ 1)
-    (nat_lt 0 hub.status_requests) (recovered hub (told_place hub next)) hub
+    (nat_lt 0 hub.status_requests) (after_recovery hub (told_place hub next)) hub
     (λ _. recovered_fates hub (told_place hub next) none) (λ _. rw none (omega arith))
 message_fates hub (Some (Reply id words)) none =
     found_fates hub words (open_with hub.first id hub.open_places) none

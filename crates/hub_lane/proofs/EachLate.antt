@@ -11,7 +11,7 @@ use Rattle.world_model.specs.declared.offered.Fate.TheVariants as fate
 use Rattle.world_model.specs.declared.offered.Offered.{Offered}
 use Rattle.world_model.specs.declared.offered.OpenPlace.{OpenPlace}
 use Rattle.world_model.specs.Places.{at_place}
-use Rattle.world_model.specs.Board.{executed, replies}
+use Rattle.world_model.specs.Board.{bodies_executed, replies}
 use Rattle.world_model.specs.Hub.{HandedOut, Hub, IsDrained, is_waiting, some_queued, some_waited}
 use Rattle.world_model.specs.Sends.{next_send}
 use Rattle.world_model.specs.Facts.{bodies_of, offered_body}
@@ -25,7 +25,7 @@ use Rattle.lane_record.specs.declared.outcome.Outcome.TheVariants as became
 use Rattle.lane_record.specs.declared.item.Item.{Item}
 use Rattle.lane_record.specs.Claims.{Claim, claims}
 use Rattle.lane_record.specs.Lates.{late_in}
-use Rattle.lane_record.specs.Offers.{Agrees, awaited, outcome_of, tag_at, tags, unsettled_from}
+use Rattle.lane_record.specs.Offers.{Agrees, awaited_tags, outcome_of, tag_at, tags, unsettled_from}
 use Rattle.lane_record.specs.Outcomes.{AreSettled}
 use Rattle.hub_lane.specs.LateAnswers.{AreLateAnswers}
 use Rattle.hub_lane.specs.Lanes.{BoardStatus, IsLane}
@@ -55,7 +55,7 @@ module _ (laws : TruthLaws) (answered : AnsweredLaw) (limits : Limits) (before h
   was_sent : (place : ℕ) (words : List ℕ) → at_place (replies t.told.board) place ≡ Some words
       → place ≤ length hub.sent
   was_sent place words there =
-      let done = executed t.told.board in
+      let done = bodies_executed t.told.board in
       let within = at_within (replies t.told.board) place words there in
       let as_many = replay-length t.told.board.opening done in
       let front = front_length done (bodies_of before.sent) run.reached.joined.sound.log.front in
@@ -108,10 +108,10 @@ no_tags : (queue : List Offered) → tags queue ≡ [] → some_queued queue ≡
 no_tags [] e = refl
 no_tags (q ∷ qs) e = cc
 
-no_awaited : (sent : List Offered) (os : List OpenPlace) → awaited sent os ≡ [] → some_waited os ≡ false
+no_awaited : (sent : List Offered) (os : List OpenPlace) → awaited_tags sent os ≡ [] → some_waited os ≡ false
 no_awaited sent [] e = refl
 no_awaited sent (o ∷ os) e = elim o.waited
-    as (λ b. (if b then tag_at sent o.place ∷ awaited sent os else awaited sent os) ≡ []
+    as (λ b. (if b then tag_at sent o.place ∷ awaited_tags sent os else awaited_tags sent os) ≡ []
     → (b || some_waited os) ≡ false) [
       | true ↦ λ e. absurd cc
       | false ↦ λ e. no_awaited sent os e
@@ -125,7 +125,7 @@ both_none (x ∷ xs) ys e = absurd cc
 nobody_waits : (hub : Hub) (cs : List Claim) (outcomes : List (Option Outcome))
     → Agrees hub.sent hub.queue hub.open_places cs outcomes → AreSettled outcomes → is_waiting hub ≡ false
 nobody_waits hub cs outcomes agrees settled =
-    let none = both_none (awaited hub.sent hub.open_places) (tags hub.queue)
+    let none = both_none (awaited_tags hub.sent hub.open_places) (tags hub.queue)
     (agrees.waits ∙ none_unsettled 0 outcomes settled) in
     let queued = no_tags hub.queue none.1 in
     let waited = no_awaited hub.sent hub.open_places none.0 in

@@ -9,10 +9,9 @@ use Rattle.world_model.specs.declared.offered.OpenPlace.{OpenPlace}
 use Rattle.packet_codec.specs.declared.packet.TheConstants.{MAX_BODY_WORDS}
 use Rattle.world_model.specs.LateAnswers.{AreOfTimedOut}
 use Rattle.world_model.specs.Messages.{ToHub, Reply as ReplyTo, to_hub}
-use Rattle.world_model.specs.Hub.{HandedOut, Hub, drained, give_up, hear_quiet, is_waiting, places, recover}
+use Rattle.world_model.specs.Hub.{HandedOut, Hub, after_handing_out, give_up, hear_quiet, is_waiting, recover}
 use Rattle.world_model.specs.Hub.{some_queued, some_waited, take_message, want_status, without}
-use Rattle.world_model.specs.Sends.{Next, next_send}
-use Rattle.world_model.specs.Facts.{HasBodies, IsWindow}
+use Rattle.world_model.specs.Facts.{HasBodies}
 use Rattle.world_model.proofs.Lists.{either}
 use Rattle.world_model.proofs.Flushing.{message_cases, quiet_cases}
 use Rattle.world_model.specs.Settings.{Limits}
@@ -21,8 +20,7 @@ use Rattle.lane_record.specs.declared.outcome.Outcome.{Outcome}
 use Rattle.lane_record.specs.declared.outcome.Outcome.TheVariants as became
 use Rattle.lane_record.specs.declared.item.Item.{Item}
 use Rattle.lane_record.specs.Claims.{Claim, claims}
-use Rattle.lane_record.specs.FirstSends.{PlacesCount}
-use Rattle.lane_record.specs.Bounds.{AreLostOnlyIf, HasReached, HasWaited, IsKept, TellRounds, timeouts}
+use Rattle.lane_record.specs.Bounds.{AreLostOnlyIf, HasReached, HasWaited, IsKept, TellRounds}
 use Rattle.lane_record.specs.Outcomes.{AreShort, is_given_up, is_lost, is_replied}
 use Rattle.lane_record.specs.Lates.{put_lates}
 use Rattle.lane_record.specs.Offers.{AddsOnly, AgreesWith, KeepsOutcomes, Settles, put_all}
@@ -36,22 +34,16 @@ use Rattle.hub_lane.specs.Hearing.{IsEventAs, give_ups_of, hub_after, quiets_of}
 use Rattle.hub_lane.specs.LateAnswers.{AreLateAnswers}
 use Rattle.hub_lane.specs.Lanes.{BoardStatus, IsLane, IsReady, KnowsBoard, waits}
 use Rattle.hub_lane.specs.Sends.{HasSent}
+use Rattle.hub_lane.specs.PumpLaws.{GaveUpLaw, MessageSettles, QuietSettles, RepliedLaw, SendAgrees, SendKeepsBodies, SendLeaves}
 use Rattle.hub_lane.proofs.Heard.{reply_short}
 use Rattle.hub_lane.proofs.LateAnswers.{HandsOver, account_sent, handed_over, message_lates_short}
 use Rattle.hub_lane.proofs.LateAnswers.{quiet_lates_short}
-use Rattle.hub_lane.proofs.Linked.{SendKeepsBodies}
 use Rattle.hub_lane.proofs.Ready.{ready_sent, same_sent}
 use Rattle.hub_lane.proofs.Sends.{one_sent, sent_keeps}
 use Rattle.hub_lane.proofs.Rounds.{none_wait}
-use Rattle.hub_lane.proofs.Standing.{SendLeaves}
 use Rattle.hub_lane.proofs.Windows.{IsSameBut, IsWindowed, message_windowed, quiet_windowed}
 
 -- ---- sends
-
-abbrev pub SendAgrees : Type 0
-SendAgrees = (hub : Hub) (cs : List Claim) (os : List (Option Outcome)) (next : Next)
-    → IsWindow hub.window (length hub.sent) (places hub.open_places) → AgreesWith hub cs os
-    → next_send hub ≡ Some next → AgreesWith next.hub cs os
 
 pub record IsMid (asks : ℕ) (cs : List Claim) (os : List (Option Outcome)) (old mid : Hub) : Type 0 where
   pub ready : IsReady asks mid
@@ -157,7 +149,7 @@ pub same_length : (cs : List Claim) (old new : List (Option Outcome)) → length
 same_length cs old new a b = b ∙ sym a
 
 ready_after : (asks asks_now : ℕ) (event : Hub) → asks_now ≡ asks → IsWindowed event → HasBodies asks event
-    → IsReady asks_now (drained event)
+    → IsReady asks_now (after_handing_out event)
 ready_after asks asks_now event same window bodies = record {
   drained = record { fates = refl; lates = refl };
   window = window;
@@ -167,25 +159,6 @@ ready_after asks asks_now event same window bodies = record {
     queue = bodies.queue;
   };
 }
-
-abbrev pub RepliedLaw : Type 0
-RepliedLaw = (items : List Item) (old new : List (Option Outcome)) (window now : ℕ) → IsKept items old window now
-    → KeepsOutcomes old new → AddsOnly is_replied old new → PlacesCount (claims items) new → IsKept items new window now
-
-abbrev pub GaveUpLaw : Type 0
-GaveUpLaw = (items : List Item) (old new : List (Option Outcome)) (window now : ℕ) → IsKept items old window now
-    → KeepsOutcomes old new → timeouts new ≤ timeouts old + window → PlacesCount (claims items) new
-    → IsKept items new window (now + 1)
-
-abbrev pub MessageSettles : Type 0
-MessageSettles = (hub : Hub) (message : Option ToHub) (cs : List Claim) (os : List (Option Outcome))
-    → IsWindow hub.window (length hub.sent) (places hub.open_places) → hub.fates ≡ [] → AgreesWith hub cs os
-    → Settles (take_message hub message) cs os is_replied 0
-
-abbrev pub QuietSettles : Type 0
-QuietSettles = (hub : Hub) (cs : List Claim) (os : List (Option Outcome))
-    → IsWindow hub.window (length hub.sent) (places hub.open_places) → hub.fates ≡ [] → AgreesWith hub cs os
-    → Settles (hear_quiet hub) cs os is_given_up hub.window
 
 -- all that holds but how the hub stands to the link, and late answers
 pub record IsAfter (settings : Limits) (status : BoardStatus) (hub : Hub) (items : List Item)
@@ -242,18 +215,18 @@ asked_after : (settings : Limits) (status : BoardStatus) (mid : Hub) (items : Li
     (outcomes : List (Option Outcome)) (give_ups quiets quiets_now : ℕ) → is_waiting mid ≡ true
     → quiets_now ≡ one_more quiets → mid.status_requests < mid.rounds → HasBodies (length outcomes) (want_status mid)
     → IsWindowed (want_status mid) → IsAfter settings status mid items outcomes outcomes give_ups quiets
-    → IsAfter settings status (drained (want_status mid)) items outcomes (put_all (want_status mid).fates outcomes)
+    → IsAfter settings status (after_handing_out (want_status mid)) items outcomes (put_all (want_status mid).fates outcomes)
     (give_ups_of Quiet (want_status mid) give_ups) quiets_now
 asked_after settings status mid items outcomes give_ups quiets quiets_now waiting rose less bodies window is =
     let none = is.ready.drained.fates in
     let outs : put_all mid.fates outcomes ≡ outcomes = ap (λ (fs : List (ℕ × Fate)). put_all fs outcomes) none in
     let count : ◌≡◌ {A = ℕ} (cond (is_waiting mid) give_ups (give_ups + 1)) give_ups =
     ap (λ (b : Bool). cond b give_ups (give_ups + 1)) waiting in
-    subst (λ (os : List (Option Outcome)). IsAfter settings status (drained (want_status mid)) items outcomes os
+    subst (λ (os : List (Option Outcome)). IsAfter settings status (after_handing_out (want_status mid)) items outcomes os
     (cond (is_waiting mid) give_ups (give_ups + 1)) quiets_now) (sym outs)
-    (subst (λ (g : ℕ). IsAfter settings status (drained (want_status mid)) items outcomes outcomes g quiets_now)
+    (subst (λ (g : ℕ). IsAfter settings status (after_handing_out (want_status mid)) items outcomes outcomes g quiets_now)
     (sym count) (record {
-      knows = knows_still settings status mid (drained (want_status mid)) refl refl refl is.knows;
+      knows = knows_still settings status mid (after_handing_out (want_status mid)) refl refl refl is.knows;
       ready = ready_after (length outcomes) (length outcomes) (want_status mid) refl window bodies;
       agrees = is.agrees;
       kept = is.kept;
@@ -270,7 +243,7 @@ given_up_after : GaveUpLaw → (settings : Limits) (status : BoardStatus) (mid :
     → quiets_now ≡ one_more quiets → mid.rounds ≤ mid.status_requests → HasBodies (length outcomes) (give_up mid)
     → IsWindowed (give_up mid) → Settles (give_up mid) (claims items) outcomes is_given_up mid.window
     → IsAfter settings status mid items outcomes outcomes give_ups quiets
-    → IsAfter settings status (drained (give_up mid)) items outcomes (put_all (give_up mid).fates outcomes)
+    → IsAfter settings status (after_handing_out (give_up mid)) items outcomes (put_all (give_up mid).fates outcomes)
     (give_ups_of Quiet (give_up mid) give_ups) quiets_now
 given_up_after gave_up settings status mid items outcomes give_ups quiets quiets_now waiting rose more bodies window s
     is =
@@ -283,9 +256,9 @@ given_up_after gave_up settings status mid items outcomes give_ups quiets quiets
     let one : ◌≡◌ {A = ℕ} (waits mid) 1 = ap (λ (b : Bool). cond b 1 0) waiting in
     let none : ◌≡◌ {A = ℕ} (waits event) 0 = ap (λ (b : Bool). cond b 1 0) off in
     let paid = mul_more (mid.rounds + 1) give_ups in
-    subst (λ (g : ℕ). IsAfter settings status (drained event) items outcomes new g quiets_now)
+    subst (λ (g : ℕ). IsAfter settings status (after_handing_out event) items outcomes new g quiets_now)
     (sym count) (record {
-      knows = knows_still settings status mid (drained event) refl refl refl is.knows;
+      knows = knows_still settings status mid (after_handing_out event) refl refl refl is.knows;
       ready = ready_after (length outcomes) (length new) event same window bodies;
       agrees = s.agrees;
       kept = gave_up items outcomes new mid.window give_ups is.kept s.keeps s.few s.agrees.counts;
@@ -304,7 +277,7 @@ message_after : MessageSettles → RepliedLaw → (settings : Limits) (status : 
     → ((id : ℕ) (words : List ℕ) → message ≡ Some (ReplyTo id words) → length words ≤ MAX_BODY_WORDS)
     → HasBodies (length outcomes) (take_message mid message)
     → IsAfter settings status mid items outcomes outcomes give_ups quiets
-    → IsAfter settings status (drained (take_message mid message)) items outcomes
+    → IsAfter settings status (after_handing_out (take_message mid message)) items outcomes
     (put_all (take_message mid message).fates outcomes) give_ups quiets
 message_after settles replied settings status mid message items outcomes give_ups quiets short bodies is =
     let event = take_message mid message in
@@ -313,7 +286,7 @@ message_after settles replied settings status mid message items outcomes give_up
     let same = same_length (claims items) outcomes new is.agrees.counts.each s.agrees.counts.each in
     let l = message_leaves mid message in
     record {
-      knows = knows_still settings status mid (drained event) l.first l.window l.rounds is.knows;
+      knows = knows_still settings status mid (after_handing_out event) l.first l.window l.rounds is.knows;
       ready = ready_after (length outcomes) (length new) event same (message_windowed mid message is.ready.window)
           bodies;
       agrees = s.agrees;
@@ -333,14 +306,14 @@ quiet_after : QuietSettles → GaveUpLaw → (settings : Limits) (status : Board
     → is_waiting mid ≡ true → quiets_now ≡ one_more quiets
     → HasBodies (length outcomes) (hear_quiet mid)
     → IsAfter settings status mid items outcomes outcomes give_ups quiets
-    → IsAfter settings status (drained (hear_quiet mid)) items outcomes
+    → IsAfter settings status (after_handing_out (hear_quiet mid)) items outcomes
     (put_all (hear_quiet mid).fates outcomes) (give_ups_of Quiet (hear_quiet mid) give_ups) quiets_now
 quiet_after settles gave_up settings status mid items outcomes give_ups quiets quiets_now waiting rose bodies is =
     let s = settles mid (claims items) outcomes is.ready.window is.ready.drained.fates is.agrees in
     let w = quiet_windowed mid is.ready.window in
     quiet_cases (λ (event : Hub). HasBodies (length outcomes) event → IsWindowed event
     → Settles event (claims items) outcomes is_given_up mid.window
-    → IsAfter settings status (drained event) items outcomes (put_all event.fates outcomes)
+    → IsAfter settings status (after_handing_out event) items outcomes (put_all event.fates outcomes)
     (give_ups_of Quiet event give_ups) quiets_now) mid
     (λ less bodies_now window settled. asked_after settings status mid items outcomes give_ups quiets quiets_now waiting
     rose less bodies_now window is)
@@ -355,7 +328,7 @@ pub event_after : MessageSettles → RepliedLaw → QuietSettles → GaveUpLaw
     → HasBodies (length outcomes) (hear_quiet mid)
     → is_waiting mid ≡ true → IsEventAs mid bytes pumped
     → IsAfter settings status mid items outcomes outcomes give_ups quiets
-    → IsAfter settings status (drained (hub_after pumped bytes mid)) items outcomes
+    → IsAfter settings status (after_handing_out (hub_after pumped bytes mid)) items outcomes
     (put_all (hub_after pumped bytes mid).fates outcomes) (give_ups_of pumped (hub_after pumped bytes mid) give_ups)
     (quiets_of pumped quiets)
 event_after settles replied quiet gave_up settings status mid bytes (Reply place) items outcomes give_ups quiets bodies
@@ -400,7 +373,7 @@ event_hands_over : LateLaws → (mid event : Hub) (items : List Item) (outcomes 
     → ((place : ℕ) (words : List ℕ) → Contains event.lates (place, words) → length words ≤ MAX_BODY_WORDS)
     → HasBodies (length outcomes) event → AgreesWith mid (claims items) outcomes
     → Settles event (claims items) outcomes kind most → AreLateAnswers mid outcomes lates
-    → HandsOver (put_all event.fates outcomes) lates (put_lates event.lates lates) (drained event)
+    → HandsOver (put_all event.fates outcomes) lates (put_lates event.lates lates) (after_handing_out event)
 event_hands_over laws mid event items outcomes lates kind most account short bodies agrees settles late =
     let few = bodies.few in
     let count = late.count in
@@ -414,12 +387,12 @@ pub event_late : LateLaws → MessageSettles → QuietSettles → (mid : Hub) (b
     → HasBodies (length outcomes) (hear_quiet mid) → IsEventAs mid bytes pumped → IsReady (length outcomes) mid
     → AgreesWith mid (claims items) outcomes → AreLateAnswers mid outcomes lates
     → HandsOver (put_all (hub_after pumped bytes mid).fates outcomes) lates
-    (put_lates (hub_after pumped bytes mid).lates lates) (drained (hub_after pumped bytes mid))
+    (put_lates (hub_after pumped bytes mid).lates lates) (after_handing_out (hub_after pumped bytes mid))
 event_late laws message quiet mid bytes pumped items outcomes lates bodies quiet_bodies event ready agrees late =
     by pumped event
   where
     heard : HandsOver (put_all (take_message mid (to_hub bytes)).fates outcomes) lates
-        (put_lates (take_message mid (to_hub bytes)).lates lates) (drained (take_message mid (to_hub bytes)))
+        (put_lates (take_message mid (to_hub bytes)).lates lates) (after_handing_out (take_message mid (to_hub bytes)))
     heard = event_hands_over laws mid (take_message mid (to_hub bytes)) items outcomes lates is_replied 0
         (λ out account. laws.heard out mid (to_hub bytes) account)
         (message_lates_short mid (to_hub bytes) ready.drained (reply_short bytes)) (bodies (to_hub bytes)) agrees
@@ -427,7 +400,7 @@ event_late laws message quiet mid bytes pumped items outcomes lates bodies quiet
 
     by : (pumped : Pumped) → IsEventAs mid bytes pumped
         → HandsOver (put_all (hub_after pumped bytes mid).fates outcomes) lates
-        (put_lates (hub_after pumped bytes mid).lates lates) (drained (hub_after pumped bytes mid))
+        (put_lates (hub_after pumped bytes mid).lates lates) (after_handing_out (hub_after pumped bytes mid))
     by (Reply place) event = heard
     by Status event = heard
     by Stray event = heard

@@ -16,8 +16,8 @@ use Rattle.world_model.specs.declared.datagram.Datagram.{Datagram}
 use Rattle.world_model.specs.declared.datagram.Direction.{Direction}
 use Rattle.world_model.specs.declared.datagram.Direction.TheVariants as goes
 use Rattle.world_model.specs.Messages.{ToBoard, StatusRequest, to_board}
-use Rattle.world_model.specs.Board.{Board, expected, hear_message}
-use Rattle.world_model.specs.World.{answered}
+use Rattle.world_model.specs.Board.{Board, expected_identifier, hear_message}
+use Rattle.world_model.specs.World.{air_after_answer}
 use Rattle.world_model.specs.Facts.{IsGreeting, IsGreetingOf, IsStart}
 use Rattle.world_model.specs.Links.{Told, IsHeard, birth_of, first_sends, heard_on, hears_all, sent_on}
 use Rattle.world_model.proofs.Lists.{all_get, get_seam, get_within}
@@ -56,21 +56,21 @@ on_telling P R S (Some s) (Some t) f begins is = f s t begins is
 -- a status request is answered
 request_answered : (board : Board) (birth : ℕ) (air : List Datagram) (message : Option ToBoard)
     → message ≡ Some StatusRequest
-    → GoesThere goes.ToHub (air ++ answered birth (hear_message board message).answer) (length air)
+    → GoesThere goes.ToHub (air ++ air_after_answer birth (hear_message board message).answer) (length air)
 request_answered board birth air message e =
-    subst (λ (m : Option ToBoard). GoesThere goes.ToHub (air ++ answered birth (hear_message board m).answer)
+    subst (λ (m : Option ToBoard). GoesThere goes.ToHub (air ++ air_after_answer birth (hear_message board m).answer)
     (length air)) (sym e)
     (record {
       d = record {
         direction = goes.ToHub;
         bytes = packet_bytes
-            (status_reply board.mtu board.buffers (expected board));
+            (status_reply board.mtu board.buffers (expected_identifier board));
         birth = birth;
       };
       there = get_seam air [] (record {
         direction = goes.ToHub;
         bytes = packet_bytes
-            (status_reply board.mtu board.buffers (expected board));
+            (status_reply board.mtu board.buffers (expected_identifier board));
         birth = birth;
       });
       direction = refl;

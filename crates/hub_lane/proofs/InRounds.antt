@@ -7,7 +7,7 @@ use Rattle.packet_ids.specs.Identifier.{identifier_at}
 use Rattle.world_model.specs.declared.offered.Offered.{Offered}
 use Rattle.world_model.specs.declared.offered.OpenPlace.{OpenPlace}
 use Rattle.world_model.specs.Messages.{ToHub, StatusReply, Reply as ReplyTo, to_hub}
-use Rattle.world_model.specs.Hub.{Hub, drained, hear_quiet, offer, open_with, settle, take_message}
+use Rattle.world_model.specs.Hub.{Hub, after_handing_out, hear_quiet, offer, open_with, settle, take_message}
 use Rattle.world_model.specs.Hub.{want_control}
 use Rattle.world_model.specs.Sends.{Next, bytes_to_send, next_send}
 use Rattle.world_model.proofs.Flushing.{quiet_cases, status_cases}
@@ -256,7 +256,7 @@ round_quiet laws hub before now old new none call = λ limits outcomes lates mtu
 -- what was handed out changes no round
 out_round : (pumped : Pumped) (a : RoundState) (event : Hub) (held : ℕ) (u : Telling)
     → RoundAfter (Pumps pumped) a (in_round event held u)
-    → RoundAfter (Pumps pumped) a (in_round (drained event) held u)
+    → RoundAfter (Pumps pumped) a (in_round (after_handing_out event) held u)
 out_round (Reply place) a event held u is = is
 out_round Status a event held u is = record { same = is.same; way = is.way }
 out_round Stray a event held u is = record { same = is.same; way = is.way }
@@ -265,7 +265,7 @@ out_round Idle a event held u is = record { same = is.same; way = is.way }
 out_round LinkDown a event held u is = is
 
 pub round_exchanged : (pumped : Pumped) (old mid event hub : Hub) (before between after : Option Telling)
-    (held held_then held_now : ℕ) → hub ≡ drained event → held ≤ held_then → held_then ≤ held_now
+    (held held_then held_now : ℕ) → hub ≡ after_handing_out event → held ≤ held_then → held_then ≤ held_now
     → GoesOn before old between mid → PaysOn before old held between mid held_then
     → RoundFor Sends before old held between mid held_then
     → RoundFor (Pumps pumped) between mid held_then after event held_now
@@ -276,7 +276,7 @@ round_exchanged pumped old mid event hub before between after held held_then hel
     (λ s u. RoundAfter (Pumps pumped) (in_round old held s) (in_round h held_now u))) (sym hub_is)
     (called_twice (λ s t. RoundAfter Sends (in_round old held s) (in_round mid held_then t))
     (λ t u. RoundAfter (Pumps pumped) (in_round mid held_then t) (in_round event held_now u))
-    (λ s u. RoundAfter (Pumps pumped) (in_round old held s) (in_round (drained event) held_now u))
+    (λ s u. RoundAfter (Pumps pumped) (in_round old held s) (in_round (after_handing_out event) held_now u))
     before between after (sends limits outcomes lates mtu rounds g start paid)
     (receives limits outcomes lates mtu rounds g (running limits outcomes lates start)
     (pays limits outcomes lates mtu rounds g start paid))

@@ -5,7 +5,6 @@ use Rattle.std.proofs.Common.{inl, inr}
 use Rattle.std.specs.Prelude.{IfSome, min}
 use Rattle.std.specs.List.{AllByRecursion}
 use Rattle.std.specs.Option.{option_or, unwrap_or}
-use Rattle.std.proofs.lemmas.List.{append-nil}
 use Rattle.ipb_base.specs.Numbers.{payload_of}
 use Rattle.ipb_base.proofs.AllLemmas.{AllByRecursion-append}
 use Rattle.packet_ids.specs.Identifier.{IsIdentifier}
@@ -20,14 +19,15 @@ use Rattle.world_core.specs.Telling.{Telling}
 use Rattle.lane_record.specs.declared.outcome.Outcome.{Outcome}
 use Rattle.lane_record.specs.declared.outcome.Outcome.TheVariants as became
 use Rattle.lane_record.specs.declared.item.Item.{Item}
-use Rattle.lane_record.specs.Items.{ask_in, found, is_of, plan_in}
-use Rattle.lane_record.specs.Claims.{Claim, claim_in, claims}
+use Rattle.lane_record.specs.Items.{ask_in, told_by_first, is_of, plan_in}
+use Rattle.lane_record.specs.Claims.{Claim, claims}
 use Rattle.lane_record.specs.Bounds.{IsKept}
 use Rattle.lane_record.specs.Offers.{Agrees, AgreesWith, offer_of}
 use Rattle.lane_record.specs.NextEntry.{ask_of}
 use Rattle.lane_record.proofs.Lookups.{claims_push}
 use Rattle.lane_record.proofs.Lengths.{ShortIfThere}
 use Rattle.lane_record.proofs.Rounds.{TellsIfThere}
+use Rattle.lane_tables.proofs.AskedRows.{same_claims}
 use Rattle.hub_lane.specs.Below.{LateLaws}
 use Rattle.hub_lane.specs.Lanes.{BoardStatus, HasToldStatus, IsGreeted, FitsBoard, IsFittingPlan, IsLane, board_of}
 use Rattle.hub_lane.specs.Standing.{IsRunning, IsStopped, IsUnanswered, NoneOpenHanded}
@@ -141,10 +141,6 @@ lane_begun law late settings status hub items outcomes lates telling faults quie
 
 -- ---- an entry that is no Ask
 
-pub same_claims : (items : List Item) (x : Item) → ask_in x.what ≡ None → claims (items ++ x ∷ []) ≡ claims items
-same_claims items x none = claims_push items x
-    ∙ (ap (λ (o : Option ℕ). claims items ++ claim_in items x o) none ∙ append-nil (claims items))
-
 pub lane_entry : (settings : Limits) (status : BoardStatus) (hub : Hub) (items : List Item)
     (outcomes : List (Option Outcome)) (lates : List (Option (List ℕ))) (give_ups : ℕ) (down spent : Bool)
     (telling : Option Telling) (faults quiets : ℕ) (x : Item) → ask_in x.what ≡ None
@@ -184,7 +180,7 @@ up_unanswered hub down spent t up (inr waits) =
 abbrev pub claim_of : ℕ → ℕ → ℕ → List ℕ → Claim
 claim_of client seq g body = record { client = client; seq = seq; give_ups = g; body = body }
 
-asked_claims : (items : List Item) (client seq g : ℕ) (body : List ℕ) → found plan_in client seq items ≡ Some body
+asked_claims : (items : List Item) (client seq g : ℕ) (body : List ℕ) → told_by_first plan_in client seq items ≡ Some body
     → claims (items ++ ask_of client seq g ∷ []) ≡ claims items ++ claim_of client seq g body ∷ []
 asked_claims items client seq g body there = claims_push items (ask_of client seq g)
     ∙ ap (λ (o : Option (List ℕ)). claims items ++ claim_of client seq g (unwrap_or o []) ∷ []) there
@@ -197,7 +193,7 @@ pub lane_offered : OfferLaw → LateLaws → (settings : Limits) (status : Board
     → AgreesWith (offer h (offer_of (length cs) c)) (cs ++ c ∷ []) (os ++ None ∷ []))
     → (IsKept items outcomes hub.window give_ups
     → IsKept (items ++ ask_of client seq give_ups ∷ []) (outcomes ++ None ∷ []) hub.window give_ups)
-    → found plan_in client seq items ≡ Some body → IsSendable body
+    → told_by_first plan_in client seq items ≡ Some body → IsSendable body
     → IsLane settings status hub items outcomes lates give_ups false false telling faults quiets
     → IsLane settings status (offer hub (record { tag = length outcomes; body = body }))
     (items ++ ask_of client seq give_ups ∷ []) (outcomes ++ None ∷ []) (lates ++ None ∷ []) give_ups false false telling
@@ -261,7 +257,7 @@ pub lane_asked_in_vain : (settings : Limits) (status : BoardStatus) (hub : Hub) 
     → (IsKept items outcomes hub.window give_ups
     → IsKept (items ++ ask_of client seq give_ups ∷ []) (outcomes ++ Some (became.LinkLost None) ∷ []) hub.window
     give_ups)
-    → found plan_in client seq items ≡ Some body
+    → told_by_first plan_in client seq items ≡ Some body
     → IsLane settings status hub items outcomes lates give_ups true spent telling faults quiets
     → IsLane settings status hub (items ++ ask_of client seq give_ups ∷ [])
     (outcomes ++ Some (became.LinkLost None) ∷ []) (lates ++ None ∷ []) give_ups true spent telling faults quiets
@@ -314,10 +310,10 @@ fits_here : (payload : ℕ) (o : Option (List ℕ)) (body : List ℕ) → IfSome
 fits_here payload o body is e = subst (λ (r : Option (List ℕ)). IfSome r (FitsBoard payload)) e is
 
 found_first : (payload : ℕ) (x : Item) (xs : List Item) (client seq : ℕ) (body : List ℕ) → IsFittingPlan payload x
-    → (found plan_in client seq xs ≡ Some body → FitsBoard payload body)
-    → found plan_in client seq (x ∷ xs) ≡ Some body → FitsBoard payload body
+    → (told_by_first plan_in client seq xs ≡ Some body → FitsBoard payload body)
+    → told_by_first plan_in client seq (x ∷ xs) ≡ Some body → FitsBoard payload body
 found_first payload x xs client seq body fits later there =
-    or_cases (cond (is_of client seq x) (plan_in x.what) None) (found plan_in client seq xs) body
+    or_cases (cond (is_of client seq x) (plan_in x.what) None) (told_by_first plan_in client seq xs) body
     (FitsBoard payload body)
     (λ here. either (λ (o : Option (List ℕ)). o ≡ Some body → FitsBoard payload body) (is_of client seq x)
     (plan_in x.what) None (λ _ e. fits_here payload (plan_in x.what) body fits e) (λ _ e. absurd cc) here)
@@ -325,7 +321,7 @@ found_first payload x xs client seq body fits later there =
 
 -- a body that is found in a record fits
 pub found_fits : (payload : ℕ) (items : List Item) (client seq : ℕ) (body : List ℕ)
-    → AllByRecursion (IsFittingPlan payload) items → found plan_in client seq items ≡ Some body
+    → AllByRecursion (IsFittingPlan payload) items → told_by_first plan_in client seq items ≡ Some body
     → FitsBoard payload body
 found_fits payload [] client seq body all there = absurd cc
 found_fits payload (x ∷ xs) client seq body all there = found_first payload x xs client seq body all.0
@@ -349,7 +345,7 @@ pub lane_asks : OfferLaw → LateLaws
     → (IsKept items outcomes hub.window give_ups
     → IsKept (items ++ ask_of client seq give_ups ∷ []) (outcomes ++ Some (became.LinkLost None) ∷ []) hub.window
     give_ups)
-    → found plan_in client seq items ≡ Some body → IsSendable body → spent ≡ false
+    → told_by_first plan_in client seq items ≡ Some body → IsSendable body → spent ≡ false
     → new ≡ cond down hub (offer hub (record { tag = length outcomes; body = body }))
     → items_now ≡ items ++ ask_of client seq give_ups ∷ []
     → outcomes_now ≡ outcomes ++ cond down (Some (became.LinkLost None)) None ∷ []

@@ -8,7 +8,7 @@ use Rattle.ipb_base.proofs.AllLemmas.{AllByRecursion-append}
 use Rattle.packet_codec.specs.declared.packet.TheConstants.{MAX_BODY_WORDS}
 use Rattle.world_model.specs.declared.offered.Fate.{Fate}
 use Rattle.world_model.specs.Messages.{ToHub, Reply}
-use Rattle.world_model.specs.Hub.{HandedOut, Hub, IsDrained, drained, hands_out, hear_quiet, new_hub, none_handed_out}
+use Rattle.world_model.specs.Hub.{HandedOut, Hub, IsDrained, after_handing_out, hands_out, hear_quiet, new_hub, none_handed_out}
 use Rattle.world_model.specs.Hub.{places, take_message}
 use Rattle.world_model.specs.LateAnswers.{AreOfTimedOut, HasTimedOut, IsClosedPlace, late_places}
 use Rattle.lane_record.specs.declared.outcome.Outcome.{Outcome}
@@ -156,13 +156,13 @@ pub handed_over : LateLaws → (mid event : Hub) (claims : List Claim) (outcomes
     → ((place : ℕ) (words : List ℕ) → Contains event.lates (place, words) → length words ≤ MAX_BODY_WORDS)
     → length event.sent ≤ length lates → length (put_all event.fates outcomes) ≡ length outcomes
     → Settles event claims outcomes kind most → AreLateAnswers mid outcomes lates
-    → HandsOver (put_all event.fates outcomes) lates (put_lates event.lates lates) (drained event)
+    → HandsOver (put_all event.fates outcomes) lates (put_lates event.lates lates) (after_handing_out event)
 handed_over laws mid event claims outcomes lates kind most account short few same settles is =
     let before = is.handed_out in
     let new = put_all event.fates outcomes in
     let now = account before.out before.account in
     record {
-      late = late_answers (drained event) new (put_lates event.lates lates) (record { fates = refl; lates = refl })
+      late = late_answers (after_handing_out event) new (put_lates event.lates lates) (record { fates = refl; lates = refl })
           (length-put_lates event.lates lates ∙ (is.count ∙ sym same))
           (λ place words there. ⊎_elim (short place words) (is.short place words)
           (came event.lates lates place words there))

@@ -7,7 +7,7 @@ use Rattle.world_model.specs.Messages.{to_hub}
 use Rattle.world_model.specs.Hub.{Hub, IsDrained, hear_quiet, is_waiting, take_message}
 use Rattle.world_model.specs.Links.{IsHanded, Told}
 use Rattle.world_model.specs.Sends.{Next, bytes_to_send, next_send}
-use Rattle.world_model.specs.Facts.{AreSendable, HasBodies}
+use Rattle.world_model.specs.Facts.{AreSendable}
 use Rattle.reliable_engine.specs.Answers.{hub_next}
 use Rattle.world_model.specs.Board.{Board}
 use Rattle.world_model.specs.Settings.{Limits}
@@ -26,8 +26,9 @@ use Rattle.hub_lane.specs.Hearing.{IsHeardAs, WasReceived}
 use Rattle.hub_lane.specs.Rounds.{PaysOn, RoundFor, Sends}
 use Rattle.hub_lane.specs.Sends.{HasSent, all_sent}
 use Rattle.hub_lane.specs.Standing.{GoesOn, IsRunning, IsStopped, NoneOpenHanded, StaysUnanswered, Stops}
+use Rattle.hub_lane.specs.PumpLaws.{SendKeepsBodies, SendLeaves}
 use Rattle.hub_lane.proofs.Closed.{got_closed, quiet_closed, refused_closed, sent_closed}
-use Rattle.hub_lane.proofs.Standing.{HandedLaw, HeardLaw, QuietLaw, SameBoard, SendLeaves, SendLaw}
+use Rattle.hub_lane.proofs.Standing.{HandedLaw, HeardLaw, QuietLaw, SameBoard, SendLaw}
 use Rattle.hub_lane.proofs.Standing.{after_call, got_running, if_told, other_running, quiet_running, refused_stopped}
 use Rattle.hub_lane.proofs.Standing.{sent_running}
 
@@ -53,10 +54,6 @@ pub record IsSending (before : Option Telling) (old : Hub) (telling : Option Tel
   pub put : IfTelling before telling (HasPut old now)
 
 -- the bodies of the hub after a send
-abbrev pub SendKeepsBodies : Type 0
-SendKeepsBodies = (most : ℕ) (hub : Hub) (next : Next) → next_send hub ≡ Some next → HasBodies most hub
-    → HasBodies most next.hub
-
 spelled_by : SendKeepsBodies → (old new : Hub) (r : Option Next) → next_send old ≡ r → new ≡ hub_next old r
     → AreSendable old.sent → AreSendable old.queue → AreSendable new.sent × AreSendable new.queue
 spelled_by law old new None is after sent queue =

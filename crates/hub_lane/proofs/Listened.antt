@@ -13,7 +13,7 @@ use Rattle.world_model.specs.declared.offered.Fate.{Fate}
 use Rattle.world_model.specs.declared.offered.Fate.TheVariants as fate
 use Rattle.world_model.specs.Messages.{ToHub, Reply, StatusReply, to_hub}
 use Rattle.world_model.specs.declared.offered.Offered.{Offered}
-use Rattle.world_model.specs.Hub.{Hub, IsDrained, drained, give_up, hear_quiet, is_waiting, offer, take_message}
+use Rattle.world_model.specs.Hub.{Hub, IsDrained, after_handing_out, give_up, hear_quiet, is_waiting, offer, take_message}
 use Rattle.world_model.proofs.Flushing.{quiet_cases}
 use Rattle.world_core.specs.Receives.{IsReplyAmong, first_status, quiets_in, since_status, tells_status}
 use Rattle.lane_record.specs.declared.outcome.Outcome.{Outcome}
@@ -369,7 +369,7 @@ quiet_waited mid give_ups quiets waiting is =
 message_listened : (status : BoardStatus) (mid : Hub) (bytes : List ℕ) (outcomes : List (Option Outcome))
     (lates : List (Option (List ℕ))) (give_ups : ℕ) (receives : List (Option (List ℕ))) → mid.first ≡ status.next
     → IsDrained mid → HasListened status mid outcomes lates give_ups receives
-    → HasListened status (drained (take_message mid (to_hub bytes)))
+    → HasListened status (after_handing_out (take_message mid (to_hub bytes)))
     (put_all (take_message mid (to_hub bytes)).fates outcomes)
     (put_lates (take_message mid (to_hub bytes)).lates lates) give_ups (receives ++ Some bytes ∷ [])
 message_listened status mid bytes outcomes lates give_ups receives first none is =
@@ -393,7 +393,7 @@ message_listened status mid bytes outcomes lates give_ups receives first none is
 quiet_listened : (status : BoardStatus) (mid : Hub) (outcomes : List (Option Outcome))
     (lates : List (Option (List ℕ))) (give_ups : ℕ) (receives : List (Option (List ℕ))) → mid.first ≡ status.next
     → IsDrained mid → is_waiting mid ≡ true → HasListened status mid outcomes lates give_ups receives
-    → HasListened status (drained (hear_quiet mid)) (put_all (hear_quiet mid).fates outcomes)
+    → HasListened status (after_handing_out (hear_quiet mid)) (put_all (hear_quiet mid).fates outcomes)
     (put_lates (hear_quiet mid).lates lates) (give_ups_of pumps.Quiet (hear_quiet mid) give_ups)
     (receives ++ None ∷ [])
 quiet_listened status mid outcomes lates give_ups receives first none waiting is =
@@ -417,7 +417,7 @@ pub event_listened : (status : BoardStatus) (mid : Hub) (bytes : List ℕ) (pump
     (outcomes : List (Option Outcome)) (lates : List (Option (List ℕ))) (give_ups : ℕ)
     (receives : List (Option (List ℕ))) → mid.first ≡ status.next → IsDrained mid → is_waiting mid ≡ true
     → IsEventAs mid bytes pumped → HasListened status mid outcomes lates give_ups receives
-    → HasListened status (drained (hub_after pumped bytes mid)) (put_all (hub_after pumped bytes mid).fates outcomes)
+    → HasListened status (after_handing_out (hub_after pumped bytes mid)) (put_all (hub_after pumped bytes mid).fates outcomes)
     (put_lates (hub_after pumped bytes mid).lates lates) (give_ups_of pumped (hub_after pumped bytes mid) give_ups)
     (receives_of pumped bytes receives)
 event_listened status mid bytes (pumps.Reply place) outcomes lates give_ups receives first none waiting event is =

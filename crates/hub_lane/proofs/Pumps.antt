@@ -6,7 +6,7 @@ use Rattle.ipb_base.specs.Faults.{Rose}
 use Rattle.world_model.specs.declared.offered.Offered.{Offered}
 use Rattle.world_model.specs.declared.offered.OpenPlace.{OpenPlace}
 use Rattle.world_model.specs.Messages.{ToHub}
-use Rattle.world_model.specs.Hub.{Hub, drained, hear_quiet, is_waiting}
+use Rattle.world_model.specs.Hub.{Hub, after_handing_out, hear_quiet, is_waiting}
 use Rattle.world_model.specs.Hub.{take_message}
 use Rattle.world_model.specs.Sends.{pending}
 use Rattle.world_model.specs.Facts.{HasBodies}
@@ -15,8 +15,6 @@ use Rattle.world_core.specs.Telling.{Telling}
 use Rattle.lane_record.specs.declared.outcome.Outcome.{Outcome}
 use Rattle.lane_record.specs.declared.item.Item.{Item}
 use Rattle.lane_record.specs.Claims.{Claim, claims}
-use Rattle.lane_record.specs.FirstSends.{PlacesCount}
-use Rattle.lane_record.specs.Bounds.{IsKept}
 use Rattle.lane_record.specs.Outcomes.{is_lost}
 use Rattle.lane_record.specs.Lates.{KeepsLates, put_lates}
 use Rattle.lane_record.specs.Offers.{AddsOnly, Agrees, KeepsOutcomes, all_lost, put_all}
@@ -29,14 +27,14 @@ use Rattle.hub_lane.specs.Hearing.{IsEventAs, give_ups_of, gots_of, hub_after, q
 use Rattle.hub_lane.specs.Lanes.{BoardStatus, IsLane, board_of}
 use Rattle.hub_lane.specs.Sends.{HasSent, all_sent}
 use Rattle.hub_lane.specs.Standing.{GoesOn, IsRunning, IsStopped, IsUnanswered, NoneOpenHanded, StaysUnanswered, Stops}
+use Rattle.hub_lane.specs.PumpLaws.{GaveUpLaw, LostLaw, MessageSettles, PumpLaws, QuietSettles, RepliedLaw}
 use Rattle.hub_lane.proofs.Datagrams.{heard_after}
-use Rattle.hub_lane.proofs.Exchanges.{GaveUpLaw, IsAfter, IsMid, MessageSettles, QuietSettles, RepliedLaw, SendAgrees}
+use Rattle.hub_lane.proofs.Exchanges.{IsAfter, IsMid}
 use Rattle.hub_lane.proofs.Exchanges.{event_after, event_late, mid_after, mid_sent, more_give_ups, same_length}
 use Rattle.hub_lane.proofs.Lanes.{told_still, up_unanswered}
 use Rattle.hub_lane.proofs.LateAnswers.{HandsOver, late_still, lost_late}
-use Rattle.hub_lane.proofs.Linked.{SendKeepsBodies}
 use Rattle.hub_lane.proofs.Listened.{event_listened, listened_sent, same_answers, same_prefix}
-use Rattle.hub_lane.proofs.Standing.{SendLeaves, if_told, lost_stopped}
+use Rattle.hub_lane.proofs.Standing.{if_told, lost_stopped}
 
 -- ---- an exchange
 
@@ -57,7 +55,7 @@ pub lane_received : LateLaws → MessageSettles → RepliedLaw → QuietSettles 
     → HasBodies (length outcomes) (hear_quiet mid)
     → IsMid (length outcomes) (claims items) outcomes hub mid
     → is_waiting hub ≡ true → IsEventAs mid bytes pumped
-    → new ≡ drained (hub_after pumped bytes mid)
+    → new ≡ after_handing_out (hub_after pumped bytes mid)
     → outcomes_now ≡ put_all (hub_after pumped bytes mid).fates outcomes
     → lates_now ≡ put_lates (hub_after pumped bytes mid).lates lates
     → give_ups_now ≡ give_ups_of pumped (hub_after pumped bytes mid) give_ups
@@ -74,19 +72,19 @@ lane_received late message replied quiet gave_up settings status hub mid new byt
     let done = event_after message replied quiet gave_up settings status mid bytes pumped items outcomes give_ups quiets
     bodies quiet_bodies (at.same.waits ∙ waiting) event before in
     let after = subst (λ (h : Hub). IsAfter settings status h items outcomes outcomes_now give_ups_now quiets_now)
-    (sym hub_is) (subst (λ (os : List (Option Outcome)). IsAfter settings status (drained (hub_after pumped bytes
+    (sym hub_is) (subst (λ (os : List (Option Outcome)). IsAfter settings status (after_handing_out (hub_after pumped bytes
     mid))
     items outcomes os give_ups_now quiets_now) (sym outcomes_are)
-    (subst (λ (n : ℕ). IsAfter settings status (drained (hub_after pumped bytes mid)) items outcomes
+    (subst (λ (n : ℕ). IsAfter settings status (after_handing_out (hub_after pumped bytes mid)) items outcomes
     (put_all (hub_after pumped bytes mid).fates outcomes) n quiets_now) (sym give_ups_are)
-    (subst (λ (q : ℕ). IsAfter settings status (drained (hub_after pumped bytes mid)) items outcomes
+    (subst (λ (q : ℕ). IsAfter settings status (after_handing_out (hub_after pumped bytes mid)) items outcomes
     (put_all (hub_after pumped bytes mid).fates outcomes)
     (give_ups_of pumped (hub_after pumped bytes mid) give_ups) q) (sym quiets_are) done))) in
     let hands = subst (λ (h : Hub). HandsOver outcomes_now lates lates_now h) (sym hub_is)
-    (subst (λ (os : List (Option Outcome)). HandsOver os lates lates_now (drained (hub_after pumped bytes mid)))
+    (subst (λ (os : List (Option Outcome)). HandsOver os lates lates_now (after_handing_out (hub_after pumped bytes mid)))
     (sym outcomes_are)
     (subst (λ (ls : List (Option (List ℕ))). HandsOver (put_all (hub_after pumped bytes mid).fates outcomes) lates ls
-    (drained (hub_after pumped bytes mid))) (sym lates_are)
+    (after_handing_out (hub_after pumped bytes mid))) (sym lates_are)
     (event_late late message quiet mid bytes pumped items outcomes lates bodies quiet_bodies event at.ready at.agrees
     (late_still hub mid outcomes lates at.ready.drained at.account is.late)))) in
     record {
@@ -125,10 +123,6 @@ still_unanswered settings outcomes lates hub mid down spent telling telling_now 
     (if_told (IsUnanswered hub false false) (NoneOpenHanded hub) telling none
     (λ t is. up_unanswered hub false false t refl is)))
     (λ t is. inl is)
-
-abbrev pub LostLaw : Type 0
-LostLaw = (items : List Item) (old new : List (Option Outcome)) (window now : ℕ) → IsKept items old window now
-    → KeepsOutcomes old new → AddsOnly is_lost old new → PlacesCount (claims items) new → IsKept items new window now
 
 pub lane_down : LostLaw
     → ((sent queue : List Offered) (os : List OpenPlace) (cs : List Claim) (outs : List (Option Outcome))
@@ -283,25 +277,6 @@ up settings status hub items outcomes lates give_ups down spent telling faults q
     subst (λ (x : Bool). IsLane settings status hub items outcomes lates give_ups false x telling faults quiets) s
     (subst (λ (x : Bool). IsLane settings status hub items outcomes lates give_ups x spent telling faults quiets) d is)
 
--- what the laws say of a lane's hub in a pump
-pub record PumpLaws : Type 0 where
-  pub fates : SendLeaves
-  pub bodies : SendKeepsBodies
-  pub agrees : SendAgrees
-  pub late : LateLaws
-  pub message_bodies : (most : ℕ) (h : Hub) (message : Option ToHub) → HasBodies most h
-      → HasBodies most (take_message h message)
-  pub quiet_bodies : (most : ℕ) (h : Hub) → HasBodies most h → HasBodies most (hear_quiet h)
-  pub message : MessageSettles
-  pub quiet : QuietSettles
-  pub replied : RepliedLaw
-  pub gave_up : GaveUpLaw
-  pub lost : LostLaw
-  pub lost_agrees : (sent queue : List Offered) (os : List OpenPlace) (cs : List Claim) (outs : List (Option Outcome))
-      → Agrees sent queue os cs outs → Agrees sent [] [] cs (all_lost (length sent) outs)
-  pub lost_keeps : (sent : ℕ) (outs : List (Option Outcome)) → KeepsOutcomes outs (all_lost sent outs)
-  pub lost_adds : (sent : ℕ) (outs : List (Option Outcome)) → AddsOnly is_lost outs (all_lost sent outs)
-
 module _ (laws : PumpLaws) (settings : Limits) (status : BoardStatus) (hub : Hub) (items : List Item)
     (outcomes : List (Option Outcome)) (lates : List (Option (List ℕ))) (give_ups : ℕ) (down spent : Bool)
     (telling : Option Telling) (faults quiets : ℕ) (d : down ≡ false) (s : spent ≡ false)
@@ -325,7 +300,7 @@ module _ (laws : PumpLaws) (settings : Limits) (status : BoardStatus) (hub : Hub
       (lates_now : List (Option (List ℕ))) (give_ups_now : ℕ) (telling_now : Option Telling)
       (faults_now quiets_now : ℕ)
       → is_waiting hub ≡ true → IsEventAs (all_sent hub) bytes pumped
-      → new ≡ drained (hub_after pumped bytes (all_sent hub))
+      → new ≡ after_handing_out (hub_after pumped bytes (all_sent hub))
       → outcomes_now ≡ put_all (hub_after pumped bytes (all_sent hub)).fates outcomes
       → lates_now ≡ put_lates (hub_after pumped bytes (all_sent hub)).lates lates
       → give_ups_now ≡ give_ups_of pumped (hub_after pumped bytes (all_sent hub)) give_ups
@@ -416,7 +391,7 @@ module _ (laws : PumpLaws) (settings : Limits) (status : BoardStatus) (hub : Hub
   pub pump_listened : (bytes : List ℕ) (pumped : Pumped) (hub_now : Hub) (outcomes_now : List (Option Outcome))
       (lates_now : List (Option (List ℕ))) (give_ups_now : ℕ) (receives receives_now : List (Option (List ℕ)))
       → is_waiting hub ≡ true → IsEventAs (all_sent hub) bytes pumped
-      → hub_now ≡ drained (hub_after pumped bytes (all_sent hub))
+      → hub_now ≡ after_handing_out (hub_after pumped bytes (all_sent hub))
       → outcomes_now ≡ put_all (hub_after pumped bytes (all_sent hub)).fates outcomes
       → lates_now ≡ put_lates (hub_after pumped bytes (all_sent hub)).lates lates
       → give_ups_now ≡ give_ups_of pumped (hub_after pumped bytes (all_sent hub)) give_ups

@@ -4,7 +4,7 @@ use Rattle.turn_pass.specs.Record.{Record}
 use Rattle.world_model.specs.Settings.{Limits}
 use Rattle.world_core.specs.Telling.{Telling}
 use Rattle.lane_record.specs.declared.item.Item.{Item}
-use Rattle.lane_record.specs.Coding.{Head, head_numbers, recorded}
+use Rattle.lane_record.specs.Coding.{Head, head_numbers, as_recorded}
 use Rattle.hub_lane.specs.Lanes.{BoardStatus, opening_of}
 use Rattle.hub_lane.specs.Records.{head_of, record_shown}
 
@@ -12,15 +12,15 @@ abbrev pub HeadLaw : Type 0
 HeadLaw = (head other : Head) → head_numbers head ≡ head_numbers other → head ≡ other
 
 abbrev pub EntryLaw : Type 0
-EntryLaw = (item other : Item) → recorded item ≡ recorded other → item ≡ other
+EntryLaw = (item other : Item) → as_recorded item ≡ as_recorded other → item ≡ other
 
-same_items : EntryLaw → (xs ys : List Item) → map recorded xs ≡ map recorded ys → xs ≡ ys
+same_items : EntryLaw → (xs ys : List Item) → map as_recorded xs ≡ map as_recorded ys → xs ≡ ys
 same_items law [] [] e = refl
 same_items law [] (y ∷ ys) e = absurd cc
 same_items law (x ∷ xs) [] e = absurd cc
 same_items law (x ∷ xs) (y ∷ ys) e =
-    let first : recorded x ≡ recorded y = cc in
-    let later : map recorded xs ≡ map recorded ys = cc in
+    let first : as_recorded x ≡ as_recorded y = cc in
+    let later : map as_recorded xs ≡ map as_recorded ys = cc in
     ap (λ (z : Item). z ∷ xs) (law x y first) ∙ ap (λ (zs : List Item). y ∷ zs) (same_items law xs ys later)
 
 abbrev limits_in : Head → Limits

@@ -12,7 +12,7 @@ use Rattle.lane_record.specs.declared.outcome.Outcome.TheVariants.{Replied}
 use Rattle.lane_record.specs.Outcomes.{is_sent, place_of}
 use Rattle.lane_record.specs.Claims.{Claim}
 use Rattle.lane_record.specs.FirstSends.{HasPlaceAfter, HavePlacesAfter, may_have_place}
-use Rattle.lane_record.specs.Offers.{Agrees, awaited, offers_from, tags}
+use Rattle.lane_record.specs.Offers.{Agrees, awaited_tags, offers_from, tags}
 use Rattle.lane_record.proofs.Offers.{unsettled_none}
 use Rattle.reliable_engine.specs.Answers.{tag_there}
 use Rattle.hub_lane.specs.Calls.{IsReplyAt}
@@ -113,9 +113,9 @@ reply_tagged sent queue os cs outs agrees k place words there =
       | inl here ↦ ap (λ (p : ℕ). tag_there (at_place sent p)) place_is ∙ ap tag_there here
       | inr queued ↦ (
           let t = tag_among queue queued.0 offered queued.1 in
-          let waits = sym agrees.waits ∙ (ap (λ (l : List ℕ). awaited sent os ++ l) t.split
-          ∙ sym (append_assoc (awaited sent os) t.front (k ∷ t.back))) in
-          let none = unsettled_none k outs (awaited sent os ++ t.front) t.back waits in
+          let waits = sym agrees.waits ∙ (ap (λ (l : List ℕ). awaited_tags sent os ++ l) t.split
+          ∙ sym (append_assoc (awaited_tags sent os) t.front (k ∷ t.back))) in
+          let none = unsettled_none k outs (awaited_tags sent os ++ t.front) t.back waits in
           absurd (let both : Some (Some (Replied place words)) ≡ Some None = sym there ∙ none in cc))
     ]
 

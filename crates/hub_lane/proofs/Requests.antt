@@ -6,7 +6,7 @@ use Rattle.std.proofs.lemmas.List.Sums.{sum_by-append}
 use Rattle.world_model.specs.declared.datagram.Datagram.{Datagram}
 use Rattle.world_model.specs.Board.{hear}
 use Rattle.world_model.specs.Links.{IsHeard, Told, first_sends, heard_on, hears_all}
-use Rattle.world_model.specs.World.{answered}
+use Rattle.world_model.specs.World.{air_after_answer}
 use Rattle.world_core.specs.declared.link.LinkFault.{LinkFault}
 use Rattle.world_core.specs.declared.link.LinkFault.TheVariants as fault
 use Rattle.world_core.specs.declared.link.Received.{Received}
@@ -24,13 +24,13 @@ for_board air = count_by is_for_board air
 abbrev pub one_for_board : Datagram → ℕ
 one_for_board d = cond (is_for_board d) 1 0
 
-answer_for_hub : (birth : ℕ) (r : Option (List ℕ)) → for_board (answered birth r) ≡ 0
+answer_for_hub : (birth : ℕ) (r : Option (List ℕ)) → for_board (air_after_answer birth r) ≡ 0
 answer_for_hub birth None = refl
 answer_for_hub birth (Some bytes) = refl
 
 heard_asks_none : (told : Told) (bytes : List ℕ) → for_board (heard_on told bytes).air ≡ for_board told.air
 heard_asks_none told bytes =
-    let answer = answered (first_sends told) (hear told.board bytes).answer in
+    let answer = air_after_answer (first_sends told) (hear told.board bytes).answer in
     omega (
       arith,
       sum_by-append one_for_board told.air answer,

@@ -11,7 +11,7 @@ use Rattle.world_model.specs.declared.offered.Offered.{Offered}
 use Rattle.world_model.specs.declared.offered.OpenPlace.{OpenPlace}
 use Rattle.world_model.specs.Messages.{ToHub, to_hub}
 use Rattle.world_model.specs.Board.{Board}
-use Rattle.world_model.specs.Hub.{Hub, abandoned, drained, give_up, hear_quiet, is_waiting, new_hub, offer, some_waited}
+use Rattle.world_model.specs.Hub.{Hub, abandoned_place, after_handing_out, give_up, hear_quiet, is_waiting, new_hub, offer, some_waited}
 use Rattle.world_model.specs.Hub.{take_message, want_status}
 use Rattle.world_model.specs.Links.{IsJoined, Told}
 use Rattle.world_model.specs.Sends.{Next, bytes_to_send, next_send}
@@ -110,7 +110,7 @@ message_same hub message = message_cases (Same hub) hub message
     (λ id words o found. record { window = refl; sent = refl; queue = refl })
 
 -- once the hub gave up nobody waits
-pub none_wait : (os : List OpenPlace) → some_waited (map abandoned os) ≡ false
+pub none_wait : (os : List OpenPlace) → some_waited (map abandoned_place os) ≡ false
 none_wait [] = refl
 none_wait (o ∷ os) = none_wait os
 
@@ -178,7 +178,7 @@ module _ (laws : RoundLaws) (board : SameBoard) where
 -- ---- an exchange
 
 out_pays : (mtu rounds g : ℕ) (hub : Hub) (held : ℕ) (t : Telling) → PaysRounds mtu rounds g hub held t
-    → PaysRounds mtu rounds g (drained hub) held t
+    → PaysRounds mtu rounds g (after_handing_out hub) held t
 out_pays mtu rounds g hub held t is = record {
   board = is.board;
   some_window = is.some_window;
@@ -191,7 +191,7 @@ out_pays mtu rounds g hub held t is = record {
 pub exchanged_pays : (pumped : Pumped) (old mid event hub : Hub) (outcomes : List (Option Outcome))
     (lates : List (Option (List ℕ))) (before between after : Option Telling) (held held_then held_now g g_now : ℕ)
     → mid.rounds ≡ old.rounds
-    → hub ≡ drained event → g_now ≡ give_ups_of pumped event g → GoesOn before old between mid
+    → hub ≡ after_handing_out event → g_now ≡ give_ups_of pumped event g → GoesOn before old between mid
     → PaysOn before old held between mid held_then → PaysFor pumped between mid held_then after event held_now
     → (limits : Limits) (mtu : ℕ) → IfSome before (IsRunning limits old outcomes lates)
     → IfSome before (PaysRounds mtu old.rounds g old held) → IfSome after (PaysRounds mtu old.rounds g_now hub held_now)
@@ -202,11 +202,11 @@ exchanged_pays pumped old mid event hub outcomes lates before between after held
     (on limits outcomes lates mtu old.rounds g start paid) in
     let now = for limits outcomes lates mtu g (running limits outcomes lates start) then in
     let out = if_told (PaysRounds mtu mid.rounds (give_ups_of pumped event g) event held_now)
-    (PaysRounds mtu mid.rounds (give_ups_of pumped event g) (drained event) held_now) after now
+    (PaysRounds mtu mid.rounds (give_ups_of pumped event g) (after_handing_out event) held_now) after now
     (λ t is. out_pays mtu mid.rounds (give_ups_of pumped event g) event held_now t is) in
     subst (λ (h : Hub). IfSome after (PaysRounds mtu old.rounds g_now h held_now)) (sym hub_is)
-    (subst (λ (n : ℕ). IfSome after (PaysRounds mtu old.rounds n (drained event) held_now)) (sym g_is)
-    (subst (λ (r : ℕ). IfSome after (PaysRounds mtu r (give_ups_of pumped event g) (drained event) held_now)) rounds
+    (subst (λ (n : ℕ). IfSome after (PaysRounds mtu old.rounds n (after_handing_out event) held_now)) (sym g_is)
+    (subst (λ (r : ℕ). IfSome after (PaysRounds mtu r (give_ups_of pumped event g) (after_handing_out event) held_now)) rounds
     out))
 
 -- ---- a lane begins, is asked, and stops

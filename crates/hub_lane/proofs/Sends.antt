@@ -1,32 +1,11 @@
 -- Sends of a hub, one after another.
 use Rattle.std.proofs.Common.{◌≡◌, ℕ, zero, suc, ◌<◌, ◌≤◌, Option, Some, None}
 use Rattle.std.proofs.Common.{refl, sym, ap, ◌∙◌, subst, arith}
-use Rattle.world_model.specs.declared.sending.Sending.{Sending}
 use Rattle.world_model.specs.Hub.{Hub}
 use Rattle.world_model.specs.Sends.{Next, next_send, pending}
 use Rattle.reliable_engine.specs.Answers.{hub_next, sent_next}
+use Rattle.world_core.proofs.Sends.{Fewer, none_by}
 use Rattle.hub_lane.specs.Sends.{HasSent, after_sends, all_sent}
-
--- ---- a send that was taken
-
-record Taken (r : Option Next) (send : Sending) (hub : Hub) : Type 0 where
-  is : r ≡ Some (record { send = send; hub = hub })
-
-taken_by : (old new : Hub) (r : Option Next) (send : Sending) → Some send ≡ sent_next r → new ≡ hub_next old r
-    → Taken r send new
-taken_by old new None send told after = absurd cc
-taken_by old new (Some next) send told after = record {
-  is = ap (λ (h : Hub). Some (record { send = next.send; hub = h })) (sym after)
-      ∙ ap (λ (s : Sending). Some (record { send = s; hub = new })) cc;
-}
-
-pub next_is : (old new : Hub) (send : Sending) → Some send ≡ sent_next (next_send old)
-    → new ≡ hub_next old (next_send old) → next_send old ≡ Some (record { send = send; hub = new })
-next_is old new send told after = (taken_by old new (next_send old) send told after).is
-
-none_by : (r : Option Next) → None ≡ sent_next r → r ≡ None
-none_by None told = refl
-none_by (Some next) told = absurd cc
 
 pub none_is : (old : Hub) → None ≡ sent_next (next_send old) → next_send old ≡ None
 none_is old told = none_by (next_send old) told
@@ -35,10 +14,6 @@ pub same_hub : (old new : Hub) → None ≡ sent_next (next_send old) → new �
 same_hub old new told after = after ∙ ap (hub_next old) (none_is old told)
 
 -- ---- counts of sends
-
--- what the law says of what is pending
-abbrev pub Fewer : Type 0
-Fewer = (hub : Hub) (next : Next) → next_send hub ≡ Some next → pending next.hub < pending hub
 
 no_more : (hub : Hub) (count : ℕ) → next_send hub ≡ None → after_sends count hub ≡ hub
 no_more hub zero none = refl

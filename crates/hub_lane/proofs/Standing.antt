@@ -15,7 +15,7 @@ use Rattle.world_model.specs.declared.offered.OpenPlace.{OpenPlace}
 use Rattle.world_model.specs.Places.{at_place}
 use Rattle.world_model.specs.Messages.{ToHub, StatusReply, Reply, to_hub}
 use Rattle.world_model.specs.Board.{Board}
-use Rattle.world_model.specs.Hub.{HandedOut, Hub, IsDrained, drained, hands_out, hear_quiet, insert_fate, insert_late}
+use Rattle.world_model.specs.Hub.{HandedOut, Hub, IsDrained, after_handing_out, hands_out, hear_quiet, insert_fate, insert_late}
 use Rattle.world_model.specs.Hub.{is_waiting, new_hub, none_handed_out, offer, open_with, recover, settle, tag_of}
 use Rattle.world_model.specs.Hub.{take_message, time_out, to_hand_out}
 use Rattle.world_model.specs.Sends.{Next, bytes_to_send, next_send}
@@ -38,6 +38,7 @@ use Rattle.lane_record.specs.Outcomes.{is_sent}
 use Rattle.recovery_laws.proofs.Heard.{AirGrows}
 use Rattle.lane_record.proofs.Lates.{no_lates, told_lates_added, told_lates_more}
 use Rattle.hub_lane.specs.Standing.{AreHanded, IsHandedFate, IsHandedLate, IsRunning, IsStopped, WasHanded}
+use Rattle.hub_lane.specs.PumpLaws.{SendLeaves}
 use Rattle.hub_lane.proofs.Handed.{heard_handed}
 
 -- ---- the laws of world_core and world_model that these rest on
@@ -58,10 +59,6 @@ SendLaw = (begin : World) (out : HandedOut) (hub : Hub) (told : Told) (next : Ne
     → IsReached begin out next.hub (sent_on told (bytes_to_send next.hub next.send))
 
 -- what a send leaves as it was
-pub record SendLeaves : Type 0 where
-  pub fates : (hub : Hub) (next : Next) → next_send hub ≡ Some next → next.hub.fates ≡ hub.fates
-  pub lates : (hub : Hub) (next : Next) → next_send hub ≡ Some next → next.hub.lates ≡ hub.lates
-
 abbrev pub HeardLaw : Type 0
 HeardLaw = (begin : World) (out : HandedOut) (hub : Hub) (old new : Told)
     → IsReached begin out hub old → next_send hub ≡ None → IsDrained hub → IsHeard old new
@@ -79,7 +76,7 @@ QuietLaw = (begin : World) (out : HandedOut) (hub : Hub) (told : Told)
 
 abbrev pub OutLaw : Type 0
 OutLaw = (begin : World) (out : HandedOut) (hub : Hub) (told : Told) → IsReached begin out hub told
-    → IsReached begin (hands_out out hub) (drained hub) told
+    → IsReached begin (hands_out out hub) (after_handing_out hub) told
 
 abbrev pub SameBoard : Type 0
 SameBoard = (old new : Told) → IsHeard old new → record new.board { log = old.board.log } ≡ old.board
@@ -451,7 +448,7 @@ told_all fates (f ∷ fs) outcomes are =
 
 pub drained_running : OutLaw → (limits : Limits) (outcomes : List (Option Outcome)) (lates : List (Option (List ℕ)))
     (hub : Hub) (t : Telling) → IsRunning limits hub outcomes lates t
-    → IsRunning limits (drained hub) (put_all hub.fates outcomes) (put_lates hub.lates lates) t
+    → IsRunning limits (after_handing_out hub) (put_all hub.fates outcomes) (put_lates hub.lates lates) t
 drained_running law limits outcomes lates hub t is = record {
   board = is.board;
   air = is.air;

@@ -12,10 +12,10 @@ use Rattle.world_core.specs.Telling.{IfTelling, Telling}
 use Rattle.lane_record.specs.declared.outcome.Outcome.{Outcome}
 use Rattle.lane_record.specs.declared.item.Item.{Item}
 use Rattle.lane_record.specs.Claims.{Claim, claim_in, claims, claims_behind}
-use Rattle.lane_record.specs.Items.{ask_in, asked, found, is_of}
+use Rattle.lane_record.specs.Items.{ask_in, asked_count, told_by_first, is_of}
 use Rattle.lane_record.specs.Lates.{late_in}
 use Rattle.lane_record.specs.Legal.{IsLegal}
-use Rattle.lane_record.specs.Offers.{Agrees, awaited, tags, unsettled_from}
+use Rattle.lane_record.specs.Offers.{Agrees, awaited_tags, tags, unsettled_from}
 use Rattle.lane_record.proofs.Asks.{apart}
 use Rattle.lane_record.proofs.Lookups.{and_true, first_or, found_below, if_some}
 use Rattle.hub_lane.specs.declared.answers.Pumped.{Pumped}
@@ -44,7 +44,7 @@ first_claim : (front : List Item) (x : Item) (o : Option ℕ) (g : ℕ) (rest : 
 first_claim front x None g rest client seq e same_client same_seq = cc
 first_claim front x (Some h) g rest client seq e same_client same_seq = (0, _, refl, same_client, same_seq)
 
-claim_found : (client seq g : ℕ) (front xs : List Item) → found ask_in client seq xs ≡ Some g
+claim_found : (client seq g : ℕ) (front xs : List Item) → told_by_first ask_in client seq xs ≡ Some g
     → ClaimAt (claims_behind front xs) client seq
 claim_found client seq g front [] e = cc
 claim_found client seq g front (x ∷ xs) e = ⊎_elim
@@ -53,9 +53,9 @@ claim_found client seq g front (x ∷ xs) e = ⊎_elim
     let parts = and_true (x.client == client) (x.seq == seq) r.0 in
     first_claim front x (ask_in x.what) g (claims_behind (front ++ x ∷ []) xs) client seq r.1
     (eqb-true x.client client parts.0) (eqb-true x.seq seq parts.1))
-    (λ (h : found ask_in client seq xs ≡ Some g). one_behind front x (ask_in x.what)
+    (λ (h : told_by_first ask_in client seq xs ≡ Some g). one_behind front x (ask_in x.what)
     (claims_behind (front ++ x ∷ []) xs) client seq (claim_found client seq g (front ++ x ∷ []) xs h))
-    (first_or (if is_of client seq x then ask_in x.what else None) (found ask_in client seq xs) g e)
+    (first_or (if is_of client seq x then ask_in x.what else None) (told_by_first ask_in client seq xs) g e)
 
 pub was_asked : (items : List Item) (outcomes : List (Option Outcome)) (client seq : ℕ) → IsLegal items outcomes
     → IsOldest items client seq → WasAsked items client seq
@@ -78,12 +78,12 @@ each_asked items outcomes client (Some seq) legal oldest = was_asked items outco
 
 -- an asked body is below the number of those that were asked
 pub asked_below : (items : List Item) (outcomes : List (Option Outcome)) (client seq : ℕ) → IsLegal items outcomes
-    → WasAsked items client seq → seq < asked client items
+    → WasAsked items client seq → seq < asked_count client items
 asked_below items outcomes client seq legal was =
     let body = was.untaken in
     let below = (apart items legal.asks_follow_plans.count).below was.number body.claim body.ask.there in
-    subst (λ (n : ℕ). n < asked client items) body.ask.same_seq
-    (subst (λ (c : ℕ). body.claim.seq < asked c items) body.ask.same_client below)
+    subst (λ (n : ℕ). n < asked_count client items) body.ask.same_seq
+    (subst (λ (c : ℕ). body.claim.seq < asked_count c items) body.ask.same_client below)
 
 -- ---- whoever has no outcome is waited for
 
@@ -94,20 +94,20 @@ none_unsettled n (None ∷ os) k e there = cc
 none_unsettled n (Some o ∷ os) zero e there = cc
 none_unsettled n (Some o ∷ os) (suc k) e there = none_unsettled (n + 1) os k e there
 
-none_awaited : (sent : List Offered) (places : List OpenPlace) → some_waited places ≡ false → awaited sent places ≡ []
+none_awaited : (sent : List Offered) (places : List OpenPlace) → some_waited places ≡ false → awaited_tags sent places ≡ []
 none_awaited sent [] e = refl
 none_awaited sent (o ∷ os) e = cases o.waited e (none_awaited sent os)
   where
-    cases : (b : Bool) → (b || some_waited os) ≡ false → (some_waited os ≡ false → awaited sent os ≡ [])
-        → (if b then Rattle.lane_record.specs.Offers.tag_at sent o.place ∷ awaited sent os else awaited sent os) ≡ []
+    cases : (b : Bool) → (b || some_waited os) ≡ false → (some_waited os ≡ false → awaited_tags sent os ≡ [])
+        → (if b then Rattle.lane_record.specs.Offers.tag_at sent o.place ∷ awaited_tags sent os else awaited_tags sent os) ≡ []
     cases true e rest = cc
     cases false e rest = rest e
 
-nobody : (hub : Hub) → is_waiting hub ≡ false → awaited hub.sent hub.open_places ++ tags hub.queue ≡ []
+nobody : (hub : Hub) → is_waiting hub ≡ false → awaited_tags hub.sent hub.open_places ++ tags hub.queue ≡ []
 nobody hub e = cases hub.queue e
   where
     cases : (queue : List Offered) → (some_queued queue || some_waited hub.open_places) ≡ false
-        → awaited hub.sent hub.open_places ++ tags queue ≡ []
+        → awaited_tags hub.sent hub.open_places ++ tags queue ≡ []
     cases [] e = ap (λ l. l ++ []) (none_awaited hub.sent hub.open_places e)
     cases (q ∷ qs) e = cc
 

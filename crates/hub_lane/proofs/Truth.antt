@@ -11,7 +11,7 @@ use Rattle.world_model.specs.declared.offered.Fate.TheVariants as fate
 use Rattle.world_model.specs.declared.offered.Offered.{Offered}
 use Rattle.world_model.specs.declared.offered.OpenPlace.{OpenPlace}
 use Rattle.world_model.specs.Places.{at_place}
-use Rattle.world_model.specs.Board.{Board, executed, replies}
+use Rattle.world_model.specs.Board.{Board, bodies_executed, replies}
 use Rattle.world_model.specs.Hub.{HandedOut, Hub}
 use Rattle.world_model.specs.Sends.{Next, next_send}
 use Rattle.world_model.specs.World.{World, start}
@@ -30,7 +30,7 @@ use Rattle.lane_record.specs.declared.outcome.Outcome.{Outcome}
 use Rattle.lane_record.specs.declared.outcome.Outcome.TheVariants as became
 use Rattle.lane_record.specs.declared.item.Item.{Item}
 use Rattle.lane_record.specs.Lists.{CountsFrom}
-use Rattle.lane_record.specs.Claims.{Claim, IsFinished, IsTaken, claims, outcome_taken, taken}
+use Rattle.lane_record.specs.Claims.{Claim, IsFinished, IsTaken, claims, outcome_taken, taken_outcomes}
 use Rattle.lane_record.specs.Legal.{IsLegal}
 use Rattle.lane_record.specs.FirstSends.{bodies_sent, first_sends, places_of}
 use Rattle.lane_record.specs.Offers.{Agrees, WasHandedOut}
@@ -46,7 +46,7 @@ use Rattle.hub_lane.proofs.Standing.{if_told}
 
 abbrev pub ExecutedLaw : Type 0
 ExecutedLaw = (begin : World) (out : HandedOut) (hub : Hub) (told : Told) → IsReached begin out hub told
-    → IsPrefix (executed told.board) (bodies_of hub.sent)
+    → IsPrefix (bodies_executed told.board) (bodies_of hub.sent)
 
 abbrev pub AllFates : Type 0
 AllFates = (hub : Hub) (told : Told) (out : HandedOut)
@@ -188,8 +188,8 @@ more_true : (t : Telling) (sent more longer : List Offered) (outcomes : List (Op
     (lates : List (Option (List ℕ))) → longer ≡ sent ++ more
     → IsTrueTo t (bodies_of sent) outcomes lates → IsTrueTo t (bodies_of longer) outcomes lates
 more_true t sent more longer outcomes lates same is = record {
-  in_order = subst (IsPrefix (executed t.told.board)) (sym (ap bodies_of same ∙ map-append offered_body sent more))
-      (front_more (executed t.told.board) (bodies_of sent) (bodies_of more) is.in_order);
+  in_order = subst (IsPrefix (bodies_executed t.told.board)) (sym (ap bodies_of same ∙ map-append offered_body sent more))
+      (front_more (bodies_executed t.told.board) (bodies_of sent) (bodies_of more) is.in_order);
   replied = is.replied;
   late = is.late;
 }
@@ -228,7 +228,7 @@ taken_settled items (c ∷ cs) all zero none =
     (let clash : Some all.0.0 ≡ None = sym some ∙ nothing in cc)
 taken_settled items (c ∷ cs) all (suc k) none = taken_settled items cs all.1 k none
 
-finished_settled : (items : List Item) → IsFinished items → AreSettled (taken items)
+finished_settled : (items : List Item) → IsFinished items → AreSettled (taken_outcomes items)
 finished_settled items finished = taken_settled items (claims items) finished
 
 pub told_each : (telling : Option Telling) (P : Telling → Type 0) → ((t : Telling) → telling ≡ Some t → P t)
@@ -239,7 +239,7 @@ told_each (Some t) P leads = leads t refl
 pub whole : (settings : Limits) (status : BoardStatus) (hub : Hub) (items : List Item)
     (outcomes : List (Option Outcome)) (lates : List (Option (List ℕ))) (give_ups : ℕ) (down spent : Bool)
     (telling : Option Telling) (faults quiets : ℕ) (receives : List (Option (List ℕ)))
-    → ((xs : List Item) (os : List (Option Outcome)) → IsLegal xs os → IsFinished xs → os ≡ taken xs)
+    → ((xs : List Item) (os : List (Option Outcome)) → IsLegal xs os → IsFinished xs → os ≡ taken_outcomes xs)
     → ((xs : List Item) (os : List (Option Outcome)) → IsLegal xs os → IsFinished xs
     → CountsFrom 1 (places_of (first_sends xs)))
     → ((xs : List Item) (os : List (Option Outcome)) (sent queue : List Offered) (opens : List OpenPlace)
@@ -268,14 +268,14 @@ whole settings status hub items outcomes lates give_ups down spent telling fault
           listened.heard;
       waited_since = (let w = listened.waited in omega (arith, w));
       lost = subst (AreLostOnlyIf (1 ≤ faults)) same (still_lost (down ≡ true) (1 ≤ faults) outcomes is.fault is.lost);
-      tells = subst (λ (r : ℕ). TellRounds r (taken items)) (sym is.knows.rounds)
+      tells = subst (λ (r : ℕ). TellRounds r (taken_outcomes items)) (sym is.knows.rounds)
           (subst (TellRounds settings.rounds) same is.tells);
       truth = if_told (IsStanding (down || spent) settings hub outcomes lates)
-          (λ t. IsTrueTo t (bodies_sent (first_sends items)) (taken items) lates) telling is.standing
-          (λ t standing. subst (λ (bs : List (List ℕ)). IsTrueTo t bs (taken items) lates) bodies
+          (λ t. IsTrueTo t (bodies_sent (first_sends items)) (taken_outcomes items) lates) telling is.standing
+          (λ t standing. subst (λ (bs : List (List ℕ)). IsTrueTo t bs (taken_outcomes items) lates) bodies
           (subst (λ (os : List (Option Outcome)). IsTrueTo t (bodies_of hub.sent) os lates) same
           (true_to (down || spent) settings hub outcomes lates t standing)));
-      each_late = told_each telling (λ t. HasEachLate t (taken items) lates) (λ t told.
+      each_late = told_each telling (λ t. HasEachLate t (taken_outcomes items) lates) (λ t told.
           subst (λ (os : List (Option Outcome)). HasEachLate t os lates) same
           (each_late t told (inr (subst AreSettled (sym same) (finished_settled items finished)))));
     }

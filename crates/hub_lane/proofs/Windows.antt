@@ -7,9 +7,9 @@ use Rattle.std.proofs.lemmas.List.{map-append}
 use Rattle.world_model.specs.declared.offered.Offered.{Offered}
 use Rattle.world_model.specs.declared.offered.OpenPlace.{OpenPlace}
 use Rattle.world_model.specs.Messages.{ToHub}
-use Rattle.world_model.specs.Hub.{Hub, abandoned, hear_quiet, new_hub, offer, place_of, places, recover, take_message}
+use Rattle.world_model.specs.Hub.{Hub, abandoned_place, hear_quiet, new_hub, offer, place_of, places, recover, take_message}
 use Rattle.world_model.specs.Hub.{is_waiting, some_queued, some_waited, want_control}
-use Rattle.world_model.specs.Sends.{Next, Wanted, after_open, next_send, opened, wanted}
+use Rattle.world_model.specs.Sends.{Next, Wanted, after_open, next_send, opened_place, first_wanted}
 use Rattle.world_model.specs.Facts.{IsWindow}
 use Rattle.world_model.proofs.Lists.{either}
 use Rattle.world_model.proofs.Places.{window_less, window_push}
@@ -32,7 +32,7 @@ message_windowed hub message is = message_cases IsWindowed hub message is
 
 pub quiet_windowed : (hub : Hub) → IsWindowed hub → IsWindowed (hear_quiet hub)
 quiet_windowed hub is = quiet_cases IsWindowed hub (λ _. is)
-    (λ _. same_places hub _ (places_map abandoned hub.open_places (λ _. refl)) is)
+    (λ _. same_places hub _ (places_map abandoned_place hub.open_places (λ _. refl)) is)
 
 pub offer_windowed : (hub : Hub) (offered : Offered) → IsWindowed hub → IsWindowed (offer hub offered)
 offer_windowed hub offered is = same_places hub _
@@ -55,9 +55,9 @@ send_windowed hub next e is = some_is (λ (n : Next). IsWindowed n.hub) (next_se
     (wanted_same hub.first hub.open_places _ w wanted (wanted_is hub.first hub.open_places)) is)
     (λ o later queue room.
     let longer : length (hub.sent ++ o ∷ []) ≡ length hub.sent + 1 = length-append hub.sent (o ∷ []) in
-    let pushed : places (hub.open_places ++ opened (length hub.sent + 1) ∷ [])
+    let pushed : places (hub.open_places ++ opened_place (length hub.sent + 1) ∷ [])
     ≡ places hub.open_places ++ (length hub.sent + 1) ∷ [] =
-    map-append place_of hub.open_places (opened (length hub.sent + 1) ∷ []) in
+    map-append place_of hub.open_places (opened_place (length hub.sent + 1) ∷ []) in
     rw (longer, pushed) (window_push hub.window (length hub.sent) (places hub.open_places) is (omega arith))))
 
 pub new_windowed : (first window rounds : ℕ) → window ≤ 16 → 1 ≤ window → IsWindowed (new_hub first window rounds)
@@ -83,11 +83,11 @@ after_waits : (o : OpenPlace) (os : List OpenPlace) (r : Option Wanted) → Same
 after_waits o os None same = tt
 after_waits o os (Some w) same = ap (λ (b : Bool). o.waited || b) same
 
-wanted_waits : (first : ℕ) (os : List OpenPlace) → SameWaits os (wanted first os)
+wanted_waits : (first : ℕ) (os : List OpenPlace) → SameWaits os (first_wanted first os)
 wanted_waits first [] = tt
 wanted_waits first (o ∷ os) = either (SameWaits (o ∷ os)) o.resend _ _ (λ _. refl)
     (λ _. either (SameWaits (o ∷ os)) o.control _ _ (λ _. refl)
-    (λ _. after_waits o os (wanted first os) (wanted_waits first os)))
+    (λ _. after_waits o os (first_wanted first os) (wanted_waits first os)))
 
 -- the numbers that no send changes, and whether somebody waits
 pub record IsSameBut (hub after : Hub) : Type 0 where
@@ -115,7 +115,7 @@ send_same hub next e = some_is (λ (n : Next). IsSameBut hub n.hub) (next_send h
       rounds = refl;
       status_requests = refl;
       waits = ap (λ (b : Bool). some_queued later || b)
-          (or_append hub.open_places (opened (length hub.sent + 1) ∷ []) ∙ or-true (some_waited hub.open_places))
+          (or_append hub.open_places (opened_place (length hub.sent + 1) ∷ []) ∙ or-true (some_waited hub.open_places))
           ∙ (or-true (some_queued later)
           ∙ sym (ap (λ (queue_is : List Offered). some_queued queue_is || some_waited hub.open_places) queue));
     }))

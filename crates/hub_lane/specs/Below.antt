@@ -3,7 +3,7 @@ use Rattle.std.specs.Prelude.{◌≡◌, ◌⊎◌, ℕ, ◌+◌, ◌*◌, ◌�
 use Rattle.ipb_base.specs.Faults.{Rose}
 use Rattle.world_model.specs.declared.offered.Offered.{Offered}
 use Rattle.world_model.specs.Messages.{ToHub, to_hub}
-use Rattle.world_model.specs.Hub.{HandedOut, Hub, drained, give_up, hands_out, hear_quiet, is_waiting, new_hub}
+use Rattle.world_model.specs.Hub.{HandedOut, Hub, after_handing_out, give_up, hands_out, hear_quiet, is_waiting, new_hub}
 use Rattle.world_model.specs.Hub.{none_handed_out, offer, take_message, want_status}
 use Rattle.world_model.specs.LateAnswers.{AreOfTimedOut}
 use Rattle.world_model.specs.Sends.{Next, bytes_to_send, next_send}
@@ -57,4 +57,4 @@ pub record LateLaws : Type 0 where
   pub sent : (before : HandedOut) (hub : Hub) (next : Next) → AreOfTimedOut before hub → next_send hub ≡ Some next
       → AreOfTimedOut before next.hub
   pub handed_out : (before : HandedOut) (hub : Hub) → AreOfTimedOut before hub
-      → AreOfTimedOut (hands_out before hub) (drained hub)
+      → AreOfTimedOut (hands_out before hub) (after_handing_out hub)

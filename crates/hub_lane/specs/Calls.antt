@@ -2,13 +2,13 @@
 use Rattle.std.specs.Prelude.{◌≡◌, ◌⊎◌, ℕ, ◌≤◌, Bool, true, false, ◌||◌, if◌then◌else◌, List, [], ◌∷◌, ◌++◌, length}
 use Rattle.std.specs.Prelude.{Option, Some, None, IfSome}
 use Rattle.std.specs.List.{slice_get}
-use Rattle.world_model.specs.Hub.{Hub, drained, is_waiting, offer}
+use Rattle.world_model.specs.Hub.{Hub, after_handing_out, is_waiting, offer}
 use Rattle.world_core.specs.Telling.{Telling}
 use Rattle.lane_record.specs.declared.outcome.Outcome.{Outcome}
 use Rattle.lane_record.specs.declared.outcome.Outcome.TheVariants.{Replied, LinkLost}
 use Rattle.lane_record.specs.declared.item.Item.{Item}
 use Rattle.lane_record.specs.NextEntry.{ask_of, the_seal, took_of}
-use Rattle.lane_record.specs.Items.{asked, found, is_sealed, plan_in, planned, took_in}
+use Rattle.lane_record.specs.Items.{asked_count, told_by_first, is_sealed, plan_in, planned_count, took_in}
 use Rattle.lane_record.specs.Claims.{Claim, IsAskOf}
 use Rattle.lane_record.specs.Lates.{KeepsLates, put_lates}
 use Rattle.lane_record.specs.Outcomes.{IsShort}
@@ -25,19 +25,19 @@ use Rattle.hub_lane.specs.Hearing.{IsEventAs, WasReceived, give_ups_of, hub_afte
 use Rattle.hub_lane.specs.Lanes.{LaneState, with_item}
 
 -- a Seal is the next entry, unless one stands there
-abbrev pub sealed : {L : Type 0} → LaneState L → LaneState L
-sealed lane = if is_sealed lane.items then lane else with_item lane the_seal
+abbrev pub with_seal : {L : Type 0} → LaneState L → LaneState L
+with_seal lane = if is_sealed lane.items then lane else with_item lane the_seal
 
 -- ---- ask
 
 -- the client's next body, which was planned
 pub record IsNextAsk (items : List Item) (client seq : ℕ) (body : List ℕ) : Type 0 where
-  pub number : seq ≡ asked client items
-  pub planned_there : found plan_in client seq items ≡ Some body
+  pub number : seq ≡ asked_count client items
+  pub planned_there : told_by_first plan_in client seq items ≡ Some body
 
 -- the engine is offered the body under the number of the Ask
-abbrev pub offered : {L : Type 0} → LaneState L → ℕ → ℕ → List ℕ → LaneState L
-offered lane client seq body = record (with_item lane (ask_of client seq lane.give_ups)) {
+abbrev pub with_offer : {L : Type 0} → LaneState L → ℕ → ℕ → List ℕ → LaneState L
+with_offer lane client seq body = record (with_item lane (ask_of client seq lane.give_ups)) {
   hub = offer lane.hub (record { tag = length lane.outcomes; body = body });
   outcomes = lane.outcomes ++ None ∷ [];
   lates = lane.lates ++ None ∷ [];
@@ -54,11 +54,11 @@ asked_in_vain lane client seq = record (with_item lane (ask_of client seq lane.g
 pub record Offers {L : Type 0} (old : LaneState L) (client seq : ℕ) (new : LaneState L) : Type 0 where
   pub body : List ℕ
   pub next : IsNextAsk old.items client seq body
-  pub became : new ≡ (if old.down then asked_in_vain old client seq else offered old client seq body)
+  pub became : new ≡ (if old.down then asked_in_vain old client seq else with_offer old client seq body)
 
 abbrev pub OffersAs : {L : Type 0} → LaneState L → ℕ → LaneState L → Asked → Type 0
 OffersAs old client new (asks.Asked seq) = Offers old client seq new
-OffersAs old client new asks.Nothing = (new ≡ old) × (asked client old.items ≡ planned client old.items)
+OffersAs old client new asks.Nothing = (new ≡ old) × (asked_count client old.items ≡ planned_count client old.items)
 
 -- ---- sends
 
@@ -116,13 +116,13 @@ pub record Asks {L : Type 0} (old : LaneState L) (client seq : ℕ) (new : LaneS
 
 abbrev pub AsksAs : {L : Type 0} → LaneState L → ℕ → LaneState L → Asked → Type 0
 AsksAs old client new (asks.Asked seq) = Asks old client seq new
-AsksAs old client new asks.Nothing = (new ≡ old) × (asked client old.items ≡ planned client old.items)
+AsksAs old client new asks.Nothing = (new ≡ old) × (asked_count client old.items ≡ planned_count client old.items)
 
 -- What an ask does to a link that tells: once the client's next body was offered, all that the hub wanted went into the
 -- air. Of a link that fails nothing more is said here.
 abbrev pub Asking : {L : Type 0} → LaneState L → ℕ → LaneState L → Asked → Telling → Telling → Type 0
 Asking old client new (asks.Asked seq) before after = has_stopped new ≡ false → (body : List ℕ)
-    → found plan_in client seq old.items ≡ Some body → HasPut (offered old client seq body).hub new.hub before after
+    → told_by_first plan_in client seq old.items ≡ Some body → HasPut (with_offer old client seq body).hub new.hub before after
 Asking old client new asks.Nothing before after = after ≡ before
 
 -- ---- pump
@@ -130,7 +130,7 @@ Asking old client new asks.Nothing before after = after ≡ before
 -- The hub after an event, its fates among the outcomes, and its late answers at their places. A quiet receive after
 -- which nobody waits was a give-up.
 pub record Became {L : Type 0} (old : LaneState L) (event : Hub) (pumped : Pumped) (new : LaneState L) : Type 0 where
-  pub hub : new.hub ≡ drained event
+  pub hub : new.hub ≡ after_handing_out event
   pub outcomes : new.outcomes ≡ put_all event.fates old.outcomes
   pub lates : new.lates ≡ put_lates event.lates old.lates
   pub give_ups : new.give_ups ≡ give_ups_of pumped event old.give_ups
@@ -166,7 +166,7 @@ PumpsAs old telling before now new LinkDown = (now ≡ before) × (((old.down �
 pub record IsUntaken (items : List Item) (client seq k : ℕ) : Type 0 where
   pub claim : Claim
   pub ask : IsAskOf items k client seq claim
-  pub once : found took_in client seq items ≡ None
+  pub once : told_by_first took_in client seq items ≡ None
 
 -- the body was asked and not taken
 pub record WasAsked (items : List Item) (client seq : ℕ) : Type 0 where

@@ -1,6 +1,6 @@
 -- What a pump does to a link that tells. Profile.
 use Rattle.std.specs.Prelude.{◌≡◌, ℕ, suc, zero, List, [], ◌∷◌, ◌++◌, Option, Some, None}
-use Rattle.world_model.specs.Hub.{Hub, drained}
+use Rattle.world_model.specs.Hub.{Hub, after_handing_out}
 use Rattle.world_model.specs.Links.{IsHandedAt, IsHeard, Told, sent_on}
 use Rattle.world_model.specs.Sends.{Next, bytes_to_send, next_send}
 use Rattle.world_core.specs.Telling.{Telling}
@@ -63,7 +63,7 @@ pub record HasCarried (pumped : Pumped) (old new : Hub) (before after : Telling)
   pub bytes : List ℕ
   pub carries : Carries pumped bytes old before after
   pub event : IsEventAs (all_sent old) bytes pumped
-  pub heard : new ≡ drained (hub_after pumped bytes (all_sent old))
+  pub heard : new ≡ after_handing_out (hub_after pumped bytes (all_sent old))
 
 -- where nobody waits nothing is done; of a link that fails nothing more is said here
 abbrev pub Pumping : Pumped → Hub → Hub → Telling → Telling → Type 0

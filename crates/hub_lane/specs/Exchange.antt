@@ -3,7 +3,7 @@
 use Rattle.std.specs.Prelude.{◌≡◌, ℕ, List, IfSome}
 use Rattle.world_core.specs.declared.link.Link.{Ghosts}
 use Rattle.world_core.specs.Telling.{IfTelling}
-use Rattle.world_model.specs.Hub.{Hub, drained}
+use Rattle.world_model.specs.Hub.{Hub, after_handing_out}
 use Rattle.lane_record.specs.Lates.{put_lates}
 use Rattle.lane_record.specs.Offers.{put_all}
 use Rattle.lane_tables.specs.OutcomeTable.{TableState}
@@ -27,7 +27,7 @@ pub record Hears (pumped : Pumped) (bytes : List ℕ) (old new : Hub) : Type 0 w
 pub record Settles (pumped : Pumped) (bytes : List ℕ) (old new : Hub) (before after : TableState)
     (count count_now : ℕ) : Type 0 where
   pub event : IsEventAs (all_sent old) bytes pumped
-  pub hub : new ≡ drained (hub_after pumped bytes (all_sent old))
+  pub hub : new ≡ after_handing_out (hub_after pumped bytes (all_sent old))
   pub outcomes : after.items ≡ put_all (hub_after pumped bytes (all_sent old)).fates before.items
   pub lates : after.lates ≡ put_lates (hub_after pumped bytes (all_sent old)).lates before.lates
   pub give_ups : count_now ≡ give_ups_of pumped (hub_after pumped bytes (all_sent old)) count

@@ -134,8 +134,8 @@ pub record IsGreeted (settings : Limits) (status : BoardStatus) (t : Telling) : 
   pub told : HasToldStatus status t.told.board
 
 -- a lane before its first entry
-abbrev pub opened : {L : Type 0} → L → Limits → BoardStatus → LaneState L
-opened link settings status = record {
+abbrev pub new_lane : {L : Type 0} → L → Limits → BoardStatus → LaneState L
+new_lane link settings status = record {
   link = link;
   settings = settings;
   status = status;

@@ -15,3 +15,4 @@ pub mod Greeting
 pub mod Records
 pub mod Below
 pub mod Step
+pub mod PumpLaws

@@ -4,7 +4,7 @@ use Rattle.ipb_base.specs.Numbers.{payload_of}
 use Rattle.transaction_codec.specs.Answer.{reply_room}
 use Rattle.lane_record.specs.declared.item.Item.{Item}
 use Rattle.lane_record.specs.NextEntry.{plan_of}
-use Rattle.lane_record.specs.Items.{is_sealed, planned}
+use Rattle.lane_record.specs.Items.{is_sealed, planned_count}
 use Rattle.lane_tables.specs.Planned.{IsFull}
 use Rattle.hub_lane.specs.Lanes.{FitsBoard, LaneState, with_item}
 use Rattle.hub_lane.specs.declared.answers.PlanRefusal.{PlanRefusal}
@@ -29,6 +29,6 @@ IsRefused items payload body NoMemory = Unit {0}
 -- the body has the next number of its client, and its Plan is the next entry
 pub record Plans {L : Type 0} (old : LaneState L) (client : ℕ) (body : List ℕ) (new : LaneState L) (seq : ℕ)
     : Type 0 where
-  pub number : seq ≡ planned client old.items
+  pub number : seq ≡ planned_count client old.items
   pub can : CanPlan old.items (payload_of old.status.mtu) body
   pub entry : new ≡ with_item old (plan_of client seq body)

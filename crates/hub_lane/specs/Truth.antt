@@ -4,7 +4,7 @@ use Rattle.std.specs.List.{slice_get}
 use Rattle.ipb_base.specs.Lists.{IsPrefix}
 use Rattle.world_model.specs.declared.offered.Offered.{Offered}
 use Rattle.world_model.specs.Places.{at_place}
-use Rattle.world_model.specs.Board.{executed, replies}
+use Rattle.world_model.specs.Board.{bodies_executed, replies}
 use Rattle.world_model.specs.Facts.{bodies_of}
 use Rattle.world_core.specs.Receives.{first_status, quiets_in, since_status}
 use Rattle.world_core.specs.Telling.{Telling}
@@ -13,7 +13,7 @@ use Rattle.lane_record.specs.declared.outcome.Outcome.TheVariants.{Replied, Time
 use Rattle.lane_record.specs.declared.item.Item.{Item}
 use Rattle.lane_record.specs.Lists.{CountsFrom}
 use Rattle.lane_record.specs.Lates.{late_in}
-use Rattle.lane_record.specs.Claims.{taken}
+use Rattle.lane_record.specs.Claims.{taken_outcomes}
 use Rattle.lane_record.specs.Legal.{IsLegal}
 use Rattle.lane_record.specs.FirstSends.{bodies_sent, first_sends, places_of}
 use Rattle.lane_record.specs.Bounds.{AreLostOnlyIf, AreWithin, HasReached, TellRounds, timeouts}
@@ -41,7 +41,7 @@ pub record AreRightLates (t : Telling) (lates : List (Option (List ℕ))) : Type
 -- right.
 pub record IsTrueTo (t : Telling) (bodies : List (List ℕ)) (outcomes : List (Option Outcome))
     (lates : List (Option (List ℕ))) : Type 0 where
-  pub in_order : IsPrefix (executed t.told.board) bodies
+  pub in_order : IsPrefix (bodies_executed t.told.board) bodies
   pub replied : AreRightReplies t outcomes
   pub late : AreRightLates t lates
 
@@ -61,16 +61,16 @@ HasEachLate t outcomes lates = (k place rounds : ℕ) (words : List ℕ)
 pub record IsWhole (items : List Item) (lates : List (Option (List ℕ))) (sent : List Offered)
     (window rounds give_ups faults quiets : ℕ) (status : BoardStatus) (receives : List (Option (List ℕ)))
     (telling : Option Telling) : Type 0 where
-  pub legal : IsLegal items (taken items)
+  pub legal : IsLegal items (taken_outcomes items)
   pub places : CountsFrom 1 (places_of (first_sends items))
   pub bodies : bodies_of sent ≡ bodies_sent (first_sends items)
   pub within : AreWithin give_ups items
-  pub few : timeouts (taken items) ≤ window * give_ups
+  pub few : timeouts (taken_outcomes items) ≤ window * give_ups
   pub waited : HasReached ((rounds + 1) * give_ups) quiets
   pub greeting : first_status receives ≡ Some (told_by status)
-  pub heard : AreHeard status.next (taken items) lates (since_status receives)
+  pub heard : AreHeard status.next (taken_outcomes items) lates (since_status receives)
   pub waited_since : (rounds + 1) * give_ups ≤ quiets_in (since_status receives)
-  pub lost : AreLostOnlyIf (1 ≤ faults) (taken items)
-  pub tells : TellRounds rounds (taken items)
-  pub truth : IfSome telling (λ t. IsTrueTo t (bodies_sent (first_sends items)) (taken items) lates)
-  pub each_late : IfSome telling (λ t. HasEachLate t (taken items) lates)
+  pub lost : AreLostOnlyIf (1 ≤ faults) (taken_outcomes items)
+  pub tells : TellRounds rounds (taken_outcomes items)
+  pub truth : IfSome telling (λ t. IsTrueTo t (bodies_sent (first_sends items)) (taken_outcomes items) lates)
+  pub each_late : IfSome telling (λ t. HasEachLate t (taken_outcomes items) lates)

@@ -15,7 +15,7 @@ ghost use Rattle.hub_lane.specs.Greeting.{HasAskedAtMost, HasAskedNothing, IfDow
 ghost use Rattle.hub_lane.specs.Greeting.{IfSilent, IfTold, IsDatagram, IsHeardFrom, IsSaid, IsTold, IsUnused};
 ghost use Rattle.hub_lane.specs.Greeting.{IsWithinRounds, StaysFresh, link_of, status_in};
 ghost use Rattle.hub_lane.specs.Heard.{EndWith, EndsWithStatus};
-ghost use Rattle.hub_lane.specs.Lanes.{IsGreeted, opened, status_of};
+ghost use Rattle.hub_lane.specs.Lanes.{IsGreeted, new_lane, status_of};
 
 use crate::lane::Lane;
 use reliable_engine::Settings;
@@ -62,7 +62,7 @@ impl<L: Link> Lane<L> {
         requires unused { IsUnused L.Link link }
         requires begins { IfSome (L.telling link) (CanBegin settings) }
         ensures fresh { IfTelling (L.telling link) (L.telling (link_of result)) (StaysFresh settings) }
-        ensures ready { IfReady result (λ lane. lane ≡ opened lane.link settings lane.status) }
+        ensures ready { IfReady result (λ lane. lane ≡ new_lane lane.link settings lane.status) }
         ensures told { IfReady result (λ lane. IfSome (L.telling lane.link) (IsGreeted settings lane.status)) }
         ensures first { IfReady result (λ lane. EndsWithDatagram L.Link lane.status lane.link) }
         ensures none_told { IfSilent result (λ link rounds. first_status (L.receives link) ≡ None) }
@@ -101,7 +101,7 @@ fn begin<L: Link>(alloc: Global, link: L, settings: Settings, status: Status) ->
     requires heard { 1 ≤ L.gots link }
     requires first { EndsWithStatus (status_of status) (L.receives link) }
     ensures same { link_of result ≡ link }
-    ensures ready { IfReady result (λ lane. lane ≡ opened link settings (status_of status)) }
+    ensures ready { IfReady result (λ lane. lane ≡ new_lane link settings (status_of status)) }
     ensures silent { IfSilent result (λ link rounds. ⊥) }
     ensures down { IfDown result (λ link. ⊥) }
 {

@@ -16,23 +16,20 @@ ghost use Rattle.hub_lane.specs.Carrying.{HasPut, Pumping};
 ghost use Rattle.hub_lane.specs.Heard.{EndsWithStatus, HasHeard, HasListened};
 ghost use Rattle.hub_lane.specs.Calls.{Asking, AsksAs, IsReplyAt, IsSameRecord, IsSpent, OffersAs, PumpsAs, SendsAs};
 ghost use Rattle.hub_lane.specs.Calls.{TakesAs, WasAsked, has_stopped};
-ghost use Rattle.hub_lane.specs.Calls.{is_lost_at_place, is_replied, sealed};
-ghost use Rattle.hub_lane.specs.Lanes.{IsGreeted, IsLane, opened, opening_of, status_of, with_link};
+ghost use Rattle.hub_lane.specs.Calls.{is_lost_at_place, is_replied, with_seal};
+ghost use Rattle.hub_lane.specs.Lanes.{IsGreeted, IsLane, new_lane, opening_of, status_of, with_link};
 ghost use Rattle.hub_lane.specs.Links.{CountsPump, IsDownByFault, KeepsCounting, ReceivesNothing, ShowsTheSame};
 ghost use Rattle.hub_lane.specs.Rounds.{LaneRound, Pumps, Sends};
 
 use crate::answers::{Asked, PlanRefusal, Pumped, Taken};
-use crate::below::{laws_of_late_answers, laws_of_rounds};
+use crate::below::{laws_of_late_answers, laws_of_pumps, laws_of_rounds};
 use crate::exchange::{exchange, send_all};
 use crate::outcomes::{copy_outcome, copy_words, count_of, lose_all, reply_under};
 use ipb_base::{NoMemory, Words};
 use lane_record::Outcome;
-use lane_record::laws::book::{entries_go_into_the_book, outcomes_go_into_the_book};
+use lane_record::laws::book::entries_go_into_the_book;
 use lane_record::laws::entries::an_ask_is_of_its_plan;
-use lane_record::laws::offers::{
-    a_failed_link_loses_what_waits, a_send_settles_nothing, an_ask_is_an_offer,
-    what_a_hub_hears_settles_asks,
-};
+use lane_record::laws::offers::{a_failed_link_loses_what_waits, an_ask_is_an_offer};
 use lane_tables::{Book, OutcomeTable};
 use packet_ids::Id;
 use reliable_engine::{Engine, Settings};
@@ -40,7 +37,7 @@ use status_packet::Status;
 use std::alloc::Global;
 use std::marker::Model;
 use turn_pass::Entry;
-use world_core::laws::{a_send_leaves_the_fates, each_event_leads_to_a_state_of_a_run};
+use world_core::laws::each_event_leads_to_a_state_of_a_run;
 use world_core::{Link, LinkFault, Waiter};
 use world_model::laws::sends::only_an_offer_makes_more_bodies;
 
@@ -146,7 +143,7 @@ impl<L: Link> Lane<L> {
         requires greeted { IfSome (L.telling link) (IsGreeted settings (status_of status)) }
         requires heard { 1 ≤ L.gots link }
         requires first { EndsWithStatus (status_of status) (L.receives link) }
-        ensures made { IfOk result (λ lane. lane ≡ opened link settings (status_of status)) }
+        ensures made { IfOk result (λ lane. lane ≡ new_lane link settings (status_of status)) }
         ensures given_back { IfErr result (λ back. back ≡ link) }
     {
         let Ok(book) = Book::new(alloc) else {
@@ -272,7 +269,7 @@ impl<L: Link> Lane<L> {
 
     /// Closes planning for all clients. Once closed, it stays so.
     pub fn seal(&mut self)
-        ensures { self.new ≡ sealed self.old }
+        ensures { self.new ≡ with_seal self.old }
     {
         entries_go_into_the_book();
         if !self.book.is_sealed() {
@@ -351,13 +348,7 @@ impl<L: Link> Lane<L> {
         // So the head of its record stays.
         ensures opening { opening_of (L.telling self.new.link) ≡ opening_of (L.telling self.old.link) }
     {
-        a_send_leaves_the_fates();
-        only_an_offer_makes_more_bodies();
-        a_send_settles_nothing();
-        what_a_hub_hears_settles_asks();
-        a_failed_link_loses_what_waits();
-        outcomes_go_into_the_book();
-        laws_of_late_answers();
+        laws_of_pumps();
         laws_of_rounds();
         if self.spent {
             return;
@@ -411,13 +402,7 @@ impl<L: Link> Lane<L> {
         // So the head of its record stays.
         ensures opening { opening_of (L.telling self.new.link) ≡ opening_of (L.telling self.old.link) }
     {
-        a_send_leaves_the_fates();
-        only_an_offer_makes_more_bodies();
-        a_send_settles_nothing();
-        what_a_hub_hears_settles_asks();
-        a_failed_link_loses_what_waits();
-        outcomes_go_into_the_book();
-        laws_of_late_answers();
+        laws_of_pumps();
         laws_of_rounds();
         if self.spent {
             return Err(NoMemory);

@@ -10,7 +10,7 @@ ghost use Rattle.lane_record.specs.Offers.{all_lost, outcome_of, put_all};
 ghost use Rattle.hub_lane.specs.Hearing.{give_ups_of};
 ghost use Rattle.hub_lane.specs.Calls.{IsReplyAt, IsReplyOf, is_lost_at_place, is_replied};
 ghost use Rattle.hub_lane.specs.Sends.{without_fates, without_lates};
-ghost use Rattle.world_model.specs.Hub.{drained};
+ghost use Rattle.world_model.specs.Hub.{after_handing_out};
 ghost use Rattle.packet_codec.specs.declared.packet.TheConstants.{MAX_BODY_WORDS};
 ghost use Rattle.world_model.specs.Facts.{IsSendable};
 
@@ -109,7 +109,7 @@ pub(crate) fn settle(
     pumped: Pumped,
 )
     requires { give_ups.old < 2 ^ 63 }
-    ensures hub { hub.new ≡ drained hub.old }
+    ensures hub { hub.new ≡ after_handing_out hub.old }
     ensures outcomes { outcomes.new.items ≡ put_all hub.old.fates outcomes.old.items }
     ensures lates { outcomes.new.lates ≡ put_lates hub.old.lates outcomes.old.lates }
     ensures give_ups { give_ups.new ≡ give_ups_of pumped hub.old give_ups.old }

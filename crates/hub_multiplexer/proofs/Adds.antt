@@ -7,27 +7,27 @@ use Rattle.std.proofs.Math.Seq.{drop-append_seam}
 use Rattle.turn_pass.specs.Record.{AreMadeBy, GrowsBy, Record}
 use Rattle.turn_pass.specs.Pass.{Knowledge, PassState, Told, having_given, having_seen}
 use Rattle.lane_record.specs.declared.item.Item.{Item}
-use Rattle.lane_record.specs.Coding.{recorded}
+use Rattle.lane_record.specs.Coding.{as_recorded}
 use Rattle.hub_multiplexer.specs.Calls.{Adds, FoundLane, Made, MadeInTime}
 use Rattle.hub_multiplexer.specs.Lanes.{Grew, Means}
 
 made_by_client : (client : ℕ) (items : List Item) → AllByRecursion (λ (x : Item). x.client ≡ client) items
-    → AreMadeBy client (map recorded items)
+    → AreMadeBy client (map as_recorded items)
 made_by_client client [] a = tt
 made_by_client client (x ∷ xs) a = (a.0, made_by_client client xs a.1)
 
 entries_grew : (client : ℕ) (before : Record) (added : List Item) (after : Record) → Grew client before added after
-    → after.entries ≡ before.entries ++ map recorded added
+    → after.entries ≡ before.entries ++ map as_recorded added
 entries_grew client before added after g =
-    ap (λ (r : Record). r.entries) g.now ∙ (map-append recorded g.lane.items added
-    ∙ ap (λ (r : Record). r.entries ++ map recorded added) (sym g.was))
+    ap (λ (r : Record). r.entries) g.now ∙ (map-append as_recorded g.lane.items added
+    ∙ ap (λ (r : Record). r.entries ++ map as_recorded added) (sym g.was))
 
 -- so the lane may be given back
 pub may_give : (client : ℕ) (before : Record) (added : List Item) (after : Record) → Grew client before added after
     → GrowsBy client before after
 may_give client before added after g = record {
   head = ap (λ (r : Record). r.head) g.now ∙ ap (λ (r : Record). r.head) (sym g.was);
-  added = map recorded added;
+  added = map as_recorded added;
   entries = entries_grew client before added after g;
   makers = made_by_client client added g.makers;
 }
@@ -45,7 +45,7 @@ adds_of client k mid final before added after g told took gave = (
     seen_now = ap (λ (z : Knowledge). z.seen) gave ∙ g.now;
     mine_now = ap (λ (z : Knowledge). z.mine) gave
         ∙ ((λ i. (took i).mine ++ drop (length (took i).seen.entries) (entries_grew client before added after g i))
-        ∙ ap (λ l. k.mine ++ l) (drop-append_seam before.entries (map recorded added)));
+        ∙ ap (λ l. k.mine ++ l) (drop-append_seam before.entries (map as_recorded added)));
     rest_same = gave ∙ ((λ i. record (took i) {
       seen = (sym gave i).seen;
       mine = (sym gave i).mine;

@@ -7,8 +7,8 @@ use Rattle.turn_pass.specs.Record.{made_by}
 use Rattle.turn_pass.specs.Pass.{Knowledge}
 use Rattle.lane_record.specs.declared.outcome.Outcome.{Outcome}
 use Rattle.lane_record.specs.declared.item.Item.{Item}
-use Rattle.lane_record.specs.Coding.{item_from, recorded}
-use Rattle.lane_record.specs.Items.{ask_in, asked, numbers, plan_in, planned}
+use Rattle.lane_record.specs.Coding.{item_from, as_recorded}
+use Rattle.lane_record.specs.Items.{ask_in, asked_count, numbers, plan_in, planned_count}
 use Rattle.lane_record.specs.NextEntry.{ask_of, plan_of, took_of}
 use Rattle.lane_record.proofs.Lookups.{numbers_append}
 use Rattle.hub_multiplexer.specs.declared.answers.Performed.{Performed}
@@ -21,7 +21,7 @@ use Rattle.hub_multiplexer.proofs.OwnItems.{CanBeRead}
 abbrev pub AllAsked : Knowledge → Type 0
 AllAsked k = asked_by k ≡ planned_by k
 
-pub read_back : CanBeRead → (items : List Item) → filter_map item_from (map recorded items) ≡ items
+pub read_back : CanBeRead → (items : List Item) → filter_map item_from (map as_recorded items) ≡ items
 read_back read [] = refl
 read_back read (x ∷ xs) = rw (read x) (ap (λ l. x ∷ l) (read_back read xs))
 
@@ -31,41 +31,41 @@ own_more : CanBeRead → (k : Knowledge) (lane : FoundLane) (added : List Item) 
 own_more read k lane added after a =
     let opened = made_by k.number k.opening.entries in
     (λ i. filter_map item_from (made_by (a.rest_same i).number (a.rest_same i).opening.entries ++ a.mine_now i))
-    ∙ (ap (filter_map item_from) (sym (append_assoc opened k.mine (map recorded added)))
-    ∙ (filter_map-append item_from (opened ++ k.mine) (map recorded added)
+    ∙ (ap (filter_map item_from) (sym (append_assoc opened k.mine (map as_recorded added)))
+    ∙ (filter_map-append item_from (opened ++ k.mine) (map as_recorded added)
     ∙ ap (λ l. own_items k ++ l) (read_back read added)))
 
 asked_more : (client : ℕ) (items added : List Item)
-    → asked client (items ++ added) ≡ asked client items + asked client added
+    → asked_count client (items ++ added) ≡ asked_count client items + asked_count client added
 asked_more client items added = ap length (numbers_append ask_in client items added)
     ∙ length-append (numbers ask_in client items) (numbers ask_in client added)
 
 planned_more : (client : ℕ) (items added : List Item)
-    → planned client (items ++ added) ≡ planned client items + planned client added
+    → planned_count client (items ++ added) ≡ planned_count client items + planned_count client added
 planned_more client items added = ap length (numbers_append plan_in client items added)
     ∙ length-append (numbers plan_in client items) (numbers plan_in client added)
 
 -- as many Plans as Asks were added
 pub all_asked_after : CanBeRead → (k : Knowledge) (lane : FoundLane) (added : List Item) (after : Knowledge)
-    → Adds k lane added after → asked k.number added ≡ planned k.number added → AllAsked k → AllAsked after
+    → Adds k lane added after → asked_count k.number added ≡ planned_count k.number added → AllAsked k → AllAsked after
 all_asked_after read k lane added after a same all =
     let number : after.number ≡ k.number = ap (λ (z : Knowledge). z.number) a.rest_same in
     let own = own_more read k lane added after a in
-    (λ i. asked (number i) (own i))
+    (λ i. asked_count (number i) (own i))
     ∙ (asked_more k.number (own_items k) added
     ∙ ((λ i. all i + same i)
     ∙ (sym (planned_more k.number (own_items k) added)
-    ∙ (λ i. planned (sym number i) (sym own i)))))
+    ∙ (λ i. planned_count (sym number i) (sym own i)))))
 
 module _ (client seq : ℕ) where
   pub as_submitted : (body : List ℕ) (give_ups : ℕ)
-      → asked client (plan_of client seq body ∷ ask_of client seq give_ups ∷ [])
-      ≡ planned client (plan_of client seq body ∷ ask_of client seq give_ups ∷ [])
+      → asked_count client (plan_of client seq body ∷ ask_of client seq give_ups ∷ [])
+      ≡ planned_count client (plan_of client seq body ∷ ask_of client seq give_ups ∷ [])
   as_submitted body give_ups = rw (eq-eqb client client refl) refl
 
   pub as_taken : (outcome : Outcome) (give_ups : ℕ)
-      → asked client (took_of client seq outcome give_ups ∷ [])
-      ≡ planned client (took_of client seq outcome give_ups ∷ [])
+      → asked_count client (took_of client seq outcome give_ups ∷ [])
+      ≡ planned_count client (took_of client seq outcome give_ups ∷ [])
   as_taken outcome give_ups = rw (eq-eqb client client refl) refl
 
 there_after : (ks : List Knowledge) (board : ℕ) (k : Knowledge) (P : Knowledge → Type 0) → P k
@@ -92,16 +92,16 @@ still_asked_at board old new P was c still =
 pub submitted_at_once : CanBeRead → (body : List ℕ) (seq : ℕ) (k after : Knowledge)
     → MadeInTime k (HasSubmitted k body seq) after → AllAsked k → AllAsked after
 submitted_at_once read body seq k after m = all_asked_after read k m.lane m.added after m.adds
-    (ap (λ l. asked k.number l) m.meaning.entries
-    ∙ (as_submitted k.number seq body m.meaning.give_ups ∙ ap (λ l. planned k.number l) (sym m.meaning.entries)))
+    (ap (λ l. asked_count k.number l) m.meaning.entries
+    ∙ (as_submitted k.number seq body m.meaning.give_ups ∙ ap (λ l. planned_count k.number l) (sym m.meaning.entries)))
 
-none_more : (client : ℕ) (added : List Item) → added ≡ [] → asked client added ≡ planned client added
+none_more : (client : ℕ) (added : List Item) → added ≡ [] → asked_count client added ≡ planned_count client added
 none_more client added none = rw none refl
 
 performed_same : (k : Knowledge) (performed : Performed) (lane : FoundLane) (added : List Item)
-    → PerformMeans k performed lane added → asked k.number added ≡ planned k.number added
-performed_same k (performs.Ready outcome) lane added t = ap (λ l. asked k.number l) t.entry
-    ∙ (as_taken k.number t.seq outcome t.give_ups ∙ ap (λ l. planned k.number l) (sym t.entry))
+    → PerformMeans k performed lane added → asked_count k.number added ≡ planned_count k.number added
+performed_same k (performs.Ready outcome) lane added t = ap (λ l. asked_count k.number l) t.entry
+    ∙ (as_taken k.number t.seq outcome t.give_ups ∙ ap (λ l. planned_count k.number l) (sym t.entry))
 performed_same k performs.Nothing lane added t = none_more k.number added t.1
 
 pub performed_still : CanBeRead → (performed : Performed) (k after : Knowledge)

@@ -6,11 +6,11 @@ use Rattle.turn_pass.specs.Pass.{Knowledge, Told}
 use Rattle.lane_record.specs.declared.outcome.Outcome.{Outcome}
 use Rattle.lane_record.specs.declared.item.Item.{Item}
 use Rattle.lane_record.specs.Coding.{Head, record_of}
-use Rattle.lane_record.specs.Items.{asked, planned}
+use Rattle.lane_record.specs.Items.{asked_count, planned_count}
 use Rattle.lane_record.specs.Legal.{IsLegal}
 use Rattle.lane_record.specs.NextEntry.{ask_of, took_of}
 use Rattle.hub_multiplexer.specs.Calls.{AskMeans, IsNone, StepMeans}
-use Rattle.hub_multiplexer.specs.Lanes.{AsksOn, Grew, Means, StepsOn, shown}
+use Rattle.hub_multiplexer.specs.Lanes.{AsksOn, Grew, Means, StepsOn, shown_record}
 use Rattle.hub_multiplexer.specs.Waiting.{FindMeans, FindsOn}
 use Rattle.hub_multiplexer.specs.declared.answers.Performed.{Performed}
 use Rattle.hub_multiplexer.specs.declared.answers.Performed.TheVariants as performs
@@ -54,13 +54,13 @@ module _ (client : ℕ) (before after : Record) (s : Shown before after) where
   abbrev pub same : s.items' ≡ s.items → Grew client before [] after
   same is = grew [] (is ∙ sym (append-nil s.items)) tt
 
-  pub asked_is : (k : Knowledge) → Told k before → k.number ≡ client → asked_by k ≡ asked client s.items
-  asked_is k told number = (λ i. asked (number i) (s.own k told i))
-      ∙ ((λ i. asked client (of_client (number i) s.items)) ∙ asked_own client s.items)
+  pub asked_is : (k : Knowledge) → Told k before → k.number ≡ client → asked_by k ≡ asked_count client s.items
+  asked_is k told number = (λ i. asked_count (number i) (s.own k told i))
+      ∙ ((λ i. asked_count client (of_client (number i) s.items)) ∙ asked_own client s.items)
 
-  pub planned_is : (k : Knowledge) → Told k before → k.number ≡ client → planned_by k ≡ planned client s.items
-  planned_is k told number = (λ i. planned (number i) (s.own k told i))
-      ∙ ((λ i. planned client (of_client (number i) s.items)) ∙ planned_own client s.items)
+  pub planned_is : (k : Knowledge) → Told k before → k.number ≡ client → planned_by k ≡ planned_count client s.items
+  planned_is k told number = (λ i. planned_count (number i) (s.own k told i))
+      ∙ ((λ i. planned_count client (of_client (number i) s.items)) ∙ planned_own client s.items)
 
   oldest_is : (k : Knowledge) → Told k before → k.number ≡ client → (seq : ℕ) → IsOldest s.items client seq
       → IsOldestOf k seq
@@ -132,9 +132,9 @@ found_by looks.Nothing = Some performs.Nothing
 
 module _ {L : Type 0} (telling : L → Option Telling) where
   abbrev pub shown_of : (old new : LaneState L)
-      → ((k : Knowledge) → Told k (shown telling old) → own_items k ≡ of_client k.number old.items)
+      → ((k : Knowledge) → Told k (shown_record telling old) → own_items k ≡ of_client k.number old.items)
       → IsLegal new.items new.outcomes → head telling new ≡ head telling old
-      → Shown (shown telling old) (shown telling new)
+      → Shown (shown_record telling old) (shown_record telling new)
   shown_of old new own legal same_head = record {
     head = head telling old;
     items = old.items;
@@ -147,54 +147,54 @@ module _ {L : Type 0} (telling : L → Option Telling) where
   }
 
   pub ask_means : IsPlanLaw → (old new : LaneState L) (client : ℕ) (answer : Asked)
-      → ((k : Knowledge) → Told k (shown telling old) → own_items k ≡ of_client k.number old.items)
+      → ((k : Knowledge) → Told k (shown_record telling old) → own_items k ≡ of_client k.number old.items)
       → IsLegal old.items old.outcomes → IsLegal new.items new.outcomes
       → opening_of (telling new.link) ≡ opening_of (telling old.link) → AsksAs old client new answer
-      → Means client (shown telling old) (λ k. AskMeans k answer) (shown telling new)
-  ask_means law old new client answer own was legal opening a = asks_of client (shown telling old) (shown telling new)
+      → Means client (shown_record telling old) (λ k. AskMeans k answer) (shown_record telling new)
+  ask_means law old new client answer own was legal opening a = asks_of client (shown_record telling old) (shown_record telling new)
       (shown_of old new own legal (ask_head telling old new client answer opening a)) answer
       (asks_on telling law old new client answer was a)
 
   pub step_means : (old new : LaneState L) (client : ℕ) (answer : Stepped)
-      → ((k : Knowledge) → Told k (shown telling old) → own_items k ≡ of_client k.number old.items)
+      → ((k : Knowledge) → Told k (shown_record telling old) → own_items k ≡ of_client k.number old.items)
       → IsLegal new.items new.outcomes → opening_of (telling new.link) ≡ opening_of (telling old.link)
       → StepsAs old client new answer
-      → Means client (shown telling old) (λ k. StepMeans k answer) (shown telling new)
+      → Means client (shown_record telling old) (λ k. StepMeans k answer) (shown_record telling new)
   step_means old new client answer own legal opening s = let same = steps_same old new client answer s in
-      steps_of client (shown telling old) (shown telling new)
+      steps_of client (shown_record telling old) (shown_record telling new)
       (shown_of old new own legal (same_head telling old new same.0 same.1 opening)) answer
       (steps_on old new client answer s)
 
   -- no entry was added
   pub look_means : (old new : LaneState L) (client : ℕ)
-      → ((k : Knowledge) → Told k (shown telling old) → own_items k ≡ of_client k.number old.items)
+      → ((k : Knowledge) → Told k (shown_record telling old) → own_items k ≡ of_client k.number old.items)
       → IsLegal new.items new.outcomes → opening_of (telling new.link) ≡ opening_of (telling old.link)
       → IsSameRecord old new
-      → Means client (shown telling old) (λ _. IsNone) (shown telling new)
+      → Means client (shown_record telling old) (λ _. IsNone) (shown_record telling new)
   look_means old new client own legal opening s =
-      looked client (shown telling old) (shown telling new) (shown_of old new own legal
+      looked client (shown_record telling old) (shown_record telling new) (shown_of old new own legal
       (same_head telling old new s.settings s.status opening)) s.items
 
   pub same_means : (old new : LaneState L) (client : ℕ)
-      → ((k : Knowledge) → Told k (shown telling old) → own_items k ≡ of_client k.number old.items)
+      → ((k : Knowledge) → Told k (shown_record telling old) → own_items k ≡ of_client k.number old.items)
       → IsLegal new.items new.outcomes → new ≡ old
-      → Means client (shown telling old) (λ _. IsNone) (shown telling new)
+      → Means client (shown_record telling old) (λ _. IsNone) (shown_record telling new)
   same_means old new client own legal e =
-      looked client (shown telling old) (shown telling new) (shown_of old new own legal (ap (head telling) e))
+      looked client (shown_record telling old) (shown_record telling new) (shown_of old new own legal (ap (head telling) e))
       (ap (λ (l : LaneState L). l.items) e)
 
   pub find_means : (old new : LaneState L) (client : ℕ) (answer : Option Performed)
-      → ((k : Knowledge) → Told k (shown telling old) → own_items k ≡ of_client k.number old.items)
+      → ((k : Knowledge) → Told k (shown_record telling old) → own_items k ≡ of_client k.number old.items)
       → IsLegal new.items new.outcomes → head telling new ≡ head telling old
       → FindsOn old.items client answer new.items
-      → Means client (shown telling old) (λ k. FindMeans k answer) (shown telling new)
+      → Means client (shown_record telling old) (λ k. FindMeans k answer) (shown_record telling new)
   find_means old new client answer own legal same f =
-      finds_of client (shown telling old) (shown telling new) (shown_of old new own legal same) answer f
+      finds_of client (shown_record telling old) (shown_record telling new) (shown_of old new own legal same) answer f
 
   pub looks_mean : (old new : LaneState L) (client : ℕ) (answer : Looked)
-      → ((k : Knowledge) → Told k (shown telling old) → own_items k ≡ of_client k.number old.items)
+      → ((k : Knowledge) → Told k (shown_record telling old) → own_items k ≡ of_client k.number old.items)
       → IsLegal new.items new.outcomes → LooksAs old client new answer
-      → Means client (shown telling old) (λ k. FindMeans k (found_by answer)) (shown telling new)
+      → Means client (shown_record telling old) (λ k. FindMeans k (found_by answer)) (shown_record telling new)
   looks_mean old new client (looks.Ready outcome) own legal l =
       find_means old new client (Some (performs.Ready outcome)) own legal (ap (head telling) l.takes.entry)
       (l.seq, l.oldest, l.takes.short, old.give_ups, ap (λ (lane : LaneState L). lane.items) l.takes.entry)
@@ -207,5 +207,5 @@ module _ {L : Type 0} (telling : L → Option Telling) where
 
   -- what a lane shows stays where its head and its entries do
   pub shown_same : (old new : LaneState L) → opening_of (telling new.link) ≡ opening_of (telling old.link)
-      → IsSameRecord old new → shown telling new ≡ shown telling old
+      → IsSameRecord old new → shown_record telling new ≡ shown_record telling old
   shown_same old new opening s = (λ i. record_of (same_head telling old new s.settings s.status opening i) (s.items i))

@@ -4,14 +4,14 @@ use Rattle.world_core.specs.Telling.{Telling}
 use Rattle.lane_record.specs.declared.outcome.Outcome.{Outcome}
 use Rattle.lane_record.specs.declared.item.Item.{Item}
 use Rattle.lane_record.specs.Coding.{Head}
-use Rattle.lane_record.specs.Items.{found, plan_in, planned}
+use Rattle.lane_record.specs.Items.{told_by_first, plan_in, planned_count}
 use Rattle.lane_record.specs.Legal.{IsLegal}
 use Rattle.lane_record.specs.NextEntry.{ask_of, took_of}
 use Rattle.hub_lane.specs.declared.answers.Asked.{Asked}
 use Rattle.hub_lane.specs.declared.answers.Asked.TheVariants as asks
 use Rattle.hub_lane.specs.declared.step.Stepped.{Stepped}
 use Rattle.hub_lane.specs.declared.step.Stepped.TheVariants as steps
-use Rattle.hub_lane.specs.Calls.{Asks, AsksAs, asked_in_vain, offered}
+use Rattle.hub_lane.specs.Calls.{Asks, AsksAs, asked_in_vain, with_offer}
 use Rattle.hub_lane.specs.Lanes.{LaneState, opening_of}
 use Rattle.hub_lane.specs.Records.{head_of}
 use Rattle.hub_lane.specs.Step.{StepsAs}
@@ -20,7 +20,7 @@ use Rattle.hub_multiplexer.specs.Lanes.{AsksOn, StepsOn}
 -- in a legal record whatever has a Plan is planned
 abbrev pub IsPlanLaw : Type 0
 IsPlanLaw = (items : List Item) (outcomes : List (Option Outcome)) (client seq : ℕ) (body : List ℕ)
-    → IsLegal items outcomes → found plan_in client seq items ≡ Some body → seq < planned client items
+    → IsLegal items outcomes → told_by_first plan_in client seq items ≡ Some body → seq < planned_count client items
 
 module _ {L : Type 0} (telling : L → Option Telling) where
   abbrev pub head : LaneState L → Head
@@ -44,7 +44,7 @@ module _ {L : Type 0} (telling : L → Option Telling) where
     items : asked.items ≡ old.items ++ ask_of client seq old.give_ups ∷ []
 
   offered_either : (old asked : LaneState L) (client seq : ℕ) (body : List ℕ) (b : Bool)
-      → asked ≡ (if b then asked_in_vain old client seq else offered old client seq body)
+      → asked ≡ (if b then asked_in_vain old client seq else with_offer old client seq body)
       → Offered old asked client seq
   offered_either old asked client seq body true e = record {
     settings = ap (λ (l : LaneState L). l.settings) e;

@@ -5,7 +5,7 @@ use Rattle.turn_pass.specs.Record.{Begins, Record}
 use Rattle.turn_pass.specs.Pass.{Knowledge, Told}
 use Rattle.turn_pass.proofs.Records.{begins_on}
 use Rattle.lane_record.specs.declared.item.Item.{Item}
-use Rattle.lane_record.specs.Coding.{record_of, recorded}
+use Rattle.lane_record.specs.Coding.{record_of, as_recorded}
 use Rattle.hub_multiplexer.specs.Calls.{Adds, FoundLane, IsNone, MadeInTime, PerformMeans}
 use Rattle.hub_multiplexer.specs.Waiting.{FindMeans}
 use Rattle.hub_multiplexer.specs.declared.answers.Performed.{Performed}
@@ -17,7 +17,7 @@ HasLooked k now = (now ≡ k) ⊎ MadeInTime k IsNone now
 
 module _ (k now : Knowledge) (m : MadeInTime k IsNone now) where
   no_more : now.mine ≡ k.mine
-  no_more = m.adds.mine_now ∙ (ap (λ l. k.mine ++ map recorded l) m.meaning ∙ append-nil k.mine)
+  no_more = m.adds.mine_now ∙ (ap (λ l. k.mine ++ map as_recorded l) m.meaning ∙ append-nil k.mine)
 
   now_is : now ≡ record k { seen = now.seen; vain = now.vain }
   now_is = m.adds.rest_same ∙ (λ i. record k { seen = now.seen; mine = no_more i; vain = now.vain })
@@ -44,7 +44,7 @@ module _ (k now : Knowledge) (m : MadeInTime k IsNone now) where
     found = told_before (record_of lane.head lane.items) a.found;
     legal = a.legal;
     seen_now = a.seen_now;
-    mine_now = a.mine_now ∙ ap (λ l. l ++ map recorded added) no_more;
+    mine_now = a.mine_now ∙ ap (λ l. l ++ map as_recorded added) no_more;
     rest_same = a.rest_same ∙ (λ i. record (now_is i) { seen = after.seen; mine = after.mine; vain = after.vain });
   }
 

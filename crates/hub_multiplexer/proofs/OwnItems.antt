@@ -9,22 +9,22 @@ use Rattle.turn_pass.specs.Record.{Record, Recorded, made_by, past}
 use Rattle.turn_pass.specs.Pass.{Knowledge, Told}
 use Rattle.lane_record.specs.declared.item.Item.{Item}
 use Rattle.lane_record.specs.declared.item.What.{What}
-use Rattle.lane_record.specs.Coding.{Head, item_from, record_of, recorded}
-use Rattle.lane_record.specs.Items.{ask_in, asked, found, numbers, plan_in, planned, took_in}
+use Rattle.lane_record.specs.Coding.{Head, item_from, record_of, as_recorded}
+use Rattle.lane_record.specs.Items.{ask_in, asked_count, told_by_first, numbers, plan_in, planned_count, took_in}
 use Rattle.hub_multiplexer.specs.OwnItems.{of_client, own_items}
 use Rattle.lane_tables.specs.Taken.{HasTakenAll, IsOldest}
 
 -- every entry can be read back
 abbrev pub CanBeRead : Type 0
-CanBeRead = (item : Item) → item_from (recorded item) ≡ Some item
+CanBeRead = (item : Item) → item_from (as_recorded item) ≡ Some item
 
 made_items : CanBeRead → (n : ℕ) (items : List Item)
-    → filter_map item_from (made_by n (map recorded items)) ≡ of_client n items
+    → filter_map item_from (made_by n (map as_recorded items)) ≡ of_client n items
 made_items read n [] = refl
 made_items read n (x ∷ xs) = cases (eqb x.client n) (made_items read n xs)
   where
-    cases : (b : Bool) → filter_map item_from (made_by n (map recorded xs)) ≡ of_client n xs
-        → filter_map item_from (cond b (recorded x ∷ made_by n (map recorded xs)) (made_by n (map recorded xs))) ≡ cond
+    cases : (b : Bool) → filter_map item_from (made_by n (map as_recorded xs)) ≡ of_client n xs
+        → filter_map item_from (cond b (as_recorded x ∷ made_by n (map as_recorded xs)) (made_by n (map as_recorded xs))) ≡ cond
         b (x ∷ of_client n xs) (of_client n xs)
     cases true e = rw (read x) (ap (λ l. x ∷ l) e)
     cases false e = e
@@ -59,21 +59,21 @@ numbers_own kind client (x ∷ xs) = cases (x.client == client) refl (numbers_ow
     cases false e rest = rest
 
 pub found_own : {A : Type 0} (kind : What → Option A) (client seq : ℕ) (items : List Item)
-    → found kind client seq (of_client client items) ≡ found kind client seq items
+    → told_by_first kind client seq (of_client client items) ≡ told_by_first kind client seq items
 found_own kind client seq [] = refl
 found_own kind client seq (x ∷ xs) = cases (x.client == client) refl (found_own kind client seq xs)
   where
     cases : (b : Bool) → (x.client == client) ≡ b
-        → found kind client seq (of_client client xs) ≡ found kind client seq xs
-        → found kind client seq (cond b (x ∷ of_client client xs) (of_client client xs)) ≡ option_or
-        (if b && (x.seq == seq) then kind x.what else None) (found kind client seq xs)
+        → told_by_first kind client seq (of_client client xs) ≡ told_by_first kind client seq xs
+        → told_by_first kind client seq (cond b (x ∷ of_client client xs) (of_client client xs)) ≡ option_or
+        (if b && (x.seq == seq) then kind x.what else None) (told_by_first kind client seq xs)
     cases true e rest = λ i. option_or (if e i && (x.seq == seq) then kind x.what else None) (rest i)
     cases false e rest = rest
 
-pub planned_own : (client : ℕ) (items : List Item) → planned client (of_client client items) ≡ planned client items
+pub planned_own : (client : ℕ) (items : List Item) → planned_count client (of_client client items) ≡ planned_count client items
 planned_own client items = ap length (numbers_own plan_in client items)
 
-pub asked_own : (client : ℕ) (items : List Item) → asked client (of_client client items) ≡ asked client items
+pub asked_own : (client : ℕ) (items : List Item) → asked_count client (of_client client items) ≡ asked_count client items
 asked_own client items = ap length (numbers_own ask_in client items)
 
 pub oldest_own : (client seq : ℕ) (items : List Item) → IsOldest items client seq

@@ -3,7 +3,7 @@ use Rattle.std.specs.Prelude.{◌≡◌, ◌⊎◌, ℕ, ◌<◌, ◌≤◌, Lis
 use Rattle.turn_pass.specs.Pass.{Knowledge, Told, in_vain}
 use Rattle.lane_record.specs.declared.outcome.Outcome.{Outcome}
 use Rattle.lane_record.specs.declared.item.Item.{Item}
-use Rattle.lane_record.specs.Coding.{Head, record_of, recorded}
+use Rattle.lane_record.specs.Coding.{Head, record_of, as_recorded}
 use Rattle.lane_record.specs.Legal.{IsLegal}
 use Rattle.lane_record.specs.NextEntry.{ask_of, plan_of, took_of}
 use Rattle.lane_record.specs.Outcomes.{IsShort}
@@ -35,7 +35,7 @@ pub record Adds (k : Knowledge) (lane : FoundLane) (added : List Item) (after : 
   pub found : Told k (record_of lane.head lane.items)
   pub legal : IsLegal (lane.items ++ added) lane.outcomes
   pub seen_now : after.seen ≡ record_of lane.head (lane.items ++ added)
-  pub mine_now : after.mine ≡ k.mine ++ map recorded added
+  pub mine_now : after.mine ≡ k.mine ++ map as_recorded added
   pub rest_same : after ≡ record k { seen = after.seen; mine = after.mine; vain = after.vain }
 
 -- By one exchange, which was not in vain, the pass added entries of which this holds.

@@ -4,7 +4,7 @@ use Rattle.std.specs.List.{AllByRecursion}
 use Rattle.turn_pass.specs.Record.{Record}
 use Rattle.turn_pass.specs.Pass.{Knowledge, Told}
 use Rattle.lane_record.specs.declared.item.Item.{Item}
-use Rattle.lane_record.specs.Items.{asked, planned}
+use Rattle.lane_record.specs.Items.{asked_count, planned_count}
 use Rattle.lane_record.specs.NextEntry.{ask_of, took_of}
 use Rattle.lane_record.specs.Outcomes.{IsShort}
 use Rattle.lane_record.specs.Coding.{record_of}
@@ -21,14 +21,14 @@ use Rattle.hub_lane.specs.declared.step.Stepped.{Stepped}
 use Rattle.hub_lane.specs.declared.step.Stepped.TheVariants as steps
 
 -- the record of a lane, whose link tells this
-abbrev pub shown : {L : Type 0} → (L → Option Telling) → LaneState L → Record
-shown telling lane = record_shown lane.settings lane.status (telling lane.link) lane.items
+abbrev pub shown_record : {L : Type 0} → (L → Option Telling) → LaneState L → Record
+shown_record telling lane = record_shown lane.settings lane.status (telling lane.link) lane.items
 
 -- an Ask of the client's next planned body is added, or all were asked
 abbrev pub AsksOn : List Item → ℕ → Asked → List Item → Type 0
-AsksOn items client (asks.Asked seq) after = (seq ≡ asked client items) × (seq < planned client items)
+AsksOn items client (asks.Asked seq) after = (seq ≡ asked_count client items) × (seq < planned_count client items)
     × (give_ups : ℕ) × (after ≡ items ++ ask_of client seq give_ups ∷ [])
-AsksOn items client asks.Nothing after = (asked client items ≡ planned client items) × (after ≡ items)
+AsksOn items client asks.Nothing after = (asked_count client items ≡ planned_count client items) × (after ≡ items)
 
 -- a Took of the client's oldest asked and untaken body is added, or nothing became of it yet, or there is none
 abbrev pub StepsOn : List Item → ℕ → Stepped → List Item → Type 0

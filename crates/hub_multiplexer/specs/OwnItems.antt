@@ -5,7 +5,7 @@ use Rattle.turn_pass.specs.Record.{made_by}
 use Rattle.turn_pass.specs.Pass.{Knowledge}
 use Rattle.lane_record.specs.declared.item.Item.{Item}
 use Rattle.lane_record.specs.Coding.{item_from}
-use Rattle.lane_record.specs.Items.{asked, planned}
+use Rattle.lane_record.specs.Items.{asked_count, planned_count}
 use Rattle.hub_multiplexer.specs.Seats.{SeatState}
 use Rattle.lane_tables.specs.Taken.{HasTakenAll, IsOldest}
 
@@ -16,10 +16,10 @@ own_items k = filter_map item_from (made_by k.number k.opening.entries ++ k.mine
 
 -- how many bodies the client planned, and how many it asked
 abbrev pub planned_by : Knowledge → ℕ
-planned_by k = planned k.number (own_items k)
+planned_by k = planned_count k.number (own_items k)
 
 abbrev pub asked_by : Knowledge → ℕ
-asked_by k = asked k.number (own_items k)
+asked_by k = asked_count k.number (own_items k)
 
 -- the client's oldest asked and untaken body, and whether it has none
 abbrev pub IsOldestOf : Knowledge → ℕ → Type 0

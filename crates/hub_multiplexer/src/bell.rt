@@ -1,7 +1,7 @@
 //! What the threads that wait for one board share.
 
 ghost use Rattle.std.specs.Prelude.{◌≡◌, length, map, IfOk};
-ghost use Rattle.hub_multiplexer.specs.Lanes.{shown};
+ghost use Rattle.hub_multiplexer.specs.Lanes.{shown_record};
 
 use hub_lane::{Lane, Link, NoMemory, Waiter};
 use std::alloc::Global;
@@ -90,7 +90,7 @@ pub(crate) fn bells_of<L: Link>(
     alloc: Global,
     lanes: &mut Vec<Lane<L>>,
 ) -> Result<Vec<Bell>, NoMemory>
-    ensures shown { map (shown L.telling) lanes.new.items ≡ map (shown L.telling) lanes.old.items }
+    ensures shown { map (shown_record L.telling) lanes.new.items ≡ map (shown_record L.telling) lanes.old.items }
     ensures bells { IfOk result (λ bells. length bells.items ≡ length lanes.old.items) }
 {
     let mut bells = Vec::with_capacity(alloc, lanes.len())?;
@@ -102,7 +102,7 @@ pub(crate) fn bells_of<L: Link>(
 
 /// The bell of a lane. What the lane shows stays.
 fn bell_of<L: Link>(lane: &mut Lane<L>) -> Bell
-    ensures { shown L.telling lane.new ≡ shown L.telling lane.old }
+    ensures { shown_record L.telling lane.new ≡ shown_record L.telling lane.old }
 {
     Bell::of(lane.waiter())
 }

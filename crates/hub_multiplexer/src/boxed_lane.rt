@@ -2,10 +2,10 @@
 
 ghost use Rattle.std.specs.Prelude.{◌≡◌, ◌≤◌, IfOk, IfErr, OnErr};
 ghost use Rattle.transaction_codec.specs.Answer.{reply_room};
-ghost use Rattle.lane_record.specs.Items.{asked, planned};
+ghost use Rattle.lane_record.specs.Items.{asked_count, planned_count};
 ghost use Rattle.turn_pass.specs.Pass.{Knowledge, Told};
 ghost use Rattle.hub_multiplexer.specs.Calls.{AskMeans, HasSubmitted, IsNone, StepMeans, SubmitRefused};
-ghost use Rattle.hub_multiplexer.specs.Lanes.{Means, shown};
+ghost use Rattle.hub_multiplexer.specs.Lanes.{Means, shown_record};
 ghost use Rattle.hub_multiplexer.specs.OwnItems.{of_client, own_items};
 ghost use Rattle.hub_multiplexer.specs.Waiting.{FindMeans};
 
@@ -18,7 +18,7 @@ use hub_lane::{Asked, Lane, Link, NoMemory, PlanRefusal, Stepped, Words};
 /// Whoever takes the lane finds there the entries of its own client that it knows, and no others. It does nothing when
 /// it runs.
 pub(crate) fn tells_its_own<L: Link>(lane: &Boxed<Lane<L>>)
-    ensures { (k : Knowledge) → Told k (shown L.telling lane.now.value.value)
+    ensures { (k : Knowledge) → Told k (shown_record L.telling lane.now.value.value)
         → own_items k ≡ of_client k.number lane.now.value.value.items }
 {
     own::tells_its_own(&lane.value);
@@ -32,10 +32,10 @@ pub(crate) fn has_stopped<L: Link>(lane: &Boxed<Lane<L>>) -> bool {
 /// Asks the client's next planned body.
 pub(crate) fn ask_on<L: Link>(lane: &mut Boxed<Lane<L>>, client: u32) -> Result<Asked, NoMemory>
     requires client { 1 ≤ client }
-    ensures asked { IfOk result (λ asked. Means client (shown L.telling lane.old.value.value)
-        (λ k. AskMeans k asked) (shown L.telling lane.new.value.value)) }
-    ensures looked { OnErr result (Means client (shown L.telling lane.old.value.value)
-        (λ _. IsNone) (shown L.telling lane.new.value.value)) }
+    ensures asked { IfOk result (λ asked. Means client (shown_record L.telling lane.old.value.value)
+        (λ k. AskMeans k asked) (shown_record L.telling lane.new.value.value)) }
+    ensures looked { OnErr result (Means client (shown_record L.telling lane.old.value.value)
+        (λ _. IsNone) (shown_record L.telling lane.new.value.value)) }
 {
     own::ask_on(&mut lane.value, client)
 }
@@ -43,10 +43,10 @@ pub(crate) fn ask_on<L: Link>(lane: &mut Boxed<Lane<L>>, client: u32) -> Result<
 /// Pumps once at most, and takes what became of the client's oldest asked and untaken body.
 pub(crate) fn step_on<L: Link>(lane: &mut Boxed<Lane<L>>, client: u32) -> Result<Stepped, NoMemory>
     requires client { 1 ≤ client }
-    ensures stepped { IfOk result (λ stepped. Means client (shown L.telling lane.old.value.value)
-        (λ k. StepMeans k stepped) (shown L.telling lane.new.value.value)) }
-    ensures looked { OnErr result (Means client (shown L.telling lane.old.value.value)
-        (λ _. IsNone) (shown L.telling lane.new.value.value)) }
+    ensures stepped { IfOk result (λ stepped. Means client (shown_record L.telling lane.old.value.value)
+        (λ k. StepMeans k stepped) (shown_record L.telling lane.new.value.value)) }
+    ensures looked { OnErr result (Means client (shown_record L.telling lane.old.value.value)
+        (λ _. IsNone) (shown_record L.telling lane.new.value.value)) }
 {
     own::step_on(&mut lane.value, client)
 }
@@ -58,10 +58,10 @@ pub(crate) fn visit_on<L: Link>(
     how: Visit<'_>,
 ) -> Result<Option<Performed>, NoMemory>
     requires client { 1 ≤ client }
-    ensures found { IfOk result (λ found. Means client (shown L.telling lane.old.value.value)
-        (λ k. FindMeans k found) (shown L.telling lane.new.value.value)) }
-    ensures looked { OnErr result (Means client (shown L.telling lane.old.value.value)
-        (λ _. IsNone) (shown L.telling lane.new.value.value)) }
+    ensures found { IfOk result (λ found. Means client (shown_record L.telling lane.old.value.value)
+        (λ k. FindMeans k found) (shown_record L.telling lane.new.value.value)) }
+    ensures looked { OnErr result (Means client (shown_record L.telling lane.old.value.value)
+        (λ _. IsNone) (shown_record L.telling lane.new.value.value)) }
 {
     visit_lane(&mut lane.value, client, how)
 }
@@ -75,11 +75,11 @@ pub(crate) fn submit_on<L: Link>(
 ) -> Result<u64, PlanRefusal>
     requires client { 1 ≤ client }
     requires reply { reply_words ≡ reply_room body }
-    requires all_asked { asked client lane.old.value.value.items ≡ planned client lane.old.value.value.items }
-    ensures submitted { IfOk result (λ seq. Means client (shown L.telling lane.old.value.value)
-        (λ k. HasSubmitted k body seq) (shown L.telling lane.new.value.value)) }
-    ensures refused { IfErr result (λ why. Means client (shown L.telling lane.old.value.value)
-        (λ k. SubmitRefused k body why) (shown L.telling lane.new.value.value)) }
+    requires all_asked { asked_count client lane.old.value.value.items ≡ planned_count client lane.old.value.value.items }
+    ensures submitted { IfOk result (λ seq. Means client (shown_record L.telling lane.old.value.value)
+        (λ k. HasSubmitted k body seq) (shown_record L.telling lane.new.value.value)) }
+    ensures refused { IfErr result (λ why. Means client (shown_record L.telling lane.old.value.value)
+        (λ k. SubmitRefused k body why) (shown_record L.telling lane.new.value.value)) }
 {
     own::submit_on(&mut lane.value, client, body, reply_words)
 }

@@ -7,7 +7,7 @@ ghost use Rattle.hub_multiplexer.specs.Calls.{AskMeans, AskTried, HasSubmitted, 
 ghost use Rattle.hub_multiplexer.specs.Calls.{StepTried, SubmitRefused};
 ghost use Rattle.hub_multiplexer.specs.OwnItems.{HasAskedAll};
 ghost use Rattle.hub_multiplexer.specs.Ends.{AreEnded, HasTakenIn};
-ghost use Rattle.hub_multiplexer.specs.Lanes.{shown};
+ghost use Rattle.hub_multiplexer.specs.Lanes.{shown_record};
 ghost use Rattle.hub_multiplexer.specs.Seats.{ChangesAt, IsMasterOf, IsSeatOf};
 
 use crate::answers::{AskTry, Performed, StepTry};
@@ -57,9 +57,9 @@ impl<L: Link + Send + Drop> Hub<L> {
         ensures hub { IfOk result (λ made. IsMasterOf made.0 made.1) }
         ensures boards { IfOk result (λ made. length made.0.turns ≡ length lanes.items) }
         ensures no_seats { IfOk result (λ made. (made.1.seats ≡ 0) × HasTakenIn 1 made.1) }
-        ensures master { IfOk result (λ made. made.1.knows ≡ map first_knowledge (map (shown L.telling) lanes.items)) }
+        ensures master { IfOk result (λ made. made.1.knows ≡ map first_knowledge (map (shown_record L.telling) lanes.items)) }
         ensures returned { IfErr result (λ returned.
-            map (shown L.telling) returned.lanes.items ≡ map (shown L.telling) lanes.items) }
+            map (shown_record L.telling) returned.lanes.items ≡ map (shown_record L.telling) lanes.items) }
     {
         let Ok((room, room_pass)) = room_for(alloc, lanes.len()) else {
             return Err(Returned { lanes });
@@ -80,7 +80,7 @@ impl<L: Link + Send + Drop> Hub<L> {
     pub fn finish<R: Wait>(self, rt: &R, master: Master) -> Vec<Lane<L>>
         requires hub { IsMasterOf self master }
         requires joined { HasTakenIn (master.seats + 1) master }
-        ensures { AreEnded master.knows (map (shown L.telling) result.items) }
+        ensures { AreEnded master.knows (map (shown_record L.telling) result.items) }
     {
         let Hub {
             turns,

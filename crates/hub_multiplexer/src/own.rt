@@ -2,11 +2,11 @@
 
 ghost use Rattle.std.specs.Prelude.{◌≡◌, ◌≤◌, ◌<◌, IfOk, IfErr, OnErr, Some, None};
 ghost use Rattle.transaction_codec.specs.Answer.{reply_room};
-ghost use Rattle.lane_record.specs.Items.{asked, planned};
+ghost use Rattle.lane_record.specs.Items.{asked_count, planned_count};
 ghost use Rattle.turn_pass.specs.Pass.{Knowledge, Told};
 ghost use Rattle.lane_record.specs.Legal.{IsLegal};
 ghost use Rattle.hub_multiplexer.specs.Calls.{AskMeans, FoundLane, HasSubmitted, IsNone, StepMeans, SubmitRefused};
-ghost use Rattle.hub_multiplexer.specs.Lanes.{IsAskedNext, Means, shown};
+ghost use Rattle.hub_multiplexer.specs.Lanes.{IsAskedNext, Means, shown_record};
 ghost use Rattle.hub_lane.specs.Lanes.{opening_of};
 ghost use Rattle.hub_lane.specs.declared.answers.PlanRefusal.TheVariants as refusals;
 ghost use Rattle.hub_multiplexer.specs.OwnItems.{of_client, own_items};
@@ -21,7 +21,7 @@ use lane_record::laws::entries::an_ask_is_of_its_plan;
 /// others. It does nothing when it runs.
 pub(crate) fn tells_its_own<L: Link>(lane: &Lane<L>)
     ensures legal { IsLegal lane.now.items lane.now.outcomes }
-    ensures own { (k : Knowledge) → Told k (shown L.telling lane.now)
+    ensures own { (k : Knowledge) → Told k (shown_record L.telling lane.now)
         → own_items k ≡ of_client k.number lane.now.items }
 {
     lane.is_sound();
@@ -32,8 +32,8 @@ pub(crate) fn tells_its_own<L: Link>(lane: &Lane<L>)
 pub(crate) fn ask_on<L: Link>(lane: &mut Lane<L>, client: u32) -> Result<Asked, NoMemory>
     requires client { 1 ≤ client }
     ensures asked { IfOk result (λ asked.
-        Means client (shown L.telling lane.old) (λ k. AskMeans k asked) (shown L.telling lane.new)) }
-    ensures looked { OnErr result (Means client (shown L.telling lane.old) (λ _. IsNone) (shown L.telling lane.new)) }
+        Means client (shown_record L.telling lane.old) (λ k. AskMeans k asked) (shown_record L.telling lane.new)) }
+    ensures looked { OnErr result (Means client (shown_record L.telling lane.old) (λ _. IsNone) (shown_record L.telling lane.new)) }
 {
     tells_its_own(lane);
     an_ask_is_of_its_plan();
@@ -46,8 +46,8 @@ pub(crate) fn ask_on<L: Link>(lane: &mut Lane<L>, client: u32) -> Result<Asked, 
 pub(crate) fn step_on<L: Link>(lane: &mut Lane<L>, client: u32) -> Result<Stepped, NoMemory>
     requires client { 1 ≤ client }
     ensures stepped { IfOk result (λ stepped.
-        Means client (shown L.telling lane.old) (λ k. StepMeans k stepped) (shown L.telling lane.new)) }
-    ensures looked { OnErr result (Means client (shown L.telling lane.old) (λ _. IsNone) (shown L.telling lane.new)) }
+        Means client (shown_record L.telling lane.old) (λ k. StepMeans k stepped) (shown_record L.telling lane.new)) }
+    ensures looked { OnErr result (Means client (shown_record L.telling lane.old) (λ _. IsNone) (shown_record L.telling lane.new)) }
 {
     tells_its_own(lane);
     let stepped = lane.step(client);
@@ -63,8 +63,8 @@ pub(crate) fn look_on<L: Link>(
 ) -> Result<Option<Performed>, NoMemory>
     requires client { 1 ≤ client }
     ensures found { IfOk result (λ found.
-        Means client (shown L.telling lane.old) (λ k. FindMeans k found) (shown L.telling lane.new)) }
-    ensures looked { OnErr result (Means client (shown L.telling lane.old) (λ _. IsNone) (shown L.telling lane.new)) }
+        Means client (shown_record L.telling lane.old) (λ k. FindMeans k found) (shown_record L.telling lane.new)) }
+    ensures looked { OnErr result (Means client (shown_record L.telling lane.old) (λ _. IsNone) (shown_record L.telling lane.new)) }
 {
     send_on(lane);
     if lane.is_stopped() {
@@ -75,7 +75,7 @@ pub(crate) fn look_on<L: Link>(
 
 /// Sends what waits to be sent.
 fn send_on<L: Link>(lane: &mut Lane<L>)
-    ensures { shown L.telling lane.new ≡ shown L.telling lane.old }
+    ensures { shown_record L.telling lane.new ≡ shown_record L.telling lane.old }
 {
     lane.send_wanted();
 }
@@ -84,8 +84,8 @@ fn send_on<L: Link>(lane: &mut Lane<L>)
 fn found_on<L: Link>(lane: &mut Lane<L>, client: u32) -> Result<Option<Performed>, NoMemory>
     requires client { 1 ≤ client }
     ensures found { IfOk result (λ found.
-        Means client (shown L.telling lane.old) (λ k. FindMeans k found) (shown L.telling lane.new)) }
-    ensures looked { OnErr result (Means client (shown L.telling lane.old) (λ _. IsNone) (shown L.telling lane.new)) }
+        Means client (shown_record L.telling lane.old) (λ k. FindMeans k found) (shown_record L.telling lane.new)) }
+    ensures looked { OnErr result (Means client (shown_record L.telling lane.old) (λ _. IsNone) (shown_record L.telling lane.new)) }
 {
     tells_its_own(lane);
     let looked = lane.look(client);
@@ -104,8 +104,8 @@ pub(crate) fn step_found<L: Link>(
 ) -> Result<Option<Performed>, NoMemory>
     requires client { 1 ≤ client }
     ensures found { IfOk result (λ found.
-        Means client (shown L.telling lane.old) (λ k. FindMeans k found) (shown L.telling lane.new)) }
-    ensures looked { OnErr result (Means client (shown L.telling lane.old) (λ _. IsNone) (shown L.telling lane.new)) }
+        Means client (shown_record L.telling lane.old) (λ k. FindMeans k found) (shown_record L.telling lane.new)) }
+    ensures looked { OnErr result (Means client (shown_record L.telling lane.old) (λ _. IsNone) (shown_record L.telling lane.new)) }
 {
     Ok(found_by(step_on(lane, client)?))
 }
@@ -131,11 +131,11 @@ pub(crate) fn submit_on<L: Link>(
 ) -> Result<u64, PlanRefusal>
     requires client { 1 ≤ client }
     requires reply { reply_words ≡ reply_room body }
-    requires all_asked { asked client lane.old.items ≡ planned client lane.old.items }
+    requires all_asked { asked_count client lane.old.items ≡ planned_count client lane.old.items }
     ensures submitted { IfOk result (λ seq.
-        Means client (shown L.telling lane.old) (λ k. HasSubmitted k body seq) (shown L.telling lane.new)) }
+        Means client (shown_record L.telling lane.old) (λ k. HasSubmitted k body seq) (shown_record L.telling lane.new)) }
     ensures refused { IfErr result (λ why.
-        Means client (shown L.telling lane.old) (λ k. SubmitRefused k body why) (shown L.telling lane.new)) }
+        Means client (shown_record L.telling lane.old) (λ k. SubmitRefused k body why) (shown_record L.telling lane.new)) }
 {
     tells_its_own(lane);
     an_ask_is_of_its_plan();
@@ -154,7 +154,7 @@ pub(crate) fn submit_on<L: Link>(
 /// Asks the body of this number, which is the client's next planned one.
 fn ask_planned<L: Link>(lane: &mut Lane<L>, client: u32, seq: u64) -> Result<u64, PlanRefusal>
     requires client { 1 ≤ client }
-    requires next { asked client lane.old.items < planned client lane.old.items }
+    requires next { asked_count client lane.old.items < planned_count client lane.old.items }
     ensures asked { IfOk result (λ number. (number ≡ seq) × IsAskedNext lane.old client lane.new) }
     ensures refused { IfErr result (λ why. (why ≡ refusals.NoMemory) × (lane.new ≡ lane.old)) }
     ensures opening { opening_of (L.telling lane.new.link) ≡ opening_of (L.telling lane.old.link) }

@@ -2,7 +2,7 @@
 
 ghost use Rattle.std.specs.Prelude.{◌≤◌, IfOk, OnErr};
 ghost use Rattle.hub_multiplexer.specs.Calls.{IsNone};
-ghost use Rattle.hub_multiplexer.specs.Lanes.{Means, shown};
+ghost use Rattle.hub_multiplexer.specs.Lanes.{Means, shown_record};
 ghost use Rattle.hub_multiplexer.specs.Waiting.{FindMeans};
 
 use crate::answers::Performed;
@@ -28,8 +28,8 @@ pub(crate) fn visit_lane<L: Link>(
 ) -> Result<Option<Performed>, NoMemory>
     requires client { 1 ≤ client }
     ensures found { IfOk result (λ found.
-        Means client (shown L.telling lane.old) (λ k. FindMeans k found) (shown L.telling lane.new)) }
-    ensures looked { OnErr result (Means client (shown L.telling lane.old) (λ _. IsNone) (shown L.telling lane.new)) }
+        Means client (shown_record L.telling lane.old) (λ k. FindMeans k found) (shown_record L.telling lane.new)) }
+    ensures looked { OnErr result (Means client (shown_record L.telling lane.old) (λ _. IsNone) (shown_record L.telling lane.new)) }
 {
     match how {
         Visit::Look => look_on(lane, client),

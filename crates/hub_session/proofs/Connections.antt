@@ -48,7 +48,7 @@ exchange_is None NotAsked old new e = tt
 exchange_is None (Refused why) old new e = absurd e
 exchange_is None (Came outcome) old new e = absurd e
 exchange_is (Some request) NotAsked old new e = absurd e
-exchange_is (Some request) (Refused why) old new e = e.relation.is_rule
+exchange_is (Some request) (Refused why) old new e = tt
 exchange_is (Some request) (Came outcome) old new e = e.relation.short
 
 exchanges_are : (boards : List BoardState) (es : List Exchange) (old new : SeatState) → ExchangesAll boards es old new

@@ -11,13 +11,13 @@ use Rattle.turn_pass.specs.Pass.{Knowledge}
 use Rattle.turn_pass.proofs.Records.{begins_on, begins_self}
 use Rattle.lane_record.specs.declared.item.Item.{Item}
 use Rattle.lane_record.specs.declared.outcome.Outcome.{Outcome}
-use Rattle.lane_record.specs.Coding.{Head, record_of, recorded}
+use Rattle.lane_record.specs.Coding.{Head, record_of, as_recorded}
 use Rattle.lane_record.specs.NextEntry.{ask_of, plan_of}
-use Rattle.hub_lane.specs.declared.answers.PlanRefusal.{PlanRefusal}
 use Rattle.hub_lane.specs.declared.answers.BoardState.{BoardState}
 use Rattle.hub_multiplexer.specs.OwnItems.{planned_by}
 use Rattle.hub_multiplexer.specs.Seats.{ChangesAt, SeatState}
 use Rattle.hub_framing.specs.Frames.{RequestFrame}
+use Rattle.hub_session.specs.declared.got.BodyRefusal.{BodyRefusal}
 use Rattle.hub_session.specs.declared.got.Got.{Got}
 use Rattle.hub_session.specs.declared.got.Got.TheVariants.{NotAsked, Refused, Came}
 use Rattle.hub_session.specs.Exchanges.{Exchange, ExchangesAll, ExchangesFor, HasCome, LaneRequest, WasRefused}
@@ -42,7 +42,7 @@ decided_later r later client before body got on d = record {
 
 -- ---- by one exchange
 
-refused_on : (body : List ℕ) (why : PlanRefusal) (k after : Knowledge) → WasRefused body why k after
+refused_on : (body : List ℕ) (why : BodyRefusal) (k after : Knowledge) → WasRefused body why k after
     → WasDecidedIn after.seen k.number (planned_by k) body (Refused why)
 refused_on body why k after w = record {
   head = w.head;
@@ -50,7 +50,7 @@ refused_on body why k after w = record {
   own = w.own;
   begins = subst (λ (l : List Item). Begins (record_of w.head l) after.seen) (sym (append-nil w.items))
       (subst (Begins (record_of w.head w.items)) (sym w.seen_now) (begins_self (record_of w.head w.items)));
-  decided = (w.is_rule, w.refused);
+  decided = w.refused;
 }
 
 -- a record with one entry more
@@ -59,9 +59,9 @@ one_longer : (head : Head) (items : List Item) (x y : Item)
 one_longer head items x y = record {
   head = refl;
   entries = (
-    map recorded (y ∷ []),
-    ap (map recorded) (sym (append_assoc items (x ∷ []) (y ∷ [])))
-        ∙ map-append recorded (items ++ x ∷ []) (y ∷ []),
+    map as_recorded (y ∷ []),
+    ap (map as_recorded) (sym (append_assoc items (x ∷ []) (y ∷ [])))
+        ∙ map-append as_recorded (items ++ x ∷ []) (y ∷ []),
   );
 }
 

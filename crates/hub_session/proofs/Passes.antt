@@ -1,5 +1,5 @@
 -- What a pass knows of its client's bodies, where each is planned, asked and taken before the next.
-use Rattle.std.proofs.Common.{◌≡◌, ◌≢◌, ℕ, ◌+◌, true, false, ◌==◌, List, [], ◌∷◌, ◌++◌, map, length, Option, Some}
+use Rattle.std.proofs.Common.{◌≡◌, ℕ, ◌+◌, true, false, ◌==◌, List, [], ◌∷◌, ◌++◌, map, length, Option, Some}
 use Rattle.std.proofs.Common.{None, is_some, inl, inr, refl, sym, ap, ◌∙◌, subst, arith, append-nil, append_assoc}
 use Rattle.std.proofs.Common.{length-append, ◌⊎◌, if◌then◌else◌}
 use Rattle.std.proofs.lemmas.Bool.{eq-eqb, eqb-true, cases_lt}
@@ -12,14 +12,13 @@ use Rattle.turn_pass.specs.Pass.{Knowledge, Told}
 use Rattle.turn_pass.proofs.Records.{begins_on, begins_self}
 use Rattle.lane_record.specs.declared.outcome.Outcome.{Outcome}
 use Rattle.lane_record.specs.declared.item.Item.{Item}
-use Rattle.lane_record.specs.Items.{ask_in, asked, found, numbers, plan_in, planned, took_in}
+use Rattle.lane_record.specs.Items.{ask_in, asked_count, told_by_first, numbers, plan_in, planned_count, took_in}
 use Rattle.lane_record.specs.NextEntry.{ask_of, plan_of, took_of}
-use Rattle.lane_record.specs.Coding.{item_from, record_of, recorded}
+use Rattle.lane_record.specs.Coding.{item_from, record_of, as_recorded}
 use Rattle.lane_record.proofs.Coding.{read_item}
 use Rattle.lane_record.proofs.Lookups.{found_append, numbers_append}
 use Rattle.ipb_base.specs.Numbers.{payload_of}
 use Rattle.hub_lane.specs.Plans.{IsRefused}
-use Rattle.hub_lane.specs.declared.answers.PlanRefusal.{PlanRefusal}
 use Rattle.hub_lane.specs.declared.answers.PlanRefusal.TheVariants as refusals
 use Rattle.lane_tables.proofs.TakenRows.{or_right}
 use Rattle.hub_multiplexer.specs.Calls.{Adds, FoundLane, HasSubmitted, HasTaken, IsNone, MadeInTime, PerformMeans}
@@ -28,7 +27,9 @@ use Rattle.hub_multiplexer.specs.declared.answers.Performed.TheVariants as perfo
 use Rattle.hub_multiplexer.specs.OwnItems.{HasTakenAllOf, IsOldestOf, asked_by, own_items, planned_by}
 use Rattle.hub_multiplexer.proofs.AskedAll.{read_back}
 use Rattle.hub_multiplexer.proofs.OwnItems.{own_are, planned_own}
-use Rattle.hub_session.specs.Exchanges.{GrewBy, HasCome, WasRefused}
+use Rattle.hub_session.specs.declared.got.BodyRefusal.{BodyRefusal}
+use Rattle.hub_session.specs.declared.got.BodyRefusal.TheVariants.{Sealed, TooLong, ReplyTooLong, Overfull}
+use Rattle.hub_session.specs.Exchanges.{GrewBy, HasCome, WasRefused, plan_refusal}
 use Rattle.hub_multiplexer.specs.Seats.{ChangesAt, SeatState}
 use Rattle.hub_session.specs.Serving.{HasAskedToo, HasPlannedOnly, Looked, PlannedOnly, Reached, ReachesFor}
 use Rattle.hub_session.specs.Inside.{IsSettled}
@@ -38,7 +39,7 @@ use Rattle.hub_session.specs.Inside.{IsSettled}
 pub mine_read : (k after : Knowledge) (added : List Item) → GrewBy added k after
     → filter_map item_from after.mine ≡ filter_map item_from k.mine ++ added
 mine_read k after added g = ap (filter_map item_from) g.mine_now
-    ∙ (filter_map-append item_from k.mine (map recorded added)
+    ∙ (filter_map-append item_from k.mine (map as_recorded added)
     ∙ ap (λ (l : List Item). filter_map item_from k.mine ++ l) (read_back read_item added))
 
 pub number_same : (k after : Knowledge) (added : List Item) → GrewBy added k after → after.number ≡ k.number
@@ -48,29 +49,29 @@ own_grew : (k after : Knowledge) (added : List Item) → GrewBy added k after �
 own_grew k after added g =
     let opened = made_by k.number k.opening.entries in
     (λ i. filter_map item_from (made_by (g.rest_same i).number (g.rest_same i).opening.entries ++ g.mine_now i))
-    ∙ (ap (filter_map item_from) (sym (append_assoc opened k.mine (map recorded added)))
-    ∙ (filter_map-append item_from (opened ++ k.mine) (map recorded added)
+    ∙ (ap (filter_map item_from) (sym (append_assoc opened k.mine (map as_recorded added)))
+    ∙ (filter_map-append item_from (opened ++ k.mine) (map as_recorded added)
     ∙ ap (λ (l : List Item). own_items k ++ l) (read_back read_item added)))
 
 asked_grew : (k after : Knowledge) (added : List Item) → GrewBy added k after
-    → asked_by after ≡ asked_by k + asked k.number added
+    → asked_by after ≡ asked_by k + asked_count k.number added
 asked_grew k after added g =
-    (λ i. asked (number_same k after added g i) (own_grew k after added g i))
+    (λ i. asked_count (number_same k after added g i) (own_grew k after added g i))
     ∙ (ap length (numbers_append ask_in k.number (own_items k) added)
     ∙ length-append (numbers ask_in k.number (own_items k)) (numbers ask_in k.number added))
 
 pub planned_grew : (k after : Knowledge) (added : List Item) → GrewBy added k after
-    → planned_by after ≡ planned_by k + planned k.number added
+    → planned_by after ≡ planned_by k + planned_count k.number added
 planned_grew k after added g =
-    (λ i. planned (number_same k after added g i) (own_grew k after added g i))
+    (λ i. planned_count (number_same k after added g i) (own_grew k after added g i))
     ∙ (ap length (numbers_append plan_in k.number (own_items k) added)
     ∙ length-append (numbers plan_in k.number (own_items k)) (numbers plan_in k.number added))
 
 took_grew : (k after : Knowledge) (added : List Item) → GrewBy added k after → (seq : ℕ)
-    → found took_in after.number seq (own_items after)
-    ≡ option_or (found took_in k.number seq (own_items k)) (found took_in k.number seq added)
+    → told_by_first took_in after.number seq (own_items after)
+    ≡ option_or (told_by_first took_in k.number seq (own_items k)) (told_by_first took_in k.number seq added)
 took_grew k after added g seq =
-    (λ i. found took_in (number_same k after added g i) seq (own_grew k after added g i))
+    (λ i. told_by_first took_in (number_same k after added g i) seq (own_grew k after added g i))
     ∙ found_append took_in k.number seq (own_items k) added
 
 -- one growth behind another
@@ -78,9 +79,9 @@ pub grew_then : (k mid after : Knowledge) (xs ys : List Item) → GrewBy xs k mi
     → GrewBy (xs ++ ys) k after
 grew_then k mid after xs ys g h = record {
   begins = begins_on k.seen mid.seen after.seen g.begins h.begins;
-  mine_now = h.mine_now ∙ (ap (λ (l : List Recorded). l ++ map recorded ys) g.mine_now
-      ∙ (append_assoc k.mine (map recorded xs) (map recorded ys)
-      ∙ ap (λ (l : List Recorded). k.mine ++ l) (sym (map-append recorded xs ys))));
+  mine_now = h.mine_now ∙ (ap (λ (l : List Recorded). l ++ map as_recorded ys) g.mine_now
+      ∙ (append_assoc k.mine (map as_recorded xs) (map as_recorded ys)
+      ∙ ap (λ (l : List Recorded). k.mine ++ l) (sym (map-append as_recorded xs ys))));
   rest_same = h.rest_same
       ∙ (λ i. record (g.rest_same i) { seen = after.seen; mine = after.mine; vain = after.vain });
 }
@@ -93,12 +94,12 @@ grew_none k =
 found_stays : (k after : Knowledge) (lane : FoundLane) (added : List Item) → Adds k lane added after
     → Begins (record_of lane.head lane.items) after.seen
 found_stays k after lane added a = subst (λ (r : Record). Begins (record_of lane.head lane.items) r) (sym a.seen_now)
-    (record { head = refl; entries = (map recorded added, map-append recorded lane.items added) })
+    (record { head = refl; entries = (map as_recorded added, map-append as_recorded lane.items added) })
 
 -- of the client's Plans the record that the pass found has those of the pass
 own_planned : (k : Knowledge) (lane : FoundLane) → Told k (record_of lane.head lane.items)
-    → planned k.number lane.items ≡ planned_by k
-own_planned k lane told = sym (ap (planned k.number)
+    → planned_count k.number lane.items ≡ planned_by k
+own_planned k lane told = sym (ap (planned_count k.number)
     (own_are read_item k lane.head lane.items (record_of lane.head lane.items) refl told)
     ∙ planned_own k.number lane.items)
 
@@ -107,7 +108,7 @@ pub grew_as : (k after : Knowledge) (lane : FoundLane) (added said : List Item) 
 grew_as k after lane added said a e = record {
   begins = begins_on k.seen (record_of lane.head lane.items) after.seen a.found.seen_begins
       (found_stays k after lane added a);
-  mine_now = a.mine_now ∙ ap (λ (l : List Item). k.mine ++ map recorded l) e;
+  mine_now = a.mine_now ∙ ap (λ (l : List Item). k.mine ++ map as_recorded l) e;
   rest_same = a.rest_same;
 }
 
@@ -115,19 +116,19 @@ grew_as k after lane added said a e = record {
 
 module _ (client seq : ℕ) where
   pub planned_one : (body : List ℕ) (outcome : Outcome) (at took : ℕ)
-      → planned client (plan_of client seq body ∷ ask_of client seq at ∷ took_of client seq outcome took ∷ []) ≡ 1
+      → planned_count client (plan_of client seq body ∷ ask_of client seq at ∷ took_of client seq outcome took ∷ []) ≡ 1
   planned_one body outcome at took = rw (eq-eqb client client refl) refl
 
   asked_one : (body : List ℕ) (outcome : Outcome) (at took : ℕ)
-      → asked client (plan_of client seq body ∷ ask_of client seq at ∷ took_of client seq outcome took ∷ []) ≡ 1
+      → asked_count client (plan_of client seq body ∷ ask_of client seq at ∷ took_of client seq outcome took ∷ []) ≡ 1
   asked_one body outcome at took = rw (eq-eqb client client refl) refl
 
   asked_two : (body : List ℕ) (at : ℕ)
-      → asked client (plan_of client seq body ∷ ask_of client seq at ∷ []) ≡ 1
+      → asked_count client (plan_of client seq body ∷ ask_of client seq at ∷ []) ≡ 1
   asked_two body at = rw (eq-eqb client client refl) refl
 
   none_taken : (body : List ℕ) (at n : ℕ)
-      → found took_in client n (plan_of client seq body ∷ ask_of client seq at ∷ []) ≡ None
+      → told_by_first took_in client n (plan_of client seq body ∷ ask_of client seq at ∷ []) ≡ None
   none_taken body at n = rw (eq-eqb client client refl) (elim (seq == n) as (λ b.
       option_or {T = Outcome} (if b then None else None)
       (option_or {T = Outcome} (if b then None else None) None) ≡ None) [
@@ -136,7 +137,7 @@ module _ (client seq : ℕ) where
       ])
 
   none_taken_of_three : (body : List ℕ) (outcome : Outcome) (at took n : ℕ) → (seq ≡ n → ⊥)
-      → found took_in client n (plan_of client seq body ∷ ask_of client seq at ∷ took_of client seq outcome took ∷ [])
+      → told_by_first took_in client n (plan_of client seq body ∷ ask_of client seq at ∷ took_of client seq outcome took ∷ [])
       ≡ None
   none_taken_of_three body outcome at took n ne = rw (eq-eqb client client refl) (elim (seq == n) as (λ b.
       (seq == n) ≡ b → option_or {T = Outcome} (if b then None else None)
@@ -147,7 +148,7 @@ module _ (client seq : ℕ) where
       ] refl)
 
   taken_of_three : (body : List ℕ) (outcome : Outcome) (at took : ℕ)
-      → is_some (found took_in client seq
+      → is_some (told_by_first took_in client seq
       (plan_of client seq body ∷ ask_of client seq at ∷ took_of client seq outcome took ∷ [])) ≡ true
   taken_of_three body outcome at took = rw (eq-eqb client client refl) (rw (eq-eqb seq seq refl) refl)
 
@@ -177,7 +178,7 @@ module _ (k after : Knowledge) (body : List ℕ) where
       let all = s.all_asked in
       let low = o.is_asked in
       elim (cases_lt seq (asked_by k)) [
-        | inl lt ↦ let yes = some_front (found took_in k.number seq (own_items k)) _ (s.all_taken seq lt) in
+        | inl lt ↦ let yes = some_front (told_by_first took_in k.number seq (own_items k)) _ (s.all_taken seq lt) in
             let none : is_some {T = Outcome} None ≡ true =
             ap is_some (sym o.untaken ∙ took_grew k after _ g seq) ∙ yes in
             absurd cc
@@ -191,7 +192,7 @@ module _ (k after : Knowledge) (body : List ℕ) where
       let one = asked_next at g in
       let all = s.all_asked in
       let n = planned_by k in
-      let none = took_grew k after _ g n ∙ none_both (found took_in k.number n (own_items k)) _
+      let none = took_grew k after _ g n ∙ none_both (told_by_first took_in k.number n (own_items k)) _
       (s.none_more n (omega arith)) (none_taken k.number n body at n) in
       let yes = taken n (omega arith) in
       let no_one : is_some {T = Outcome} None ≡ true = ap is_some (sym none) ∙ yes in
@@ -210,13 +211,13 @@ module _ (k after : Knowledge) (body : List ℕ) where
       ∙ ap (λ (m : ℕ). planned_by k + m) (planned_one k.number n body outcome h.asked_at h.took_at) in record {
         all_asked = a ∙ (ap (λ (m : ℕ). m + 1) all ∙ sym p);
         all_taken = λ m low. ap is_some (took_grew k after _ h.grew m) ∙ elim (cases_lt m (asked_by k)) [
-          | inl lt ↦ some_front (found took_in k.number m (own_items k)) _ (s.all_taken m lt)
+          | inl lt ↦ some_front (told_by_first took_in k.number m (own_items k)) _ (s.all_taken m lt)
           | inr ge ↦ let same : n ≡ m = omega arith in
-              or_right (found took_in k.number m (own_items k)) _
-              (subst (λ (z : ℕ). is_some (found took_in k.number z three) ≡ true) same
+              or_right (told_by_first took_in k.number m (own_items k)) _
+              (subst (λ (z : ℕ). is_some (told_by_first took_in k.number z three) ≡ true) same
               (taken_of_three k.number n body outcome h.asked_at h.took_at))
         ];
-        none_more = λ m ge. took_grew k after _ h.grew m ∙ none_both (found took_in k.number m (own_items k)) _
+        none_more = λ m ge. took_grew k after _ h.grew m ∙ none_both (told_by_first took_in k.number m (own_items k)) _
             (s.none_more m (omega arith)) (none_taken_of_three k.number n body outcome h.asked_at h.took_at m
             (λ same. omega arith));
       }
@@ -228,9 +229,9 @@ settled_looked k after s g =
     let all = s.all_asked in record {
       all_asked = omega arith;
       all_taken = λ n low. ap is_some (took_grew k after [] g n)
-          ∙ some_front (found took_in k.number n (own_items k)) None (s.all_taken n (omega arith));
+          ∙ some_front (told_by_first took_in k.number n (own_items k)) None (s.all_taken n (omega arith));
       none_more = λ n ge. took_grew k after [] g n
-          ∙ none_both (found took_in k.number n (own_items k)) None (s.none_more n (omega arith)) refl;
+          ∙ none_both (told_by_first took_in k.number n (own_items k)) None (s.none_more n (omega arith)) refl;
     }
 
 -- ---- what the calls of the hub say
@@ -280,26 +281,24 @@ asked_too k mid after body seq m n = record {
   grew = grew_then k mid after _ [] (submitted k mid body seq m) (looked mid after n);
 }
 
-refused_as : (k : Knowledge) (body : List ℕ) (why : PlanRefusal) (lane : FoundLane) (added : List Item)
-    → why ≢ refusals.NoMemory → SubmitRefused k body why lane added
-    → (added ≡ []) × IsRefused lane.items (payload_of lane.head.mtu) body why
-refused_as k body refusals.Sealed lane added ne r = r
-refused_as k body refusals.TooLong lane added ne r = r
-refused_as k body refusals.ReplyTooLong lane added ne r = r
-refused_as k body refusals.Overfull lane added ne r = r
-refused_as k body refusals.NoMemory lane added ne r = absurd (ne refl)
+refused_as : (k : Knowledge) (body : List ℕ) (why : BodyRefusal) (lane : FoundLane) (added : List Item)
+    → SubmitRefused k body (plan_refusal why) lane added
+    → (added ≡ []) × IsRefused lane.items (payload_of lane.head.mtu) body (plan_refusal why)
+refused_as k body Sealed lane added r = r
+refused_as k body TooLong lane added r = r
+refused_as k body ReplyTooLong lane added r = r
+refused_as k body Overfull lane added r = r
 
-pub was_refused : (k after : Knowledge) (body : List ℕ) (why : PlanRefusal) → why ≢ refusals.NoMemory
-    → MadeInTime k (SubmitRefused k body why) after → WasRefused body why k after
-was_refused k after body why ne m =
-    let r = refused_as k body why m.lane m.added ne m.meaning in record {
+pub was_refused : (k after : Knowledge) (body : List ℕ) (why : BodyRefusal)
+    → MadeInTime k (SubmitRefused k body (plan_refusal why)) after → WasRefused body why k after
+was_refused k after body why m =
+    let r = refused_as k body why m.lane m.added m.meaning in record {
       head = m.lane.head;
       items = m.lane.items;
       seen_now = m.adds.seen_now
           ∙ ap (record_of m.lane.head) (ap (λ (l : List Item). m.lane.items ++ l) r.0 ∙ append-nil m.lane.items);
       own = own_planned k m.lane m.adds.found;
       refused = r.1;
-      is_rule = ne;
       grew = grew_as k after m.lane m.added [] m.adds r.0;
     }
 

@@ -5,11 +5,11 @@ use Rattle.packet_codec.specs.declared.packet.Order.{Order}
 use Rattle.packet_codec.specs.declared.packet.Packet.{Packet}
 use Rattle.lane_record.specs.declared.outcome.Outcome.{Outcome}
 use Rattle.lane_record.specs.declared.outcome.Outcome.TheVariants.{Replied, TimedOut, Unsent, LinkLost}
-use Rattle.hub_lane.specs.declared.answers.PlanRefusal.{PlanRefusal}
-use Rattle.hub_lane.specs.declared.answers.PlanRefusal.TheVariants.{Sealed, TooLong, ReplyTooLong, Overfull, NoMemory}
 use Rattle.hub_lane.specs.declared.answers.BoardState.{BoardState}
 use Rattle.hub_lane.specs.declared.answers.BoardState.TheVariants.{Lane, Silent, Down}
 use Rattle.hub_framing.specs.Frames.{IsReplyFrame}
+use Rattle.hub_session.specs.declared.got.BodyRefusal.{BodyRefusal}
+use Rattle.hub_session.specs.declared.got.BodyRefusal.TheVariants.{Sealed, TooLong, ReplyTooLong, Overfull}
 use Rattle.hub_session.specs.declared.got.Got.{Got}
 use Rattle.hub_session.specs.declared.got.Got.TheVariants.{NotAsked, Refused, Came}
 use Rattle.hub_session.specs.Answers.{code_alone, refusal_code, reply_of_board, reply_of_outcome}
@@ -29,12 +29,11 @@ of_outcome board order id (TimedOut place rounds) word short = alone board 1 wor
 of_outcome board order id (Replied place words) word short =
     record { board = word; code = omega arith; longest = packet_fits (reply_packet order id words) short }
 
-of_refusal : (board : ℕ) (why : PlanRefusal) → IsWord board → IsReplyFrame (code_alone board (refusal_code why))
+of_refusal : (board : ℕ) (why : BodyRefusal) → IsWord board → IsReplyFrame (code_alone board (refusal_code why))
 of_refusal board TooLong word = alone board 6 word (omega arith)
 of_refusal board ReplyTooLong word = alone board 7 word (omega arith)
 of_refusal board Overfull word = alone board 8 word (omega arith)
 of_refusal board Sealed word = alone board 8 word (omega arith)
-of_refusal board NoMemory word = alone board 8 word (omega arith)
 
 of_board : (board : ℕ) (request : Packet) (state : Option BoardState) (got : Got) → IsWord board
     → IsGotFor (request_in (Some request) state) got

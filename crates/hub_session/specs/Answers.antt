@@ -10,11 +10,11 @@ use Rattle.packet_codec.specs.Packet.{packet_bytes}
 use Rattle.packet_codec.specs.Reading.{packet_of}
 use Rattle.lane_record.specs.declared.outcome.Outcome.{Outcome}
 use Rattle.lane_record.specs.declared.outcome.Outcome.TheVariants.{Replied, TimedOut, Unsent, LinkLost}
-use Rattle.hub_lane.specs.declared.answers.PlanRefusal.{PlanRefusal}
-use Rattle.hub_lane.specs.declared.answers.PlanRefusal.TheVariants.{Sealed, TooLong, ReplyTooLong, Overfull, NoMemory}
 use Rattle.hub_lane.specs.declared.answers.BoardState.{BoardState}
 use Rattle.hub_lane.specs.declared.answers.BoardState.TheVariants.{Lane, Silent, Down}
 use Rattle.hub_framing.specs.Frames.{ReplyFrame, RequestFrame, reply_bytes}
+use Rattle.hub_session.specs.declared.got.BodyRefusal.{BodyRefusal}
+use Rattle.hub_session.specs.declared.got.BodyRefusal.TheVariants.{Sealed, TooLong, ReplyTooLong, Overfull}
 use Rattle.hub_session.specs.declared.got.Got.{Got}
 use Rattle.hub_session.specs.declared.got.Got.TheVariants.{NotAsked, Refused, Came}
 use Rattle.hub_session.specs.Codes.{replied_code, timed_out_code, unsent_code, link_lost_code, bad_packet_code}
@@ -53,14 +53,13 @@ reply_of_outcome board order id (TimedOut place rounds) = code_alone board timed
 reply_of_outcome board order id (Replied place words) =
     record { board = board; code = replied_code; packet = packet_bytes (reply_packet order id words) }
 
--- That planning was closed does not come where no lane was sealed before, as where a session is served; after want of
--- memory there is no answer. These two refusals stand here with that of a full lane.
-abbrev pub refusal_code : PlanRefusal → ℕ
+-- That planning was closed does not come where no lane was sealed before, as where a session is served. It stands here
+-- with the refusal of a full lane.
+abbrev pub refusal_code : BodyRefusal → ℕ
 refusal_code TooLong = body_too_long_code
 refusal_code ReplyTooLong = reply_too_long_code
 refusal_code Overfull = overfull_code
 refusal_code Sealed = overfull_code
-refusal_code NoMemory = overfull_code
 
 -- A board with a lane is always asked, so that the first line does not come.
 abbrev pub reply_of_lane : ℕ → Order → ℕ → Got → ReplyFrame

@@ -1,5 +1,5 @@
 -- Request frames and what the hub came to for each of them. Profile.
-use Rattle.std.specs.Prelude.{◌≡◌, ◌≢◌, ◌==◌, ℕ, ⊤, if◌then◌else◌, List, [], ◌∷◌, ◌++◌, map, Option, Some, None}
+use Rattle.std.specs.Prelude.{◌≡◌, ◌==◌, ℕ, ⊤, if◌then◌else◌, List, [], ◌∷◌, ◌++◌, map, Option, Some, None}
 use Rattle.std.specs.List.{filter_map, flat_map, slice_get}
 use Rattle.packet_codec.specs.declared.packet.Packet.{Packet}
 use Rattle.ipb_base.specs.Numbers.{payload_of}
@@ -7,19 +7,21 @@ use Rattle.turn_pass.specs.Record.{Begins}
 use Rattle.turn_pass.specs.Pass.{Knowledge}
 use Rattle.lane_record.specs.declared.outcome.Outcome.{Outcome}
 use Rattle.lane_record.specs.declared.item.Item.{Item}
-use Rattle.lane_record.specs.Coding.{Head, record_of, recorded}
-use Rattle.lane_record.specs.Items.{planned}
+use Rattle.lane_record.specs.Coding.{Head, record_of, as_recorded}
+use Rattle.lane_record.specs.Items.{planned_count}
 use Rattle.lane_record.specs.NextEntry.{ask_of, plan_of, took_of}
 use Rattle.lane_record.specs.Outcomes.{IsShort}
 use Rattle.lane_record.specs.Submissions.{Submission}
 use Rattle.hub_lane.specs.Plans.{CanPlan, IsRefused}
 use Rattle.hub_lane.specs.declared.answers.PlanRefusal.{PlanRefusal}
-use Rattle.hub_lane.specs.declared.answers.PlanRefusal.TheVariants.{NoMemory}
+use Rattle.hub_lane.specs.declared.answers.PlanRefusal.TheVariants as refusals
 use Rattle.hub_lane.specs.declared.answers.BoardState.{BoardState}
 use Rattle.hub_lane.specs.declared.answers.BoardState.TheVariants.{Lane, Silent, Down}
 use Rattle.hub_multiplexer.specs.OwnItems.{planned_by}
 use Rattle.hub_multiplexer.specs.Seats.{ChangesAt, SeatState}
 use Rattle.hub_framing.specs.Frames.{RequestFrame}
+use Rattle.hub_session.specs.declared.got.BodyRefusal.{BodyRefusal}
+use Rattle.hub_session.specs.declared.got.BodyRefusal.TheVariants.{Sealed, TooLong, ReplyTooLong, Overfull}
 use Rattle.hub_session.specs.declared.got.Got.{Got}
 use Rattle.hub_session.specs.declared.got.Got.TheVariants.{NotAsked, Refused, Came}
 use Rattle.hub_session.specs.Answers.{answer, control_packet}
@@ -64,7 +66,7 @@ IsGotFor None NotAsked = ⊤
 IsGotFor None (Refused why) = ⊥
 IsGotFor None (Came outcome) = ⊥
 IsGotFor (Some request) NotAsked = ⊥
-IsGotFor (Some request) (Refused why) = why ≢ NoMemory
+IsGotFor (Some request) (Refused why) = ⊤
 IsGotFor (Some request) (Came outcome) = IsShort outcome
 
 abbrev pub IsExchange : List BoardState → Exchange → Type 0
@@ -90,18 +92,24 @@ submissions_on boards lane exchanges =
 -- record that it has then seen.
 pub record GrewBy (added : List Item) (k after : Knowledge) : Type 0 where
   pub begins : Begins k.seen after.seen
-  pub mine_now : after.mine ≡ k.mine ++ map recorded added
+  pub mine_now : after.mine ≡ k.mine ++ map as_recorded added
   pub rest_same : after ≡ record k { seen = after.seen; mine = after.mine; vain = after.vain }
+
+-- what a lane tells where it refuses a body so
+abbrev pub plan_refusal : BodyRefusal → PlanRefusal
+plan_refusal Sealed = refusals.Sealed
+plan_refusal TooLong = refusals.TooLong
+plan_refusal ReplyTooLong = refusals.ReplyTooLong
+plan_refusal Overfull = refusals.Overfull
 
 -- The body may not be planned on the record that the pass has then seen, by the first rule that it breaks there. Of the
 -- client's Plans the record has those of the pass. No entry was added.
-pub record WasRefused (body : List ℕ) (why : PlanRefusal) (k after : Knowledge) : Type 0 where
+pub record WasRefused (body : List ℕ) (why : BodyRefusal) (k after : Knowledge) : Type 0 where
   pub head : Head
   pub items : List Item
   pub seen_now : after.seen ≡ record_of head items
-  pub own : planned k.number items ≡ planned_by k
-  pub refused : IsRefused items (payload_of head.mtu) body why
-  pub is_rule : why ≢ NoMemory
+  pub own : planned_count k.number items ≡ planned_by k
+  pub refused : IsRefused items (payload_of head.mtu) body (plan_refusal why)
   pub grew : GrewBy [] k after
 
 -- The body was planned, was asked, and what became of it was taken: these are the entries that were added. The body has
@@ -112,7 +120,7 @@ pub record HasCome (body : List ℕ) (outcome : Outcome) (k after : Knowledge) :
   pub head : Head
   pub items : List Item
   pub found : Begins k.seen (record_of head items)
-  pub own : planned k.number items ≡ planned_by k
+  pub own : planned_count k.number items ≡ planned_by k
   pub can : CanPlan items (payload_of head.mtu) body
   pub asked_at : ℕ
   pub stays : Begins (record_of head (items ++ plan_of k.number (planned_by k) body

@@ -2,10 +2,9 @@
 use Rattle.std.specs.Prelude.{◌≡◌, ◌⊎◌, ℕ, ◌+◌, ◌-◌, ◌≤◌, ◌<◌, ⊤, List, [], ◌∷◌, ◌++◌, length, map, Option, None}
 use Rattle.std.specs.List.{AllByRecursion}
 use Rattle.std.specs.Io.KnownBytes.{append_known, prepend_known}
-use Rattle.ipb_base.specs.Faults.{Rose}
 use Rattle.ipb_base.specs.Numbers.{in_64_bits}
 use Rattle.turn_pass.specs.Pass.{Knowledge}
-use Rattle.lane_record.specs.Items.{found, took_in}
+use Rattle.lane_record.specs.Items.{told_by_first, took_in}
 use Rattle.lane_record.specs.Outcomes.{IsShort}
 use Rattle.hub_lane.specs.declared.answers.BoardState.{BoardState}
 use Rattle.hub_multiplexer.specs.OwnItems.{HasTakenAllOf, asked_by, own_items, planned_by}
@@ -25,7 +24,7 @@ use Rattle.hub_session.specs.Serving.{IsServed, IsUnused, Reached, ReachesFor}
 pub record IsSettled (k : Knowledge) : Type 0 where
   pub all_asked : asked_by k ≡ planned_by k
   pub all_taken : HasTakenAllOf k
-  pub none_more : (seq : ℕ) → asked_by k ≤ seq → found took_in k.number seq (own_items k) ≡ None
+  pub none_more : (seq : ℕ) → asked_by k ≤ seq → told_by_first took_in k.number seq (own_items k) ≡ None
 
 -- the seat is of the same client and the same turns
 abbrev pub IsSameSeat : SeatState → SeatState → Type 0

@@ -20,9 +20,9 @@ use crate::codes::{
     BAD_PACKET, BODY_TOO_LONG, LINK_LOST, NO_BOARD, OVERFULL, REPLIED, REPLY_TOO_LONG, TIMED_OUT,
     UNSENT,
 };
-use crate::got::Got;
+use crate::got::{BodyRefusal, Got};
 use hub_framing::{Frame, append_reply_head};
-use hub_lane::{BoardState, PlanRefusal};
+use hub_lane::BoardState;
 use hub_multiplexer::{Hub, Link, NoMemory, Outcome, Seat};
 use packet_codec::laws::reading_is_the_grammar;
 use packet_codec::{BadPacket, Head, Order, Packet, PacketKind, append_packet, read_packet};
@@ -110,15 +110,14 @@ fn append_outcome(
 }
 
 /// The code of a refusal.
-fn refusal_code(why: PlanRefusal) -> u16
+fn refusal_code(why: BodyRefusal) -> u16
     ensures { result ≡ Answers.refusal_code why }
 {
     match why {
-        PlanRefusal::TooLong => BODY_TOO_LONG,
-        PlanRefusal::ReplyTooLong => REPLY_TOO_LONG,
-        PlanRefusal::Overfull => OVERFULL,
-        PlanRefusal::Sealed => OVERFULL,
-        PlanRefusal::NoMemory => OVERFULL,
+        BodyRefusal::TooLong => BODY_TOO_LONG,
+        BodyRefusal::ReplyTooLong => REPLY_TOO_LONG,
+        BodyRefusal::Overfull => OVERFULL,
+        BodyRefusal::Sealed => OVERFULL,
     }
 }
 

@@ -1,17 +1,18 @@
 //! What the hub comes to for a body.
 
-ghost use Rattle.std.specs.Prelude.{◌≤◌, ◌<◌, length, IfOk, IfSome, OnOk, OnErr};
+ghost use Rattle.std.specs.Prelude.{◌≡◌, ◌≤◌, ◌<◌, length, IfOk, IfSome, OnOk, OnErr};
 ghost use Rattle.std.specs.List.{AllByRecursion, slice_get};
 ghost use Rattle.transaction_codec.specs.declared.room.TheConstants.{LONGEST_BODY};
+ghost use Rattle.hub_lane.specs.declared.answers.PlanRefusal.TheVariants as refusals;
 ghost use Rattle.hub_multiplexer.specs.Calls.{IsNone, MadeInTime, PerformMeans};
 ghost use Rattle.hub_multiplexer.specs.declared.answers.Performed.TheVariants as performs;
 ghost use Rattle.hub_multiplexer.specs.OwnItems.{HasTakenAllOf};
 ghost use Rattle.hub_multiplexer.specs.Seats.{ChangesAt, IsSeatOf};
-ghost use Rattle.hub_session.specs.Exchanges.{ExchangesFor, request_to};
+ghost use Rattle.hub_session.specs.Exchanges.{ExchangesFor, plan_refusal, request_to};
 ghost use Rattle.hub_session.specs.Serving.{IsLaneBelow, Reached, ReachesFor};
 ghost use Rattle.hub_session.specs.Inside.{IsSameSeat, IsSettled};
 
-use crate::got::Got;
+use crate::got::{BodyRefusal, Got};
 use hub_lane::BoardState;
 use hub_multiplexer::{Hub, Link, NoMemory, Outcome, Performed, PlanRefusal, Seat, Words};
 use std::sync::Wait;
@@ -38,6 +39,20 @@ fn take<R: Wait, L: Link + Send>(
     }
 }
 
+/// The rule by which a body may not be planned, unless memory ran out.
+fn rule_of(why: PlanRefusal) -> Result<BodyRefusal, NoMemory>
+    ensures rule { IfOk result (λ rule. plan_refusal rule ≡ why) }
+    ensures memory { OnErr result (why ≡ refusals.NoMemory) }
+{
+    match why {
+        PlanRefusal::Sealed => Ok(BodyRefusal::Sealed),
+        PlanRefusal::TooLong => Ok(BodyRefusal::TooLong),
+        PlanRefusal::ReplyTooLong => Ok(BodyRefusal::ReplyTooLong),
+        PlanRefusal::Overfull => Ok(BodyRefusal::Overfull),
+        PlanRefusal::NoMemory => Err(NoMemory),
+    }
+}
+
 /// Submits a body to a lane, and takes what becomes of it.
 fn submit<R: Wait, L: Link + Send>(
     rt: &R,
@@ -59,12 +74,7 @@ fn submit<R: Wait, L: Link + Send>(
     let reply_words = reply_room(body.as_slice());
     match hub.submit(rt, seat, lane, body, reply_words) {
         Ok(_seq) => Ok(Got::Came(take(rt, hub, seat, lane)?)),
-        Err(why) => {
-            if why == PlanRefusal::NoMemory {
-                return Err(NoMemory);
-            }
-            Ok(Got::Refused(why))
-        }
+        Err(why) => Ok(Got::Refused(rule_of(why)?)),
     }
 }
 

@@ -2,8 +2,8 @@
 
 ghost use Rattle.std.specs.Prelude.{◌≡◌, [], ◌∷◌};
 ghost use Rattle.lane_record.specs.declared.outcome.Outcome.TheVariants as outcomes;
-ghost use Rattle.hub_lane.specs.declared.answers.PlanRefusal.TheVariants as refusals;
 ghost use Rattle.hub_framing.specs.Frames.{frame_bytes};
+ghost use Rattle.hub_session.specs.declared.got.BodyRefusal.TheVariants as refusals;
 ghost use Rattle.hub_session.specs.declared.got.Got.TheVariants as gots;
 ghost use Rattle.hub_session.specs.Answers.{answer};
 ghost use Rattle.hub_session.specs.Examples.{little_read, one_word, read_at, status_request, three_boards, words};

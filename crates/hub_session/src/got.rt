@@ -1,7 +1,19 @@
 //! What the hub came to for a request.
 
-use hub_lane::PlanRefusal;
 use lane_record::Outcome;
+
+/// Why a body may not be planned: the first rule of planning, in this order, that it breaks.
+#[derive(Clone, Copy)]
+pub enum BodyRefusal {
+    /// Planning was closed.
+    Sealed,
+    /// The body with its header is longer than a packet of the board.
+    TooLong,
+    /// Its longest reply with its header is longer than a packet of the board.
+    ReplyTooLong,
+    /// The lane has as many bodies, or as many words of bodies and replies, as it may have.
+    Overfull,
+}
 
 /// What the hub came to for a request frame.
 #[derive(Drop)]
@@ -9,7 +21,7 @@ pub enum Got {
     /// The hub was not asked: the frame has no control packet, there is no such board, or it has no lane.
     NotAsked,
     /// The body may not be planned.
-    Refused(PlanRefusal),
+    Refused(BodyRefusal),
     /// What became of the body.
     Came(Outcome),
 }

@@ -17,7 +17,7 @@ pub use codes::{
     BAD_PACKET, BODY_TOO_LONG, LINK_LOST, NO_BOARD, OVERFULL, REPLIED, REPLY_TOO_LONG, TIMED_OUT,
     UNSENT,
 };
-pub use got::Got;
+pub use got::{BodyRefusal, Got};
 pub use hub_lane::BoardState;
 pub use served::{Served, SessionEnd};
 pub use session::serve_one;

@@ -1,3 +1,5 @@
 pub mod AllLemmas
 pub mod WordLemmas
 pub mod ReadDigits
+pub mod Fronts
+pub mod FrontWords

@@ -186,13 +186,13 @@ module _ (words : List (String Global)) (left : Option (List ℕ)) (made : List 
 module _ (words : List (String Global)) (command : Command) (laws : AreTerms (terms_of command))
     (are : AreCommand words command) where
   -- no link is made by a command that makes none, and where no session was come by
-  pub unmade_by : (P : Type 0) (status : ℕ) → ((terms_of command).makes_links ≡ false → P)
+  unmade_by : (P : Type 0) (status : ℕ) → ((terms_of command).makes_links ≡ false → P)
       → (IsSessionless status → P) → MakesNoLink words status → P
   unmade_by P status unlinked sessionless (inl none) = unlinked (none command are)
   unmade_by P status unlinked sessionless (inr none) = sessionless none
 
   -- nor is the door called by one that lets nobody in
-  pub shut_by : (P : Type 0) (status : ℕ) → ((terms_of command).lets_in ≡ false → P) → (IsSessionless status → P)
+  shut_by : (P : Type 0) (status : ℕ) → ((terms_of command).lets_in ≡ false → P) → (IsSessionless status → P)
       → (status ≡ rack_fault_status → P) → CallsNoDoor words status → P
   shut_by P status shut sessionless unreached (inl none) = shut (none command are)
   shut_by P status shut sessionless unreached (inr (inl none)) = sessionless none
@@ -333,7 +333,7 @@ module _ (words : List (String Global)) (command : Command) (laws : AreTerms (te
           }
 
       -- where no session was come by it is a refusal
-      pub sessionless : (P : Type 0) → (answer.status ≡ refused_status → P)
+      sessionless : (P : Type 0) → (answer.status ≡ refused_status → P)
           → InputLeaves (terms_of command) left left_now made made_now (Ok answer) given
           → Delivers answer.status handed written written_now met meets result → IsSessionless result → P
       sessionless P refused leaves delivers (inl told) =
@@ -348,9 +348,21 @@ module _ (words : List (String Global)) (command : Command) (laws : AreTerms (te
           written_now met meets result read_fault_status leaves.owed delivers told (omega arith)
           (λ e. omega (arith, e)) (λ e. omega (arith, e)))
 
-      pub no_rack_fault : (P : Type 0) → InputLeaves (terms_of command) left left_now made made_now (Ok answer) given
+      no_rack_fault : (P : Type 0) → InputLeaves (terms_of command) left left_now made made_now (Ok answer) given
           → Delivers answer.status handed written written_now met meets result → result ≡ rack_fault_status → P
       no_rack_fault P leaves delivers told =
           absurd (never words command laws are left left_now given answer.status answer.text.items handed same written
           written_now met meets result rack_fault_status leaves.owed delivers told (omega arith)
           (λ e. omega (arith, e)) (λ e. omega (arith, e)))
+
+      -- so what stays alone of the rack and of the door
+      pub unmade : (P : Type 0) → (answer.status ≡ refused_status → P) → ((terms_of command).makes_links ≡ false → P)
+          → InputLeaves (terms_of command) left left_now made made_now (Ok answer) given
+          → Delivers answer.status handed written written_now met meets result → MakesNoLink words result → P
+      unmade P refused unlinked leaves delivers = unmade_by P result unlinked (sessionless P refused leaves delivers)
+
+      pub shut : (P : Type 0) → (answer.status ≡ refused_status → P) → ((terms_of command).lets_in ≡ false → P)
+          → InputLeaves (terms_of command) left left_now made made_now (Ok answer) given
+          → Delivers answer.status handed written written_now met meets result → CallsNoDoor words result → P
+      shut P refused unasked leaves delivers =
+          shut_by P result unasked (sessionless P refused leaves delivers) (no_rack_fault P leaves delivers)

@@ -4,3 +4,4 @@ pub mod Ending
 pub mod Reading
 pub mod Faults
 pub mod Served
+pub mod Answered

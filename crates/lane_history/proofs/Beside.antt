@@ -8,7 +8,7 @@ use Rattle.std.proofs.lemmas.List.Elements.{filter-append}
 use Rattle.lane_record.specs.declared.item.Item.{Item}
 use Rattle.lane_record.specs.declared.item.What.{What}
 use Rattle.lane_record.specs.declared.item.What.TheVariants.{Plan, Seal, Ask, Took}
-use Rattle.lane_record.specs.Items.{and_number, found, give_ups, give_ups_in, is_of, numbers, plan_in}
+use Rattle.lane_record.specs.Items.{and_number, told_by_first, give_ups, give_ups_in, is_of, numbers, plan_in}
 use Rattle.lane_record.specs.Dispatches.{plans_from}
 use Rattle.lane_history.specs.Records.{beside_plans, planned_in}
 use Rattle.lane_history.proofs.Lookups.{IsNot, not_here, no_number}
@@ -50,16 +50,16 @@ plan_alone kind (Ask n) body none e = absurd cc
 plan_alone kind (Took o n) body none e = absurd cc
 
 pub found_beside : {A : Type 0} (kind : What → Option A) (client seq : ℕ) (xs : List Item)
-    → ((b : List ℕ) → kind (Plan b) ≡ None) → found kind client seq xs ≡ found kind client seq (beside_plans xs)
+    → ((b : List ℕ) → kind (Plan b) ≡ None) → told_by_first kind client seq xs ≡ told_by_first kind client seq (beside_plans xs)
 found_beside kind client seq [] none = refl
 found_beside kind client seq (x ∷ xs) none =
     let later = found_beside kind client seq xs none in
     elim (planned_in x) as (λ o. planned_in x ≡ o
-    → found kind client seq (x ∷ xs)
-    ≡ found kind client seq (cond (not (is_some o)) (x ∷ beside_plans xs) (beside_plans xs))) [
+    → told_by_first kind client seq (x ∷ xs)
+    ≡ told_by_first kind client seq (cond (not (is_some o)) (x ∷ beside_plans xs) (beside_plans xs))) [
       | None ↦ λ _. ap (option_or (if is_of client seq x then kind x.what else None)) later
       | Some body ↦ λ e.
-          not_here (is_of client seq x) (kind x.what) (found kind client seq xs)
+          not_here (is_of client seq x) (kind x.what) (told_by_first kind client seq xs)
           (plan_alone kind x.what body none e) ∙ later
     ] refl
 

@@ -16,7 +16,7 @@ use Rattle.transcript.specs.Lines.{board_line, live_line}
 use Rattle.script_plans.specs.Runs.{outcomes_on}
 use Rattle.board_history.specs.GiveUps.{IsExact, time_outs}
 use Rattle.board_history.specs.History.{dispatches_by_client}
-use Rattle.board_history.specs.Runs.{opening_of}
+use Rattle.board_history.specs.Runs.{opens_with}
 use Rattle.lane_history.specs.Links.{LinkReport, board_there}
 use Rattle.lane_history.specs.Receives.{quiets_since_status}
 use Rattle.lane_history.specs.Runs.{AreRunsOver, IsAsTold, IsTrueRun, ShowsScripts}
@@ -33,7 +33,7 @@ Counting = (spec : BoardSpec) (board : ℕ) (scripts : List (List Step)) (run : 
 -- so many datagrams were held, where the link tells
 held_by_line : (settings : Limits) (spec : BoardSpec) (run : BoardRun) (held : ℕ) (telling : Option Telling)
     → time_outs (dispatches_by_client run) ≡ count_by is_timed_out (outcomes_on run)
-    → IfSome (board_there telling) (IsTrueRun settings (opening_of spec.link) run held)
+    → IfSome (board_there telling) (IsTrueRun settings (opens_with spec.link) run held)
     → IfSome telling (λ _. IsExact held
     → settings.rounds * count_by is_timed_out (outcomes_on run) ≤ settings.window * held)
 held_by_line settings spec run held None same told = tt

@@ -7,7 +7,7 @@ use Rattle.lane_record.specs.declared.outcome.Outcome.{Outcome}
 use Rattle.lane_record.specs.declared.outcome.Outcome.TheVariants.{Replied, TimedOut, Unsent, LinkLost}
 use Rattle.lane_record.specs.Outcomes.{is_given_up, is_lost}
 use Rattle.board_history.specs.Parts.{IsReplied, AllReplied}
-use Rattle.lane_record.specs.Dispatches.{joined}
+use Rattle.lane_record.specs.Dispatches.{outcomes_in_order}
 use Rattle.board_history.specs.GiveUps.{was_given_up, times_given_up, GaveUpOnlyAfter}
 use Rattle.lane_history.proofs.Waits.{count_cons}
 
@@ -38,10 +38,10 @@ front_not_lost [] ps all = (tt, all)
 front_not_lost (o ∷ os) ps all = let rest = front_not_lost os ps all.1 in ((all.0, rest.0), rest.1)
 
 client_calm : (dispatches : List (List Outcome)) → times_given_up dispatches ≡ 0
-    → AllByRecursion IsNotLost (joined dispatches) → AllByRecursion IsReplied (joined dispatches)
+    → AllByRecursion IsNotLost (outcomes_in_order dispatches) → AllByRecursion IsReplied (outcomes_in_order dispatches)
 client_calm [] none l = tt
 client_calm (os ∷ later) none l =
-    let parts = front_not_lost os (joined later) l in
+    let parts = front_not_lost os (outcomes_in_order later) l in
     let count = count_cons was_given_up os later in
     let here : was_given_up os ≡ false = elim (was_given_up os) as
     (λ b. cond b 1 0 + times_given_up later ≡ 0 → b ≡ false) [
@@ -49,7 +49,7 @@ client_calm (os ∷ later) none l =
       | false ↦ λ _. refl
     ] (sym count ∙ none) in
     let rest : times_given_up later ≡ 0 = omega (arith, count, none) in
-    AllByRecursion-append IsReplied os (joined later) (dispatch_calm os here parts.0) (client_calm later rest parts.1)
+    AllByRecursion-append IsReplied os (outcomes_in_order later) (dispatch_calm os here parts.0) (client_calm later rest parts.1)
 
 no_times : (cost n : ℕ) → 1 ≤ cost → cost * n ≤ 0 → n ≡ 0
 no_times cost zero some le = refl
@@ -59,7 +59,7 @@ no_times cost (suc n) some le =
 
 clients_calm : (cost : ℕ) (outcomes : List (List (List Outcome))) → 1 ≤ cost
     → AllByRecursion (λ (dispatches : List (List Outcome)). cost * times_given_up dispatches ≤ 0) outcomes
-    → AllByRecursion (AllByRecursion IsNotLost) (map joined outcomes) → AllReplied (map joined outcomes)
+    → AllByRecursion (AllByRecursion IsNotLost) (map outcomes_in_order outcomes) → AllReplied (map outcomes_in_order outcomes)
 clients_calm cost [] some few l = tt
 clients_calm cost (os ∷ others) some few l = (
   client_calm os (no_times cost (times_given_up os) some few.0) l.0,
@@ -68,5 +68,5 @@ clients_calm cost (os ∷ others) some few l = (
 
 pub all_calm : (window cost : ℕ) (outcomes : List (List (List Outcome))) → 1 ≤ cost
     → GaveUpOnlyAfter window cost 0 outcomes
-    → AllByRecursion (AllByRecursion IsNotLost) (map joined outcomes) → AllReplied (map joined outcomes)
+    → AllByRecursion (AllByRecursion IsNotLost) (map outcomes_in_order outcomes) → AllReplied (map outcomes_in_order outcomes)
 all_calm window cost outcomes some patient l = clients_calm cost outcomes some (patient.dispatches (omega arith)) l

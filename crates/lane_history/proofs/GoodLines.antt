@@ -12,7 +12,7 @@ use Rattle.std.proofs.lemmas.Option.{same_Some, slice_get_within}
 use Rattle.mtu_packer.proofs.AnyLemmas.{any_nowhere, any_cases, at_any}
 use Rattle.script_steps.specs.declared.operation.RegOp.{RegOp}
 use Rattle.script_steps.specs.declared.operation.Step.{Step}
-use Rattle.script_steps.specs.Rulings.{Asked, asked, allowed}
+use Rattle.script_steps.specs.Rulings.{Asked, asked_operations, allowed_operations}
 use Rattle.lane_record.specs.declared.outcome.Outcome.{Outcome}
 use Rattle.lane_record.specs.declared.outcome.Outcome.TheVariants.{Replied, TimedOut, Unsent, LinkLost}
 use Rattle.script_plans.specs.declared.greeting.Greeting.{Greeting}
@@ -30,7 +30,7 @@ use Rattle.script_steps.specs.declared.operation.Verb.{Verb}
 use Rattle.transcript.specs.declared.line.OpResult.{OpResult}
 use Rattle.transcript.specs.Claims.{IsDone, IsDoneResult}
 use Rattle.transcript.specs.Ends.{end_of, ends_of, ends_with, told_of, told_timed_out, told_at, result_in, piece_result}
-use Rattle.transcript.specs.Results.{first_not_done, is_good, op_result, shown, shown_not_done, values_in}
+use Rattle.transcript.specs.Results.{first_not_done, is_good, op_result, shown_result, shown_not_done, values_in}
 use Rattle.transcript.specs.Lines.{showing, line_of, lines_behind, client_lines, lines_from}
 use Rattle.transcript.proofs.Allowed.{allowed-append, asked_allowed}
 use Rattle.transcript.proofs.GoodResults.{shown_as_good}
@@ -81,19 +81,19 @@ module _ (runs : List BoardRun) (client board : ℕ) (run : BoardRun) (there : s
       board ops
   counted op ops = sum_by-cons (λ (o : RegOp). cond (o.board == board) 1 0) op ops
 
-  both_counted : (before : List Asked) (ask : Asked) → count_on board (allowed (before ++ ask ∷ []))
-      ≡ count_on board (allowed before) + count_on board (allowed (ask ∷ []))
+  both_counted : (before : List Asked) (ask : Asked) → count_on board (allowed_operations (before ++ ask ∷ []))
+      ≡ count_on board (allowed_operations before) + count_on board (allowed_operations (ask ∷ []))
   both_counted before ask =
       ap (count_on board) (allowed-append before (ask ∷ []))
-      ∙ count_by-append (λ (o : RegOp). o.board == board) (allowed before) (allowed (ask ∷ []))
+      ∙ count_by-append (λ (o : RegOp). o.board == board) (allowed_operations before) (allowed_operations (ask ∷ []))
 
   -- an operation among these that is not denied was good
   abbrev GoodAmong : List Asked → List Asked → Type 0
-  GoodAmong before asks = (k n : ℕ) → count_on board (allowed before) ≡ n → k < count_on board (allowed asks)
+  GoodAmong before asks = (k n : ℕ) → count_on board (allowed_operations before) ≡ n → k < count_on board (allowed_operations asks)
       → AllByRecursion IsGood (lines_behind runs client before asks) → WasGood run client (n + k)
 
   here_or_later : (before : List Asked) (op : RegOp) (asks : List Asked) (k n : ℕ) → op.board ≡ board
-      → count_on board (allowed before) ≡ n
+      → count_on board (allowed_operations before) ≡ n
       → AllByRecursion IsGood (lines_behind runs client before (record { op = op; denied = None } ∷ asks))
       → ((j : ℕ) → k ≡ suc j → WasGood run client (n + k)) → WasGood run client (n + k)
   here_or_later before op asks zero n same count all later =
@@ -101,8 +101,8 @@ module _ (runs : List BoardRun) (client board : ℕ) (run : BoardRun) (there : s
       let at : slice_get runs op.board ≡ Some run = ap (λ b. slice_get runs b) same ∙ there in
       let good = first_good before ask (lines_behind runs client (before ++ ask ∷ []) asks)
       (slice_get runs op.board) at all in
-      let number : count_on op.board (allowed before) ≡ n + 0 =
-      ap (λ b. count_on b (allowed before)) same ∙ (count ∙ omega arith) in
+      let number : count_on op.board (allowed_operations before) ≡ n + 0 =
+      ap (λ b. count_on b (allowed_operations before)) same ∙ (count ∙ omega arith) in
       record { op = op; good = subst (λ m. is_good (showing run client m op).0 ≡ true) number good }
   here_or_later before op asks (suc j) n same count all later = later j refl
 
@@ -117,7 +117,7 @@ module _ (runs : List BoardRun) (client board : ℕ) (run : BoardRun) (there : s
       let ask : Asked = record { op = op; denied = None } in
       let longer = both_counted before ask in
       let last = counted op [] in
-      let whole = counted op (allowed asks) in
+      let whole = counted op (allowed_operations asks) in
       let rest = rest_good before ask (lines_behind runs client (before ++ ask ∷ []) asks)
       (slice_get runs op.board) all in
       elim (cases_Bool (op.board == board)) [
@@ -190,7 +190,7 @@ op_good : (ends : List BodyEnd) (op : RegOp) (pieces : List PieceAt) → is_good
     → first_not_done (map (piece_result ends) pieces) ≡ None
 op_good ends op pieces good =
     none_bad op.verb op.mask (map (piece_result ends) pieces)
-    (shown op.verb op.mask (flat_map values_in (map (piece_result ends) pieces)))
+    (shown_result op.verb op.mask (flat_map values_in (map (piece_result ends) pieces)))
     (first_not_done (map (piece_result ends) pieces)) refl good
 
 -- ---- from pieces to bodies
@@ -250,7 +250,7 @@ module _ (law : (payload board : ℕ) (steps : List Step) (body : ℕ)
         let found = at_any (Any (λ (p : PieceAt). p.body ≡ j)) part.planned.pieces has in
         let count : length part.planned.pieces ≡ count_on board (operations steps) =
         ap (λ (p : ClientBodies). length p.pieces) planned ∙ each_has_pieces payload board steps in
-        let below : found.0 < count_on board (allowed (asked steps)) =
+        let below : found.0 < count_on board (allowed_operations (asked_operations steps)) =
         omega (
           arith,
           count,
@@ -259,7 +259,7 @@ module _ (law : (payload board : ℕ) (steps : List Step) (body : ℕ)
         ) in
         let first : 0 + found.0 ≡ found.0 = omega arith in
         let was : WasGood run client found.0 = subst (λ n. WasGood run client n) first
-        (among runs client board run there [] (asked steps) found.0 0 refl below all) in
+        (among runs client board run there [] (asked_operations steps) found.0 0 refl below all) in
         let good = shown_good run client found.0 payload was.op part found.1 greeted at found.2 was.good in
         told_good (ends_of part) j end ended found.1 (op_good (ends_of part) was.op found.1 good) found.3)
 

@@ -16,12 +16,12 @@ use Rattle.lane_record.specs.declared.outcome.Outcome.{Outcome}
 use Rattle.lane_record.specs.declared.outcome.Outcome.TheVariants.{Replied, TimedOut, Unsent, LinkLost}
 use Rattle.lane_record.specs.declared.item.Item.{Item}
 use Rattle.lane_record.specs.Outcomes.{AreSettled, place_of}
-use Rattle.lane_record.specs.Claims.{Claim, claims, taken, outcome_taken, IsFinished}
+use Rattle.lane_record.specs.Claims.{Claim, claims, taken_outcomes, outcome_taken, IsFinished}
 use Rattle.lane_record.specs.Legal.{IsLegal}
 use Rattle.lane_record.specs.Lates.{late_in}
 use Rattle.lane_record.specs.Offers.{offers_from}
 use Rattle.lane_record.proofs.Finished.{outcomes_taken}
-use Rattle.board_history.specs.Order.{Placed, with_place, order, bodies_of}
+use Rattle.board_history.specs.Order.{Placed, with_place, order, bodies_in}
 use Rattle.board_history.specs.Parts.{IsReplyOf, IsExecuted, IsExecutedOnce, AreRepliesOf, AreLateRepliesOf}
 use Rattle.lane_history.specs.Lanes.{bodies_offered, IsTrueOf}
 use Rattle.lane_history.specs.Lates.{AreLatesOf}
@@ -71,7 +71,7 @@ pub became_outcomes : (P : Outcome → Type 0) (items : List Item) (became : Lis
     → IsLegal items became → IsFinished items
     → ((k : ℕ) (o : Outcome) → slice_get became k ≡ Some (Some o) → P o)
     → AllByRecursion (λ (s : Step). P s.outcome) (steps items)
-became_outcomes P items became legal done all = steps_outcomes P (claims items) (taken items)
+became_outcomes P items became legal done all = steps_outcomes P (claims items) (taken_outcomes items)
     (subst (AllByRecursion (λ (o : Option Outcome). IfSome o P)) (outcomes_taken items became legal done)
     (all_at (λ (o : Option Outcome). IfSome o P) became
     (λ k o e. if_there P o (λ p same. all k p (e ∙ ap (λ z. Some z) same)))))
@@ -96,27 +96,27 @@ abbrev pub offered_body : Offered → List ℕ
 offered_body o = o.body
 
 one_offered : (n : ℕ) (body : List ℕ) (place : Option ℕ) (rest : List Offered) (ps : List Placed)
-    → map offered_body rest ≡ bodies_of ps
+    → map offered_body rest ≡ bodies_in ps
     → map offered_body (if is_some place then record { tag = n; body = body } ∷ rest else rest)
-    ≡ bodies_of (with_place body place ++ ps)
+    ≡ bodies_in (with_place body place ++ ps)
 one_offered n body None rest ps e = e
 one_offered n body (Some place) rest ps e = ap (λ (bs : List (List ℕ)). body ∷ bs) e
 
 offered_sent : (n : ℕ) (f : Claim → Option Outcome) (cs : List Claim)
     → AllByRecursion (λ (c : Claim). (o : Outcome) × (f c ≡ Some o)) cs
-    → map offered_body (offers_from n cs (map f cs)) ≡ bodies_of (sent (steps_of cs (map f cs)))
+    → map offered_body (offers_from n cs (map f cs)) ≡ bodies_in (sent (steps_of cs (map f cs)))
 offered_sent n f [] all = refl
 offered_sent n f (c ∷ cs) all =
     let os = map f cs in
     let later = one_offered n c.body (place_of all.0.0) (offers_from (n + 1) cs os) (sent (steps_of cs os))
     (offered_sent (n + 1) f cs all.1) in
     subst (λ (o : Option Outcome). map offered_body (offers_from n (c ∷ cs) (o ∷ os))
-    ≡ bodies_of (sent (steps_of (c ∷ cs) (o ∷ os)))) (sym all.0.1)
+    ≡ bodies_in (sent (steps_of (c ∷ cs) (o ∷ os)))) (sym all.0.1)
     (subst (λ (o : Option Outcome). map offered_body (offers_from n (c ∷ cs) (Some all.0.0 ∷ os))
-    ≡ bodies_of (sent (steps_of (c ∷ cs) (Some all.0.0 ∷ os)))) all.0.1 later)
+    ≡ bodies_in (sent (steps_of (c ∷ cs) (Some all.0.0 ∷ os)))) all.0.1 later)
 
 pub offered_are_sent : (items : List Item) (became : List (Option Outcome)) → IsLegal items became → IsFinished items
-    → bodies_offered (claims items) became ≡ bodies_of (sent (steps items))
+    → bodies_offered (claims items) became ≡ bodies_in (sent (steps items))
 offered_are_sent items became legal done =
     ap (bodies_offered (claims items)) (outcomes_taken items became legal done)
     ∙ offered_sent 0 (outcome_taken items) (claims items) done
@@ -160,7 +160,7 @@ reply_executed opening done (LinkLost place) is = tt
 -- place.
 pub record IsTrueOfSteps (opening : CellMap) (ss : List Step) (lates : List (Option (List ℕ)))
     (done : List (List ℕ)) : Type 0 where
-  pub front : IsPrefix done (bodies_of (sent ss))
+  pub front : IsPrefix done (bodies_in (sent ss))
   pub replies : AllByRecursion (λ (s : Step). IsReplyOf (replay opening done).replies s.outcome) ss
   pub late : (place : ℕ) (words : List ℕ) → late_in lates place ≡ Some words
       → at_place (replay opening done).replies place ≡ Some words
@@ -180,7 +180,7 @@ module _ (bodies : List (List (List ℕ))) (outcomes : List (List Outcome)) (ss 
   pub executed_once : (shown : List (List (Option (List ℕ)))) → AreLatesOf lates outcomes shown
       → IsExecutedOnce (order bodies outcomes) outcomes shown done
   executed_once shown of_lane = record {
-    front = subst (λ (ps : List Placed). IsPrefix done (bodies_of ps)) (sym (order_is bodies outcomes ss are counts))
+    front = subst (λ (ps : List Placed). IsPrefix done (bodies_in ps)) (sym (order_is bodies outcomes ss are counts))
         is.front;
     replied = each_outcome (IsExecuted (length done)) bodies outcomes ss are
         (all-map (λ (s : Step). IsReplyOf (replay opening done).replies s.outcome)
@@ -193,7 +193,7 @@ module _ (bodies : List (List (List ℕ))) (outcomes : List (List Outcome)) (ss 
 
   pub replies_of : AreRepliesOf opening (order bodies outcomes) outcomes
   replies_of =
-      let all = bodies_of (sent ss) in
+      let all = bodies_in (sent ss) in
       subst (λ (ps : List Placed). AreRepliesOf opening ps outcomes) (sym (order_is bodies outcomes ss are counts))
       (each_outcome (IsReplyOf (replay opening all).replies) bodies outcomes ss are
       (all-map (λ (s : Step). IsReplyOf (replay opening done).replies s.outcome)
@@ -203,7 +203,7 @@ module _ (bodies : List (List (List ℕ))) (outcomes : List (List Outcome)) (ss 
   pub late_replies_of : (shown : List (List (Option (List ℕ)))) → AreLatesOf lates outcomes shown
       → AreLateRepliesOf opening (order bodies outcomes) outcomes shown
   late_replies_of shown of_lane =
-      let all = bodies_of (sent ss) in
+      let all = bodies_in (sent ss) in
       subst (λ (ps : List Placed). AreLateRepliesOf opening ps outcomes shown)
       (sym (order_is bodies outcomes ss are counts))
       (late_replies lates (replay opening all).replies

@@ -30,11 +30,11 @@ use Rattle.transcript.specs.declared.line.LateAnswer.TheVariants as late_answer
 use Rattle.transcript.specs.declared.line.OpResult.{OpResult}
 use Rattle.transcript.specs.declared.line.OpResult.TheVariants as result
 use Rattle.script_plans.specs.Plan.{AreSpelled, plans_on}
-use Rattle.board_history.specs.Order.{Placed, with_place, placed, all_placed, order, bodies_of}
+use Rattle.board_history.specs.Order.{Placed, with_place, bodies_with_places, all_placed, order, bodies_in}
 use Rattle.board_history.specs.Parts.{AreBeside, IsLateReplyOf, IsReplyOf, IsReplied}
 use Rattle.board_history.specs.History.{ShowsHistory, bodies_by_client, outcomes_by_client}
 use Rattle.board_history.proofs.Sorting.{all_sorted, sorted_all}
-use Rattle.board_history.specs.Runs.{CanRun, RunsHere, greeting_of, opening_of}
+use Rattle.board_history.specs.Runs.{CanRun, RunsHere, greeting_of, opens_with}
 use Rattle.board_history.specs.Answering.{AsksRequests, AskRequests}
 use Rattle.board_history.specs.Lines.{IsBusResult}
 use Rattle.board_history.proofs.Answering.{Answering, AnsweringAny, Keeping, KeepingAll, Garbling, Joins}
@@ -123,11 +123,11 @@ module _ (P : OpResult → Type 0) (answering : Answering) (any : AnsweringAny) 
   -- ---- a client
 
   one_fine : (opening : CellMap) (ps : List Placed) (body : List ℕ) (outcome : Outcome) (late : Option (List ℕ))
-      → HoldsWords opening → AllByRecursion AreWords (bodies_of ps) → AreSpelled (body ∷ [])
+      → HoldsWords opening → AllByRecursion AreWords (bodies_in ps) → AreSpelled (body ∷ [])
       → AllByRecursion (StandsIn ps) (with_place body (place_of outcome))
-      → IsReplyOf (replay opening (bodies_of ps)).replies outcome → IsReplied outcome → IsFine P body outcome late
+      → IsReplyOf (replay opening (bodies_in ps)).replies outcome → IsReplied outcome → IsFine P body outcome late
   one_fine opening ps body (Replied place words) late holds all spelled stand reply replied =
-      inl (reply_told answering any keeping keeping_all garbling joins opening (bodies_of ps) place body words holds all
+      inl (reply_told answering any keeping keeping_all garbling joins opening (bodies_in ps) place body words holds all
       spelled.0 (at_map (λ (p : Placed). p.body) ps place (record { place = place; body = body }) stand.0) reply)
   one_fine opening ps body (TimedOut place rounds) late holds all spelled stand reply replied = absurd replied
   one_fine opening ps body Unsent late holds all spelled stand reply replied = absurd replied
@@ -135,15 +135,15 @@ module _ (P : OpResult → Type 0) (answering : Answering) (any : AnsweringAny) 
 
   -- a late answer is one to its body
   late_fine : (opening : CellMap) (ps : List Placed) (body : List ℕ) (outcome : Outcome) (late : Option (List ℕ))
-      → HoldsWords opening → AllByRecursion AreWords (bodies_of ps) → AreSpelled (body ∷ [])
+      → HoldsWords opening → AllByRecursion AreWords (bodies_in ps) → AreSpelled (body ∷ [])
       → AllByRecursion (StandsIn ps) (with_place body (place_of outcome))
-      → IsLateReplyOf (replay opening (bodies_of ps)).replies outcome late → MayBeLate P outcome late
+      → IsLateReplyOf (replay opening (bodies_in ps)).replies outcome late → MayBeLate P outcome late
       → IsToldLate P body outcome late
   late_fine opening ps body outcome late holds all spelled stand right may =
       let stands = subst (λ (o : Outcome). AllByRecursion (StandsIn ps) (with_place body (place_of o))) may.is stand in
       let is = late_told answering any keeping keeping_all garbling joins opening ps body may.place' may.rounds late
       holds all spelled.0 stands.0
-      (subst (λ (o : Outcome). IsLateReplyOf (replay opening (bodies_of ps)).replies o late) may.is right) may.words
+      (subst (λ (o : Outcome). IsLateReplyOf (replay opening (bodies_in ps)).replies o late) may.is right) may.words
       may.came in
       let same : is.words ≡ may.words = let replied = is.is in cc in
       record {
@@ -159,10 +159,10 @@ module _ (P : OpResult → Type 0) (answering : Answering) (any : AnsweringAny) 
       }
 
   client_fine : (opening : CellMap) (ps : List Placed) (bodies : List (List ℕ)) (outcomes : List Outcome)
-      (lates : List (Option (List ℕ))) → HoldsWords opening → AllByRecursion AreWords (bodies_of ps)
-      → AreSpelled bodies → AllByRecursion (StandsIn ps) (placed bodies outcomes)
-      → AllByRecursion (IsReplyOf (replay opening (bodies_of ps)).replies) outcomes
-      → AreBeside (IsLateReplyOf (replay opening (bodies_of ps)).replies) outcomes lates
+      (lates : List (Option (List ℕ))) → HoldsWords opening → AllByRecursion AreWords (bodies_in ps)
+      → AreSpelled bodies → AllByRecursion (StandsIn ps) (bodies_with_places bodies outcomes)
+      → AllByRecursion (IsReplyOf (replay opening (bodies_in ps)).replies) outcomes
+      → AreBeside (IsLateReplyOf (replay opening (bodies_in ps)).replies) outcomes lates
       → AllByRecursion (MayBe P) outcomes → length outcomes ≡ length bodies
       → BothWith (IsFine P) bodies outcomes lates
   client_fine opening ps [] [] lates holds all spelled stand replies right may same = tt
@@ -172,9 +172,9 @@ module _ (P : OpResult → Type 0) (answering : Answering) (any : AnsweringAny) 
       absurd (omega (arith, same))
   client_fine opening ps (b ∷ bs) (o ∷ os) lates holds all spelled stand replies right may same =
       let mine = with_place b (place_of o) in
-      let rest = placed bs os in
+      let rest = bodies_with_places bs os in
       let late = get_or lates 0 None in
-      let is = IsLateReplyOf (replay opening (bodies_of ps)).replies in
+      let is = IsLateReplyOf (replay opening (bodies_in ps)).replies in
       let stands = front_of_all (StandsIn ps) mine rest stand in (
         elim (may.0 b late) [
           | inl replied ↦ one_fine opening ps b o late holds all (spelled.0, tt) stands replies.0 replied
@@ -187,19 +187,19 @@ module _ (P : OpResult → Type 0) (answering : Answering) (any : AnsweringAny) 
       )
 
   parts_fine : (standing : Standing) (opening : CellMap) (ps : List Placed) (parts : List ClientPart)
-      → HoldsWords opening → AllByRecursion AreWords (bodies_of ps) → AllByRecursion AsksRequests parts
+      → HoldsWords opening → AllByRecursion AreWords (bodies_in ps) → AllByRecursion AsksRequests parts
       → AllByRecursion (StandsIn ps) (all_placed (map (λ (p : ClientPart). p.planned.bodies) parts)
       (map (λ (p : ClientPart). p.outcomes) parts))
-      → AllByRecursion (AllByRecursion (IsReplyOf (replay opening (bodies_of ps)).replies))
+      → AllByRecursion (AllByRecursion (IsReplyOf (replay opening (bodies_in ps)).replies))
       (map (λ (p : ClientPart). p.outcomes) parts)
-      → AreBeside (AreBeside (IsLateReplyOf (replay opening (bodies_of ps)).replies))
+      → AreBeside (AreBeside (IsLateReplyOf (replay opening (bodies_in ps)).replies))
       (map (λ (p : ClientPart). p.outcomes) parts) (map (λ (p : ClientPart). p.lates) parts)
       → AllByRecursion (AllByRecursion (MayBe P)) (map (λ (p : ClientPart). p.outcomes) parts)
       → map length (map (λ (p : ClientPart). p.outcomes) parts)
       ≡ map length (map (λ (p : ClientPart). p.planned.bodies) parts) → AllByRecursion (FinePart P) parts
   parts_fine standing opening ps [] holds all asks stand replies right may long = tt
   parts_fine standing opening ps (p ∷ parts) holds all asks stand replies right may long =
-      let mine = placed p.planned.bodies p.outcomes in
+      let mine = bodies_with_places p.planned.bodies p.outcomes in
       let rest = all_placed (map (λ (q : ClientPart). q.planned.bodies) parts)
       (map (λ (q : ClientPart). q.outcomes) parts) in
       let here = lengths standing p parts long in (
@@ -238,7 +238,7 @@ module _ (P : OpResult → Type 0) (answering : Answering) (any : AnsweringAny) 
       record {
         live = greeted;
         plans' = plans;
-        told = history_fine standing (opening_of spec.link) run ready.words asks history
+        told = history_fine standing (opens_with spec.link) run ready.words asks history
             (may.outcomes payload greeted);
         packed' = packed;
       }

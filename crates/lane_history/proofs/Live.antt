@@ -6,7 +6,7 @@ use Rattle.std.specs.List.{AllByRecursion, count_by, flat_map, slice_get}
 use Rattle.std.proofs.lemmas.List.Folds.{flat_map-map}
 use Rattle.board_bus.specs.Cells.{CellMap}
 use Rattle.board_node.specs.declared.spec.BoardSpec.{BoardSpec}
-use Rattle.world_model.specs.Board.{Board, executed}
+use Rattle.world_model.specs.Board.{Board, bodies_executed}
 use Rattle.world_model.proofs.Lists.{all_get}
 use Rattle.world_model.specs.Settings.{Limits}
 use Rattle.world_core.specs.Telling.{Telling}
@@ -16,7 +16,7 @@ use Rattle.lane_record.specs.declared.outcome.Outcome.{Outcome}
 use Rattle.lane_record.specs.declared.outcome.Outcome.TheVariants.{Replied, TimedOut, Unsent, LinkLost}
 use Rattle.lane_record.specs.declared.item.Item.{Item}
 use Rattle.lane_record.specs.Outcomes.{TellsRounds, is_replied}
-use Rattle.lane_record.specs.Claims.{claims, taken}
+use Rattle.lane_record.specs.Claims.{claims, taken_outcomes}
 use Rattle.lane_record.specs.FirstSends.{bodies_sent, first_sends}
 use Rattle.lane_record.specs.Legal.{IsLegal}
 use Rattle.lane_record.specs.Bounds.{AreLostOnlyIf, HasReached, IsKept, TellRounds}
@@ -26,13 +26,13 @@ use Rattle.script_plans.specs.declared.board_run.ClientPart.{ClientPart}
 use Rattle.script_plans.specs.declared.board_run.BoardRun.{BoardRun}
 use Rattle.script_plans.specs.Runs.{outcomes_on}
 use Rattle.board_history.specs.GiveUps.{IsExact}
-use Rattle.board_history.specs.Order.{order, bodies_of}
+use Rattle.board_history.specs.Order.{order, bodies_in}
 use Rattle.board_history.specs.Parts.{HasOneOrder, KeepsScripts, IsExecutedOnce, AreRepliesOf, AreLateRepliesOf}
 use Rattle.board_history.specs.History.{IsHistory, bodies_by_client, outcomes_by_client, dispatches_by_client}
 use Rattle.board_history.specs.History.{dispatches_of, lates_by_client}
-use Rattle.lane_record.specs.Dispatches.{joined}
+use Rattle.lane_record.specs.Dispatches.{outcomes_in_order}
 use Rattle.script_plans.specs.Plan.{plans_on}
-use Rattle.board_history.specs.Runs.{opening_of}
+use Rattle.board_history.specs.Runs.{opens_with}
 use Rattle.board_history.proofs.Shaped.{Standing, is_cut, whole_again, heads, lengths, IsCut}
 use Rattle.lane_history.specs.Links.{LinkReport, HasFailed, IsBoardOf, IsLostOnlyIfFailed, board_there}
 use Rattle.lane_history.specs.Runs.{ShowsScripts, TellsPayload, IsTrueRun, IsLiveRun, IsAsTold, IsRunOver}
@@ -58,7 +58,7 @@ module _ (standing : Standing) where
       → map (λ (p : ClientPart). p.planned) parts ≡ plans_on board told scripts
       → map length (map (λ (p : ClientPart). p.outcomes) parts)
       ≡ map length (map (λ (p : ClientPart). p.planned.bodies) parts)
-      → map joined (map dispatches_of parts) ≡ map (λ (p : ClientPart). p.outcomes) parts
+      → map outcomes_in_order (map dispatches_of parts) ≡ map (λ (p : ClientPart). p.outcomes) parts
   parts_joined board told [] [] plans long = refl
   parts_joined board told [] (part ∷ parts) plans long = absurd cc
   parts_joined board told (steps ∷ scripts) [] plans long = absurd cc
@@ -66,13 +66,13 @@ module _ (standing : Standing) where
       let head = heads standing board told steps scripts part parts plans in
       let here = lengths standing part parts long in
       let cut = subst IsCut (sym head.plan') (is_cut standing board told steps) in
-      ap (λ (os : List Outcome). os ∷ map joined (map dispatches_of parts))
+      ap (λ (os : List Outcome). os ∷ map outcomes_in_order (map dispatches_of parts))
       (whole_again standing part.planned part.outcomes cut here.first)
       ∙ ap (λ (oss : List (List Outcome)). part.outcomes ∷ oss)
       (parts_joined board told scripts parts head.plans' here.rest)
 
   pub run_joined : (spec : BoardSpec) (board : ℕ) (scripts : List (List Step)) (run : BoardRun)
-      → ShowsScripts spec board scripts run → map joined (dispatches_by_client run) ≡ outcomes_by_client run
+      → ShowsScripts spec board scripts run → map outcomes_in_order (dispatches_by_client run) ≡ outcomes_by_client run
   run_joined spec board scripts run shows =
       parts_joined board run.greeting scripts run.parts shows.plans shows.shape
 
@@ -80,26 +80,26 @@ abbrev in_one : List (List Outcome) → List Outcome
 in_one lists = flat_map (λ outcomes. outcomes) lists
 
 -- they are those that the line of the board counts
-pub in_line : (run : BoardRun) → map joined (dispatches_by_client run) ≡ outcomes_by_client run
-    → flat_map joined (dispatches_by_client run) ≡ outcomes_on run
+pub in_line : (run : BoardRun) → map outcomes_in_order (dispatches_by_client run) ≡ outcomes_by_client run
+    → flat_map outcomes_in_order (dispatches_by_client run) ≡ outcomes_on run
 in_line run same =
-    sym (flat_map-map (λ (os : List Outcome). os) joined (dispatches_by_client run)) ∙ ap in_one same
+    sym (flat_map-map (λ (os : List Outcome). os) outcomes_in_order (dispatches_by_client run)) ∙ ap in_one same
     ∙ flat_map-map (λ (os : List Outcome). os) (λ (part : ClientPart). part.outcomes) run.parts
 
 -- ---- the parts
 
 pub in_one_order : (bodies : List (List (List ℕ))) (outcomes : List (List (List Outcome))) (items : List Item)
     (became : List (Option Outcome)) → IsRecordOf bodies outcomes items → IsLegal items became
-    → HasOneOrder bodies (map joined outcomes)
+    → HasOneOrder bodies (map outcomes_in_order outcomes)
 in_one_order bodies outcomes items became is legal =
-    one_order bodies (map joined outcomes) (steps items) (steps_of_all bodies outcomes items became is legal)
+    one_order bodies (map outcomes_in_order outcomes) (steps items) (steps_of_all bodies outcomes items became is legal)
     (in_order items became legal (finished bodies outcomes items became is legal))
 
 pub in_script_order : (bodies : List (List (List ℕ))) (outcomes : List (List (List Outcome))) (items : List Item)
     (became : List (Option Outcome)) → IsRecordOf bodies outcomes items → IsLegal items became
-    → KeepsScripts bodies (map joined outcomes)
+    → KeepsScripts bodies (map outcomes_in_order outcomes)
 in_script_order bodies outcomes items became is legal =
-    keeps_scripts bodies (map joined outcomes) (steps items) (steps_of_all bodies outcomes items became is legal)
+    keeps_scripts bodies (map outcomes_in_order outcomes) (steps items) (steps_of_all bodies outcomes items became is legal)
     (in_order items became legal (finished bodies outcomes items became is legal))
 
 -- ---- over a link that tells
@@ -114,30 +114,30 @@ module _ (bodies : List (List (List ℕ))) (outcomes : List (List (List Outcome)
   truth : IsTrueOfSteps opening (steps items) lates done
   truth = true_steps opening items became lates done legal (finished bodies outcomes items became is legal) true'
 
-  pub done_once : (shown : List (List (Option (List ℕ)))) → AreLatesOf lates (map joined outcomes) shown
-      → IsExecutedOnce (order bodies (map joined outcomes)) (map joined outcomes) shown done
-  done_once shown of_lane = executed_once bodies (map joined outcomes) (steps items) opening lates done
+  pub done_once : (shown : List (List (Option (List ℕ)))) → AreLatesOf lates (map outcomes_in_order outcomes) shown
+      → IsExecutedOnce (order bodies (map outcomes_in_order outcomes)) (map outcomes_in_order outcomes) shown done
+  done_once shown of_lane = executed_once bodies (map outcomes_in_order outcomes) (steps items) opening lates done
       (steps_of_all bodies outcomes items became is legal) ordered_steps truth shown of_lane
 
-  pub are_replies : AreRepliesOf opening (order bodies (map joined outcomes)) (map joined outcomes)
-  are_replies = replies_of bodies (map joined outcomes) (steps items) opening lates done
+  pub are_replies : AreRepliesOf opening (order bodies (map outcomes_in_order outcomes)) (map outcomes_in_order outcomes)
+  are_replies = replies_of bodies (map outcomes_in_order outcomes) (steps items) opening lates done
       (steps_of_all bodies outcomes items became is legal) ordered_steps truth
 
-  pub are_late_replies : (shown : List (List (Option (List ℕ)))) → AreLatesOf lates (map joined outcomes) shown
-      → AreLateRepliesOf opening (order bodies (map joined outcomes)) (map joined outcomes) shown
-  are_late_replies shown of_lane = late_replies_of bodies (map joined outcomes) (steps items) opening lates done
+  pub are_late_replies : (shown : List (List (Option (List ℕ)))) → AreLatesOf lates (map outcomes_in_order outcomes) shown
+      → AreLateRepliesOf opening (order bodies (map outcomes_in_order outcomes)) (map outcomes_in_order outcomes) shown
+  are_late_replies shown of_lane = late_replies_of bodies (map outcomes_in_order outcomes) (steps items) opening lates done
       (steps_of_all bodies outcomes items became is legal) ordered_steps truth shown of_lane
 
 same_lengths : (outcomes : List (List (List Outcome)))
-    → map length (map joined outcomes) ≡ map (λ (dispatches : List (List Outcome)). length (joined dispatches)) outcomes
+    → map length (map outcomes_in_order outcomes) ≡ map (λ (dispatches : List (List Outcome)). length (outcomes_in_order dispatches)) outcomes
 same_lengths [] = refl
-same_lengths (os ∷ others) = ap (λ (ns : List ℕ). length (joined os) ∷ ns) (same_lengths others)
+same_lengths (os ∷ others) = ap (λ (ns : List ℕ). length (outcomes_in_order os) ∷ ns) (same_lengths others)
 
 pub is_history : (bodies : List (List (List ℕ))) (outcomes : List (List (List Outcome))) (items : List Item)
     (became : List (Option Outcome)) (lates : List (Option (List ℕ))) (shown : List (List (Option (List ℕ))))
     (opening : CellMap) (done : List (List ℕ)) → IsRecordOf bodies outcomes items → IsLegal items became
-    → AreLatesOf lates (map joined outcomes) shown → IsTrueOf opening (claims items) became lates done
-    → IsHistory opening bodies (map joined outcomes) shown
+    → AreLatesOf lates (map outcomes_in_order outcomes) shown → IsTrueOf opening (claims items) became lates done
+    → IsHistory opening bodies (map outcomes_in_order outcomes) shown
 is_history bodies outcomes items became lates shown opening done is legal of_lane true' = record {
   shape = same_lengths outcomes ∙ same_shape 1 bodies outcomes items is.each;
   one_order = in_one_order bodies outcomes items became is legal;
@@ -148,28 +148,28 @@ is_history bodies outcomes items became lates shown opening done is legal of_lan
 
 pub order_sent : (bodies : List (List (List ℕ))) (outcomes : List (List (List Outcome))) (items : List Item)
     (became : List (Option Outcome)) → IsRecordOf bodies outcomes items → IsLegal items became
-    → bodies_of (order bodies (map joined outcomes)) ≡ bodies_sent (first_sends items)
+    → bodies_in (order bodies (map outcomes_in_order outcomes)) ≡ bodies_sent (first_sends items)
 order_sent bodies outcomes items became is legal =
-    ap bodies_of (order_is bodies (map joined outcomes) (steps items)
+    ap bodies_in (order_is bodies (map outcomes_in_order outcomes) (steps items)
     (steps_of_all bodies outcomes items became is legal)
     (in_order items became legal (finished bodies outcomes items became is legal)))
-    ∙ sent_bodies (claims items) (taken items)
+    ∙ sent_bodies (claims items) (taken_outcomes items)
 
 pub only_lost : (bodies : List (List (List ℕ))) (outcomes : List (List (List Outcome))) (items : List Item)
     (became : List (Option Outcome)) (link : LinkReport) → IsRecordOf bodies outcomes items → IsLegal items became
     → AreLostOnlyIf (HasFailed link) became
-    → AllByRecursion (AllByRecursion (IsLostOnlyIfFailed link)) (map joined outcomes)
+    → AllByRecursion (AllByRecursion (IsLostOnlyIfFailed link)) (map outcomes_in_order outcomes)
 only_lost bodies outcomes items became link is legal lost =
-    each_outcome (IsLostOnlyIfFailed link) bodies (map joined outcomes) (steps items)
+    each_outcome (IsLostOnlyIfFailed link) bodies (map outcomes_in_order outcomes) (steps items)
     (steps_of_all bodies outcomes items became is legal)
     (became_outcomes (IsLostOnlyIfFailed link) items became legal
     (finished bodies outcomes items became is legal) (λ k o e is_so. lost k o e is_so))
 
 pub all_tell : (bodies : List (List (List ℕ))) (outcomes : List (List (List Outcome))) (items : List Item)
     (became : List (Option Outcome)) (rounds : ℕ) → IsRecordOf bodies outcomes items → IsLegal items became
-    → TellRounds rounds became → AllByRecursion (AllByRecursion (TellsRounds rounds)) (map joined outcomes)
+    → TellRounds rounds became → AllByRecursion (AllByRecursion (TellsRounds rounds)) (map outcomes_in_order outcomes)
 all_tell bodies outcomes items became rounds is legal tell =
-    each_outcome (TellsRounds rounds) bodies (map joined outcomes) (steps items)
+    each_outcome (TellsRounds rounds) bodies (map outcomes_in_order outcomes) (steps items)
     (steps_of_all bodies outcomes items became is legal)
     (became_outcomes (TellsRounds rounds) items became legal (finished bodies outcomes items became is legal)
     (λ k o there. all_get (λ (x : Option Outcome). IfSome x (TellsRounds rounds)) became k (Some o) tell there))
@@ -187,9 +187,9 @@ all_brought : (bodies : List (List (List ℕ))) (outcomes : List (List (List Out
     (became : List (Option Outcome)) (link : LinkReport) → IsRecordOf bodies outcomes items → IsLegal items became
     → ((k place : ℕ) (words : List ℕ) → slice_get became k ≡ Some (Some (Replied place words))
     → HasBroughtReply link place words)
-    → AllByRecursion (AllByRecursion (IsReplyBrought link)) (map joined outcomes)
+    → AllByRecursion (AllByRecursion (IsReplyBrought link)) (map outcomes_in_order outcomes)
 all_brought bodies outcomes items became link is legal brought =
-    each_outcome (IsReplyBrought link) bodies (map joined outcomes) (steps items)
+    each_outcome (IsReplyBrought link) bodies (map outcomes_in_order outcomes) (steps items)
     (steps_of_all bodies outcomes items became is legal)
     (became_outcomes (IsReplyBrought link) items became legal (finished bodies outcomes items became is legal)
     (λ k o there. reply_brought link o
@@ -197,7 +197,7 @@ all_brought bodies outcomes items became link is legal brought =
 
 -- a lane counts its replies among the datagrams of its link, and the line of its board counts the same ones
 replies_heard : (run : BoardRun) (gots : ℕ) (items : List Item) (became : List (Option Outcome))
-    → map joined (dispatches_by_client run) ≡ outcomes_by_client run
+    → map outcomes_in_order (dispatches_by_client run) ≡ outcomes_by_client run
     → IsRecordOf (bodies_by_client run) (dispatches_by_client run) items → IsLegal items became
     → HasReached (count_by (has_become is_replied) became + 1) gots → IsExact gots
     → count_by is_replied (outcomes_on run) + 1 ≤ gots
@@ -217,17 +217,17 @@ told_with P Q R (Some b) f p q = f b p q
 -- what the link tells of a lane is what the run shows of it
 told_of_run : (settings : Limits) (opening : CellMap) (run : BoardRun) (held : ℕ) (items : List Item)
     (became : List (Option Outcome)) (lates : List (Option (List ℕ))) (given_up : ℕ)
-    → map joined (dispatches_by_client run) ≡ outcomes_by_client run
+    → map outcomes_in_order (dispatches_by_client run) ≡ outcomes_by_client run
     → IsRecordOf (bodies_by_client run) (dispatches_by_client run) items
     → AreLatesOf lates (outcomes_by_client run) (lates_by_client run)
     → IsKept items became settings.window given_up → (board : Board)
-    → IsTrueOf opening (claims items) became lates (executed board) → HasReached (settings.rounds * given_up) held
+    → IsTrueOf opening (claims items) became lates (bodies_executed board) → HasReached (settings.rounds * given_up) held
     → IsTrueRun settings opening run held board
 told_of_run settings opening run held items became lates given_up same is of_lane kept board true' paid =
     let bodies = bodies_by_client run in
     let outcomes = dispatches_by_client run in
     let shown = lates_by_client run in
-    let done = executed board in
+    let done = bodies_executed board in
     let beside = subst (λ (oss : List (List Outcome)). AreLatesOf lates oss shown) (sym same) of_lane in
     record {
       executed_once = subst (λ (oss : List (List Outcome)). IsExecutedOnce (order bodies oss) oss shown done) same
@@ -241,10 +241,10 @@ told_of_run settings opening run held items became lates given_up same is of_lan
 
 pub live : (settings : Limits) (spec : BoardSpec) (run : BoardRun) (link : LinkReport) (payload : ℕ)
     (items : List Item) (became : List (Option Outcome)) (lates : List (Option (List ℕ))) (given_up : ℕ)
-    → map joined (dispatches_by_client run) ≡ outcomes_by_client run → TellsPayload spec.link payload
+    → map outcomes_in_order (dispatches_by_client run) ≡ outcomes_by_client run → TellsPayload spec.link payload
     → IsRecordOf (bodies_by_client run) (dispatches_by_client run) items
     → AreLatesOf lates (outcomes_by_client run) (lates_by_client run)
-    → IsSoundLane settings (opening_of spec.link) payload link items became lates given_up
+    → IsSoundLane settings (opens_with spec.link) payload link items became lates given_up
     → IsLiveRun settings spec payload run link
 live settings spec run link payload items became lates given_up same packets is of_lane lane =
     let bodies = bodies_by_client run in
@@ -269,10 +269,10 @@ live settings spec run link payload items became lates given_up same packets is 
           (all_tell bodies outcomes items became settings.rounds is legal lane.tells);
     } in record {
       any_link = any_link;
-      told = told_with (λ (b : Board). IsTrueOf (opening_of spec.link) (claims items) became lates (executed b))
+      told = told_with (λ (b : Board). IsTrueOf (opens_with spec.link) (claims items) became lates (bodies_executed b))
           (λ (b : Board). HasReached (settings.rounds * given_up) link.held)
-          (IsTrueRun settings (opening_of spec.link) run link.held) (board_there link.telling)
-          (told_of_run settings (opening_of spec.link) run link.held items became lates given_up same is of_lane
+          (IsTrueRun settings (opens_with spec.link) run link.held) (board_there link.telling)
+          (told_of_run settings (opens_with spec.link) run link.held items became lates given_up same is of_lane
           lane.kept) lane.told
           (of_board (HasReached (settings.rounds * given_up) link.held) link.telling lane.held);
     }
@@ -311,15 +311,15 @@ parts_exactly t lates (p ∷ parts) same all = (
 each_as_handed : (t : Telling) (bodies : List (List (List ℕ))) (outcomes : List (List (List Outcome)))
     (items : List Item) (became : List (Option Outcome)) (lates : List (Option (List ℕ)))
     → IsRecordOf bodies outcomes items → IsLegal items became → IsLateAsHanded became lates t
-    → AllByRecursion (AllByRecursion (IsAsHanded lates t)) (map joined outcomes)
+    → AllByRecursion (AllByRecursion (IsAsHanded lates t)) (map outcomes_in_order outcomes)
 each_as_handed t bodies outcomes items became lates is legal handed =
-    each_outcome (IsAsHanded lates t) bodies (map joined outcomes) (steps items)
+    each_outcome (IsAsHanded lates t) bodies (map outcomes_in_order outcomes) (steps items)
     (steps_of_all bodies outcomes items became is legal)
     (became_outcomes (IsAsHanded lates t) items became legal (finished bodies outcomes items became is legal)
     (λ k o there place rounds same. handed k place rounds (there ∙ ap (λ (p : Outcome). Some (Some p)) same)))
 
 pub shows_lates : (run : BoardRun) (link : LinkReport) (items : List Item) (became : List (Option Outcome))
-    (lates : List (Option (List ℕ))) → map joined (dispatches_by_client run) ≡ outcomes_by_client run
+    (lates : List (Option (List ℕ))) → map outcomes_in_order (dispatches_by_client run) ≡ outcomes_by_client run
     → IsRecordOf (bodies_by_client run) (dispatches_by_client run) items → IsLegal items became
     → lates_by_client run ≡ map (lates_of lates) (outcomes_by_client run)
     → IfSome link.telling (IsLateAsHanded became lates) → ShowsLates run link
@@ -342,7 +342,7 @@ module _ (standing : Standing) where
       → IsBoardOf spec.link (board_there link.telling) → run.greeting ≡ Live payload → TellsPayload spec.link payload
       → IsClientsRecord (bodies_by_client run) (dispatches_by_client run) items
       → lates_by_client run ≡ map (lates_of lates) (outcomes_by_client run)
-      → IsSoundLane settings (opening_of spec.link) payload link items became lates given_up
+      → IsSoundLane settings (opens_with spec.link) payload link items became lates given_up
       → IsRunOver settings spec board scripts run link
   run_over settings spec board scripts run link payload items became lates given_up shows of greeted packets is shown
       lane =

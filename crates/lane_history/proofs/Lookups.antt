@@ -13,7 +13,7 @@ use Rattle.lane_record.specs.declared.outcome.Outcome.{Outcome}
 use Rattle.lane_record.specs.declared.item.Item.{Item}
 use Rattle.lane_record.specs.declared.item.What.{What}
 use Rattle.lane_record.specs.declared.item.What.TheVariants.{Plan, Ask, Took}
-use Rattle.lane_record.specs.Items.{plan_in, ask_in, took_in, numbers, found, is_of}
+use Rattle.lane_record.specs.Items.{plan_in, ask_in, took_in, numbers, told_by_first, is_of}
 use Rattle.lane_record.proofs.Lookups.{found_append, numbers_append}
 use Rattle.lane_record.specs.Dispatches.{plans_from}
 use Rattle.lane_history.proofs.Rans.{Taking, Ran, outcome_took, ask_items, took_items, ran_items, AreWhole}
@@ -30,10 +30,10 @@ not_here true (Some y) later e = absurd cc
 not_here false o later e = refl
 
 pub none_found : {A : Type 0} (kind : What → Option A) (client seq : ℕ) (xs : List Item)
-    → AllByRecursion (IsNot kind) xs → found kind client seq xs ≡ None
+    → AllByRecursion (IsNot kind) xs → told_by_first kind client seq xs ≡ None
 none_found kind client seq [] all = refl
 none_found kind client seq (x ∷ xs) all =
-    not_here (is_of client seq x) (kind x.what) (found kind client seq xs) all.0
+    not_here (is_of client seq x) (kind x.what) (told_by_first kind client seq xs) all.0
     ∙ none_found kind client seq xs all.1
 
 pub no_number : {A : Type 0} (b : Bool) (o : Option A) (seq : ℕ) (ns : List ℕ) → o ≡ None
@@ -79,27 +79,27 @@ rans_are_no_plans client seq (r ∷ rs) =
 -- the first entry of a list is found under its number, and no other number
 found_first : {A : Type 0} (kind : What → Option A) (client seq : ℕ) (what : What) (rest : List Item) (y : A)
     → kind what ≡ Some y
-    → found kind client (seq + 0) (record { client = client; seq = seq; what = what } ∷ rest) ≡ Some y
+    → told_by_first kind client (seq + 0) (record { client = client; seq = seq; what = what } ∷ rest) ≡ Some y
 found_first kind client seq what rest y e =
     let same : seq ≡ seq + 0 = omega arith in
     rw (eq-eqb client client refl) (rw (eq-eqb seq (seq + 0) same) (rw e refl))
 
 found_rest : {A : Type 0} (kind : What → Option A) (client seq j : ℕ) (what : What) (rest : List Item)
-    → found kind client (seq + suc j) (record { client = client; seq = seq; what = what } ∷ rest)
-    ≡ found kind client (seq + 1 + j) rest
+    → told_by_first kind client (seq + suc j) (record { client = client; seq = seq; what = what } ∷ rest)
+    ≡ told_by_first kind client (seq + 1 + j) rest
 found_rest kind client seq j what rest =
     let on : seq + suc j ≡ seq + 1 + j = omega arith in
     ap (option_or (if is_of client (seq + suc j) (record { client = client; seq = seq; what = what })
-    then kind what else None)) (ap (λ (k : ℕ). found kind client k rest) on)
-    ∙ (either (λ (o : Option _). option_or o (found kind client (seq + 1 + j) rest)
-    ≡ found kind client (seq + 1 + j) rest)
+    then kind what else None)) (ap (λ (k : ℕ). told_by_first kind client k rest) on)
+    ∙ (either (λ (o : Option _). option_or o (told_by_first kind client (seq + 1 + j) rest)
+    ≡ told_by_first kind client (seq + 1 + j) rest)
     (is_of client (seq + suc j) (record { client = client; seq = seq; what = what })) (kind what) None
     (λ e. absurd (grind (arith, nat_tests))) (λ _. refl))
 
 -- ---- the Ask of a number
 
 pub found_asks : (client seq j : ℕ) (ns : List ℕ)
-    → found ask_in client (seq + j) (ask_items client seq ns) ≡ slice_get ns j
+    → told_by_first ask_in client (seq + j) (ask_items client seq ns) ≡ slice_get ns j
 found_asks client seq j [] = refl
 found_asks client seq zero (n ∷ ns) =
     found_first ask_in client seq (Ask n) (ask_items client (seq + 1) ns) n refl
@@ -109,7 +109,7 @@ found_asks client seq (suc j) (n ∷ ns) =
 -- ---- the Took of a number
 
 found_tooks : (client seq j : ℕ) (ts : List Taking)
-    → found took_in client (seq + j) (took_items client seq ts) ≡ slice_get (map outcome_took ts) j
+    → told_by_first took_in client (seq + j) (took_items client seq ts) ≡ slice_get (map outcome_took ts) j
 found_tooks client seq j [] = refl
 found_tooks client seq zero (t ∷ ts) =
     found_first took_in client seq (Took t.outcome t.give_ups) (took_items client (seq + 1) ts) t.outcome refl
@@ -129,7 +129,7 @@ or_behind (x ∷ xs) ys (suc j) o f =
     or_behind xs ys j o (λ le. f (omega arith) ∙ ap (slice_get ys) less)
 
 found_ran : (client seq j : ℕ) (rs : List Ran)
-    → found took_in client (seq + j) (ran_items client seq rs) ≡ slice_get (map outcome_took (all_took rs)) j
+    → told_by_first took_in client (seq + j) (ran_items client seq rs) ≡ slice_get (map outcome_took (all_took rs)) j
 found_ran client seq j [] = refl
 found_ran client seq j (r ∷ rs) =
     let asks = ask_items client seq r.asked in
@@ -137,18 +137,18 @@ found_ran client seq j (r ∷ rs) =
     let later = ran_items client (seq + length r.took) rs in
     let later_took = map outcome_took (all_took rs) in
     let behind : length (map outcome_took r.took) ≤ j
-    → found took_in client (seq + j) later ≡ slice_get later_took (j - length (map outcome_took r.took)) =
+    → told_by_first took_in client (seq + j) later ≡ slice_get later_took (j - length (map outcome_took r.took)) =
     λ le.
     let count = length-map r.took outcome_took in
     let number : seq + j ≡ seq + length r.took + (j - length (map outcome_took r.took)) = omega (arith, le) in
-    ap (λ (k : ℕ). found took_in client k later) number
+    ap (λ (k : ℕ). told_by_first took_in client k later) number
     ∙ found_ran client (seq + length r.took) (j - length (map outcome_took r.took)) rs in
     found_append took_in client (seq + j) asks (tooks ++ later)
-    ∙ ap (λ (o : Option Outcome). option_or o (found took_in client (seq + j) (tooks ++ later)))
+    ∙ ap (λ (o : Option Outcome). option_or o (told_by_first took_in client (seq + j) (tooks ++ later)))
     (none_found took_in client (seq + j) asks (asks_are_not took_in client seq r.asked (λ n. refl)))
     ∙ found_append took_in client (seq + j) tooks later
-    ∙ ap (λ (o : Option Outcome). option_or o (found took_in client (seq + j) later)) (found_tooks client seq j r.took)
-    ∙ or_behind (map outcome_took r.took) later_took j (found took_in client (seq + j) later) behind
+    ∙ ap (λ (o : Option Outcome). option_or o (told_by_first took_in client (seq + j) later)) (found_tooks client seq j r.took)
+    ∙ or_behind (map outcome_took r.took) later_took j (told_by_first took_in client (seq + j) later) behind
     ∙ ap (λ (os : List Outcome). slice_get os j) (sym (map-append outcome_took r.took (all_took rs)))
 
 -- ---- how many Asks
@@ -183,7 +183,7 @@ same_counts (r ∷ rs) whole =
 -- ---- the first number
 
 pub own_took : (client seq : ℕ) (rs : List Ran)
-    → found took_in client seq (ran_items client 0 rs) ≡ slice_get (map outcome_took (all_took rs)) seq
+    → told_by_first took_in client seq (ran_items client 0 rs) ≡ slice_get (map outcome_took (all_took rs)) seq
 own_took client seq rs =
     let same : seq ≡ 0 + seq = omega arith in
-    ap (λ (k : ℕ). found took_in client k (ran_items client 0 rs)) same ∙ found_ran client 0 seq rs
+    ap (λ (k : ℕ). told_by_first took_in client k (ran_items client 0 rs)) same ∙ found_ran client 0 seq rs

@@ -14,7 +14,7 @@ use Rattle.board_node.specs.declared.spec.BoardSpec.{BoardSpec}
 use Rattle.lane_record.specs.declared.outcome.Outcome.{Outcome}
 use Rattle.lane_record.specs.declared.item.Item.{Item}
 use Rattle.lane_record.specs.Lists.{CountsFrom}
-use Rattle.lane_record.specs.Items.{plan_in, numbers, found}
+use Rattle.lane_record.specs.Items.{plan_in, numbers, told_by_first}
 use Rattle.lane_record.specs.Claims.{Claim, claims}
 use Rattle.lane_record.specs.FirstSends.{may_have_place}
 use Rattle.lane_record.specs.Offers.{offers_from}
@@ -122,7 +122,7 @@ sub_from client k bodies (c ∷ cs) (o ∷ os) counts all = elim (c.client == cl
 -- the Plan of a number is the body of that number
 plan_is_body : (client seq : ℕ) (bodies : List (List ℕ)) (body : List ℕ) (items : List Item)
     → CountsFrom 0 (numbers plan_in client items) → IsPrefix (bodies_planned client items) bodies
-    → found plan_in client seq items ≡ Some body → slice_get bodies seq ≡ Some body
+    → told_by_first plan_in client seq items ≡ Some body → slice_get bodies seq ≡ Some body
 plan_is_body client seq bodies body items counts front f =
     subst (λ (bs : List (List ℕ)). slice_get bs seq ≡ Some body) (sym front.1)
     (get_front (bodies_planned client items) front.0 seq body (plan_at client seq body items counts f))
@@ -137,9 +137,9 @@ each_sub client (bs ∷ later) items became legal plans =
     let counts : CountsFrom 0 (seqs_of client (claims items)) =
     subst (CountsFrom 0) (sym (claims_seqs client [] items)) (legal.asks_follow_plans.count client) in
     let numbered : AllByRecursion (IsNumbered client bs) (claims items) =
-    all-map (λ (c : Claim). found plan_in c.client c.seq items ≡ Some c.body) (IsNumbered client bs) (claims items)
+    all-map (λ (c : Claim). told_by_first plan_in c.client c.seq items ≡ Some c.body) (IsNumbered client bs) (claims items)
     (λ c f mine. plan_is_body client c.seq bs c.body items (legal.plans_count.count client) plans.0
-    (subst (λ (n : ℕ). found plan_in n c.seq items ≡ Some c.body) mine f)) (step_planned items became legal) in
+    (subst (λ (n : ℕ). told_by_first plan_in n c.seq items ≡ Some c.body) mine f)) (step_planned items became legal) in
     (sub_from client 0 bs (claims items) became counts numbered, each_sub (client + 1) later items became legal plans.1)
 
 pub merge_at : (bodies : List (List (List ℕ))) (items : List Item) (became : List (Option Outcome))

@@ -7,7 +7,7 @@ use Rattle.std.proofs.lemmas.Bool.Decides.{nat_tests}
 use Rattle.lane_record.specs.declared.outcome.Outcome.{Outcome}
 use Rattle.lane_record.specs.declared.item.Item.{Item}
 use Rattle.lane_record.specs.Items.{ask_in}
-use Rattle.lane_record.specs.Dispatches.{joined, entries_by}
+use Rattle.lane_record.specs.Dispatches.{outcomes_in_order, entries_by}
 use Rattle.lane_record.specs.Dispatches.{plans_from, all_plans_from}
 use Rattle.lane_history.specs.Records.{HaveLeft, IsOfClient, IsRecordOf, bodies_planned, entries_beside_plans}
 use Rattle.lane_history.proofs.Own.{by_append, all_by, none_by, only_by, IsBy}
@@ -64,7 +64,7 @@ pub record ClientRan (client : ℕ) (bodies : List (List ℕ)) (dispatches : Lis
   pub planned : bodies_planned client items ≡ bodies
   pub entries : entries_beside_plans client items ≡ ran_items client 0 rans
   pub same : dispatches ≡ map outcomes_ran rans
-  pub count : length (joined dispatches) ≡ length bodies
+  pub count : length (outcomes_in_order dispatches) ≡ length bodies
 
 abbrev pub AllRan : ℕ → List (List (List ℕ)) → List (List (List Outcome)) → List Item → Type 0
 AllRan client [] [] items = Unit {0}
@@ -73,7 +73,7 @@ AllRan client (bs ∷ later) [] items = ⊥
 AllRan client (bs ∷ later) (os ∷ others) items = ClientRan client bs os items × AllRan (client + 1) later others items
 
 abbrev pub shape_of : List (List Outcome) → ℕ
-shape_of dispatches = length (joined dispatches)
+shape_of dispatches = length (outcomes_in_order dispatches)
 
 all_ran : (client : ℕ) (bodies : List (List (List ℕ))) (outcomes : List (List (List Outcome))) (items : List Item)
     → HaveLeft client bodies outcomes items → AllRan client bodies outcomes items

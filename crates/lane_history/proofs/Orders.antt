@@ -9,13 +9,13 @@ use Rattle.lane_record.specs.declared.outcome.Outcome.{Outcome}
 use Rattle.lane_record.specs.declared.item.Item.{Item}
 use Rattle.lane_record.specs.Outcomes.{place_of}
 use Rattle.lane_record.specs.Lists.{CountsFrom}
-use Rattle.lane_record.specs.Claims.{Claim, claims, taken, IsFinished}
+use Rattle.lane_record.specs.Claims.{Claim, claims, taken_outcomes, IsFinished}
 use Rattle.lane_record.specs.Legal.{IsLegal}
 use Rattle.lane_record.specs.FirstSends as first
 use Rattle.lane_record.specs.FirstSends.{Sent, sent_at, sent_of}
 use Rattle.lane_record.proofs.Finished.{first_sends_count}
-use Rattle.board_history.specs.Order.{Placed, with_place, placed, all_placed, insert, by_place, order, places_of}
-use Rattle.board_history.specs.Order.{bodies_of, RisesFrom}
+use Rattle.board_history.specs.Order.{Placed, with_place, bodies_with_places, all_placed, insert, by_place, order, places_of}
+use Rattle.board_history.specs.Order.{bodies_in, RisesFrom}
 use Rattle.board_history.specs.Parts.{HasOneOrder, KeepsScripts}
 use Rattle.board_history.proofs.Sorting.{IsAbove, AreAbove, insert_low, counts_above, all_sorted, sorted_all}
 use Rattle.lane_history.proofs.Steps.{Step, steps_of, steps, body_in, outcome_in, of, AreStepsOf, AreOf}
@@ -46,13 +46,13 @@ sent_places (c ∷ cs) (Some o ∷ os) =
     one_place c o (place_of o) (sent (steps_of cs os)) (sent_of cs os) (sent_places cs os)
 
 one_body : (c : Claim) (o : Outcome) (place : Option ℕ) (ps : List Placed) (ss : List Sent)
-    → bodies_of ps ≡ first.bodies_sent ss
-    → bodies_of (with_place c.body place ++ ps) ≡ first.bodies_sent (sent_at c o place ++ ss)
+    → bodies_in ps ≡ first.bodies_sent ss
+    → bodies_in (with_place c.body place ++ ps) ≡ first.bodies_sent (sent_at c o place ++ ss)
 one_body c o None ps ss e = e
 one_body c o (Some place) ps ss e = ap (λ (bs : List (List ℕ)). c.body ∷ bs) e
 
 pub sent_bodies : (cs : List Claim) (os : List (Option Outcome))
-    → bodies_of (sent (steps_of cs os)) ≡ first.bodies_sent (sent_of cs os)
+    → bodies_in (sent (steps_of cs os)) ≡ first.bodies_sent (sent_of cs os)
 sent_bodies [] os = refl
 sent_bodies (c ∷ cs) [] = refl
 sent_bodies (c ∷ cs) (None ∷ os) = sent_bodies cs os
@@ -62,7 +62,7 @@ sent_bodies (c ∷ cs) (Some o ∷ os) =
 pub in_order : (items : List Item) (became : List (Option Outcome)) → IsLegal items became → IsFinished items
     → AreInOrder (steps items)
 in_order items became legal done =
-    subst (CountsFrom 1) (sym (sent_places (claims items) (taken items))) (first_sends_count items became legal done)
+    subst (CountsFrom 1) (sym (sent_places (claims items) (taken_outcomes items))) (first_sends_count items became legal done)
 
 -- ---- the clients' parts
 
@@ -156,14 +156,14 @@ sorted_sent k client many (s ∷ ss) within c =
 
 -- ---- the order
 
-placed_of_steps : (ss : List Step) → placed (map body_in ss) (map outcome_in ss) ≡ sent ss
+placed_of_steps : (ss : List Step) → bodies_with_places (map body_in ss) (map outcome_in ss) ≡ sent ss
 placed_of_steps [] = refl
 placed_of_steps (s ∷ ss) = ap (λ (ps : List Placed). own_place s ++ ps) (placed_of_steps ss)
 
 pub placed_of : (client : ℕ) (bs : List (List ℕ)) (os : List Outcome) (ss : List Step) → AreStepsOf client bs os ss
-    → placed bs os ≡ sent (of client ss)
+    → bodies_with_places bs os ≡ sent (of client ss)
 placed_of client bs os ss are =
-    ap (λ (xs : List (List ℕ)). placed xs os) are.bodies' ∙ ap (placed (map body_in (of client ss))) are.outcomes'
+    ap (λ (xs : List (List ℕ)). bodies_with_places xs os) are.bodies' ∙ ap (bodies_with_places (map body_in (of client ss))) are.outcomes'
     ∙ placed_of_steps (of client ss)
 
 pub all_collected : (client : ℕ) (bodies : List (List (List ℕ))) (outcomes : List (List Outcome)) (ss : List Step)

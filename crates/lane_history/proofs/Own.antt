@@ -10,7 +10,7 @@ use Rattle.world_model.proofs.Lists.{either}
 use Rattle.lane_record.specs.declared.item.Item.{Item}
 use Rattle.lane_record.specs.declared.item.What.{What}
 use Rattle.lane_record.specs.Lists.{NeverFalls}
-use Rattle.lane_record.specs.Items.{numbers, found, is_of, give_ups, give_ups_in, and_number}
+use Rattle.lane_record.specs.Items.{numbers, told_by_first, is_of, give_ups, give_ups_in, and_number}
 use Rattle.lane_record.specs.Dispatches.{entries_by}
 
 abbrev pub is_by : ℕ → Item → Bool
@@ -44,10 +44,10 @@ only_by client (x ∷ xs) all =
 -- ---- look-ups see the client's entries alone
 
 pub own_found : {A : Type 0} (kind : What → Option A) (client seq : ℕ) (xs : List Item)
-    → found kind client seq xs ≡ found kind client seq (entries_by client xs)
+    → told_by_first kind client seq xs ≡ told_by_first kind client seq (entries_by client xs)
 own_found kind client seq [] = refl
 own_found kind client seq (x ∷ xs) = either
-    (λ (r : List Item). found kind client seq (x ∷ xs) ≡ found kind client seq r) (x.client == client)
+    (λ (r : List Item). told_by_first kind client seq (x ∷ xs) ≡ told_by_first kind client seq r) (x.client == client)
     (x ∷ entries_by client xs) (entries_by client xs)
     (λ _. ap (option_or (if is_of client seq x then kind x.what else None)) (own_found kind client seq xs))
     (λ e. rw e (own_found kind client seq xs))

@@ -8,7 +8,7 @@ use Rattle.std.proofs.lemmas.Bool.{eq-eqb}
 use Rattle.std.proofs.lemmas.Bool.Decides.{nat_tests}
 use Rattle.lane_record.specs.declared.item.Item.{Item}
 use Rattle.lane_record.specs.Lists.{CountsFrom}
-use Rattle.lane_record.specs.Items.{plan_in, numbers, found, is_of}
+use Rattle.lane_record.specs.Items.{plan_in, numbers, told_by_first, is_of}
 use Rattle.lane_record.specs.Dispatches.{entries_by}
 use Rattle.lane_history.specs.Records.{planned_in, bodies_planned}
 use Rattle.lane_history.proofs.Own.{IsBy, all_by, own_found, own_numbers}
@@ -25,11 +25,11 @@ planned_behind k seq first bodies body is =
     record { j = suc is.j; number = omega (arith, is.number); there = is.there }
 
 planned_here : (client k seq : ℕ) (x : Item) (b body : List ℕ) (xs : List Item) (bodies : List (List ℕ))
-    → x.seq ≡ k → option_or (if is_of client seq x then Some b else None) (found plan_in client seq xs) ≡ Some body
-    → (found plan_in client seq xs ≡ Some body → IsPlannedAt (k + 1) seq bodies body)
+    → x.seq ≡ k → option_or (if is_of client seq x then Some b else None) (told_by_first plan_in client seq xs) ≡ Some body
+    → (told_by_first plan_in client seq xs ≡ Some body → IsPlannedAt (k + 1) seq bodies body)
     → IsPlannedAt k seq (b ∷ bodies) body
 planned_here client k seq x b body xs bodies e f later = elim (is_of client seq x) as
-    (λ t. is_of client seq x ≡ t → option_or (if t then Some b else None) (found plan_in client seq xs) ≡ Some body
+    (λ t. is_of client seq x ≡ t → option_or (if t then Some b else None) (told_by_first plan_in client seq xs) ≡ Some body
     → IsPlannedAt k seq (b ∷ bodies) body) [
       | true ↦ λ is g.
           let same : b ≡ body = cc in
@@ -54,7 +54,7 @@ no_plan_first client x ns = elim (x.client == client) as (λ b. (if b && false t
 ]
 
 planned_at : (client k seq : ℕ) (body : List ℕ) (xs : List Item) → AllByRecursion (IsBy client) xs
-    → CountsFrom k (numbers plan_in client xs) → found plan_in client seq xs ≡ Some body
+    → CountsFrom k (numbers plan_in client xs) → told_by_first plan_in client seq xs ≡ Some body
     → IsPlannedAt k seq (filter_map planned_in xs) body
 planned_at client k seq body [] by counts f = absurd cc
 planned_at client k seq body (x ∷ xs) by counts f =
@@ -62,11 +62,11 @@ planned_at client k seq body (x ∷ xs) by counts f =
     elim (plan_in x.what) as
     (λ o. CountsFrom k (if (x.client == client) && is_some o then x.seq ∷ numbers plan_in client xs
     else numbers plan_in client xs)
-    → option_or (if is_of client seq x then o else None) (found plan_in client seq xs) ≡ Some body
+    → option_or (if is_of client seq x then o else None) (told_by_first plan_in client seq xs) ≡ Some body
     → IsPlannedAt k seq (cons_option o (filter_map planned_in xs)) body) [
       | None ↦ λ c g. planned_at client k seq body xs by.1
           (subst (CountsFrom k) (no_plan_first client x (numbers plan_in client xs)) c)
-          (skip_none (is_of client seq x) (found plan_in client seq xs) body g)
+          (skip_none (is_of client seq x) (told_by_first plan_in client seq xs) body g)
       | Some b ↦ λ c g.
           let counted : CountsFrom k (x.seq ∷ numbers plan_in client xs) = rw own at c in
           planned_here client k seq x b body xs (filter_map planned_in xs) counted.0 g
@@ -74,7 +74,7 @@ planned_at client k seq body (x ∷ xs) by counts f =
     ] counts f
 
 pub plan_at : (client seq : ℕ) (body : List ℕ) (items : List Item) → CountsFrom 0 (numbers plan_in client items)
-    → found plan_in client seq items ≡ Some body → slice_get (bodies_planned client items) seq ≡ Some body
+    → told_by_first plan_in client seq items ≡ Some body → slice_get (bodies_planned client items) seq ≡ Some body
 plan_at client seq body items counts f =
     let at = planned_at client 0 seq body (entries_by client items) (all_by client items)
     (subst (CountsFrom 0) (own_numbers plan_in client items) counts) (sym (own_found plan_in client seq items) ∙ f) in

@@ -13,7 +13,7 @@ use Rattle.reply_join.specs.declared.answer.Answer.TheVariants as answer
 use Rattle.reply_join.specs.ByWords.{answers}
 use Rattle.script_steps.specs.declared.operation.RegOp.{RegOp}
 use Rattle.script_steps.specs.declared.operation.Step.{Step}
-use Rattle.script_steps.specs.Rulings.{Asked, allowed}
+use Rattle.script_steps.specs.Rulings.{Asked, allowed_operations}
 use Rattle.script_steps.specs.declared.operation.Verb.{Verb}
 use Rattle.script_steps.specs.declared.operation.Verb.TheVariants as verb
 use Rattle.lane_record.specs.declared.outcome.Outcome.{Outcome}
@@ -27,11 +27,11 @@ use Rattle.transcript.specs.declared.line.OpResult.{OpResult}
 use Rattle.transcript.specs.declared.line.OpResult.TheVariants as result
 use Rattle.script_plans.specs.declared.planned.PieceAt.{PieceAt}
 use Rattle.script_plans.specs.Plan.{count_on}
-use Rattle.transcript.specs.Ends.{answered, ends_of, ends_with, piece_result, result_in, told_at, told_by}
+use Rattle.transcript.specs.Ends.{answer_result, ends_of, ends_with, piece_result, result_in, told_at, told_by}
 use Rattle.transcript.specs.Ends.{told_timed_out}
 use Rattle.transcript.specs.Ends.{told_of}
 use Rattle.transcript.specs.Lines.{by_pieces, in_part, showing, shown_behind}
-use Rattle.transcript.specs.Results.{first_not_done, is_good, shown, shown_not_done, values_in, word_before}
+use Rattle.transcript.specs.Results.{first_not_done, is_good, shown_result, shown_not_done, values_in, word_before}
 use Rattle.board_history.specs.History.{outcomes_by_client}
 use Rattle.lane_history.specs.Links.{LinkReport}
 use Rattle.lane_history.specs.Runs.{AreRunsOver, IsAsTold, ShowsRounds}
@@ -39,7 +39,7 @@ use Rattle.lane_history.specs.Runs.{AreRunsOver, IsAsTold, ShowsRounds}
 module _ (rounds : ℕ) where
   -- ---- one piece
 
-  answer_rounds : (one : Option Answer) → ShowsRounds rounds (answered one)
+  answer_rounds : (one : Option Answer) → ShowsRounds rounds (answer_result one)
   answer_rounds None = tt
   answer_rounds (Some (answer.Values words)) = tt
   answer_rounds (Some answer.Done) = tt
@@ -83,7 +83,7 @@ module _ (rounds : ℕ) where
   before_rounds [] = tt
   before_rounds (word ∷ words) = tt
 
-  shown_rounds : (v : Verb) (mask : ℕ) (words : List ℕ) → ShowsRounds rounds (shown v mask words)
+  shown_rounds : (v : Verb) (mask : ℕ) (words : List ℕ) → ShowsRounds rounds (shown_result v mask words)
   shown_rounds verb.Read mask words = tt
   shown_rounds verb.Write mask words = tt
   shown_rounds verb.ReadBlock mask words = tt
@@ -108,7 +108,7 @@ module _ (rounds : ℕ) where
 
   by_fault : (v : Verb) (mask : ℕ) (rs : List OpResult) (found : Option OpResult)
       → AllByRecursion (ShowsRounds rounds) rs → first_not_done rs ≡ found
-      → ShowsRounds rounds (unwrap_or (option_map (shown_not_done v mask) found) (shown v mask (flat_map values_in rs)))
+      → ShowsRounds rounds (unwrap_or (option_map (shown_not_done v mask) found) (shown_result v mask (flat_map values_in rs)))
   by_fault v mask rs (Some r) all is = fault_shown v mask r (fault_rounds rs r all is)
   by_fault v mask rs None all is = shown_rounds v mask (flat_map values_in rs)
 
@@ -168,5 +168,5 @@ pub rounds_of_ask : (settings : Limits) (specs : List BoardSpec) (scripts : List
     → slice_get runs op.board ≡ Some run
     → ShowsRounds settings.rounds (shown_behind run client before op denied).0
 rounds_of_ask settings specs scripts runs links is run client before op None there =
-    rounds_at settings 0 specs scripts runs links is op.board run there client (count_on op.board (allowed before)) op
+    rounds_at settings 0 specs scripts runs links is op.board run there client (count_on op.board (allowed_operations before)) op
 rounds_of_ask settings specs scripts runs links is run client before op (Some rule) there = tt

@@ -9,7 +9,7 @@ use Rattle.mtu_packer.specs.declared.packing.TheConstants.{MIN_PAYLOAD}
 use Rattle.board_node.specs.declared.spec.BoardSpec.{BoardSpec}
 use Rattle.board_node.specs.declared.spec.LinkSpec.{LinkSpec}
 use Rattle.board_node.specs.declared.spec.LinkSpec.TheVariants.{Sim, Udp}
-use Rattle.world_model.specs.Board.{Board, executed}
+use Rattle.world_model.specs.Board.{Board, bodies_executed}
 use Rattle.world_model.specs.Settings.{Limits}
 use Rattle.script_steps.specs.declared.operation.Step.{Step}
 use Rattle.lane_record.specs.declared.outcome.Outcome.{Outcome}
@@ -26,12 +26,12 @@ use Rattle.board_history.specs.Parts.{HasOneOrder, KeepsScripts, AllReplied}
 use Rattle.board_history.specs.InTurn.{AreInTurn, IsUsedByOne}
 use Rattle.board_history.specs.History.{IsOrdered, ShowsHistory, bodies_by_client, outcomes_by_client}
 use Rattle.board_history.specs.History.{dispatches_by_client, lates_by_client}
-use Rattle.lane_record.specs.Dispatches.{joined}
+use Rattle.lane_record.specs.Dispatches.{outcomes_in_order}
 use Rattle.board_history.specs.GiveUps.{GaveUpOnlyAfter}
 use Rattle.board_history.specs.Merges.{AreSubsequences, IsMergeOfSome, IsMergeOfAll}
 use Rattle.board_history.proofs.Alone.{none_placed}
 use Rattle.board_history.proofs.Merging.{executed_some, executed_whole, order_whole}
-use Rattle.board_history.specs.Runs.{greeting_of, opening_of, IsRun, board_run, runs_from}
+use Rattle.board_history.specs.Runs.{greeting_of, opens_with, IsRun, board_run, runs_from}
 use Rattle.board_history.specs.Answering.{AskRequests, OpensWithWords}
 use Rattle.board_history.proofs.Shaped.{Standing}
 use Rattle.board_history.proofs.Answering.{Answering, AnsweringAny, Keeping, KeepingAll, Garbling, Joins}
@@ -118,10 +118,10 @@ all_ordered settings board (spec ∷ specs) scripts (run ∷ runs) (link ∷ lin
 
 pub is_history : (settings : Limits) (spec : BoardSpec) (board : ℕ) (scripts : List (List Step)) (run : BoardRun)
     (link : LinkReport) (there : Board) (payload : ℕ) → IsRunOver settings spec board scripts run link
-    → run.greeting ≡ Live payload → board_there link.telling ≡ Some there → ShowsHistory (opening_of spec.link) run
+    → run.greeting ≡ Live payload → board_there link.telling ≡ Some there → ShowsHistory (opens_with spec.link) run
 is_history settings spec board scripts run link there payload is greeted tells =
     let live : IsLiveRun settings spec payload run link = subst (IsAsTold settings spec run link) greeted is.as_told in
-    let true' = at_some (IsTrueRun settings (opening_of spec.link) run link.held) (board_there link.telling)
+    let true' = at_some (IsTrueRun settings (opens_with spec.link) run link.held) (board_there link.telling)
     there tells live.told in
     record {
       shape = is.scripts'.shape;
@@ -173,27 +173,27 @@ nothing_asked spec board scripts =
     }
 
 pub untouched_some : (spec : BoardSpec) (board : ℕ) (scripts : List (List Step)) (link : LinkReport) → IsUntouched link
-    → IfSome (board_there link.telling) (λ there. IsMergeOfAsked spec board scripts (executed there))
+    → IfSome (board_there link.telling) (λ there. IsMergeOfAsked spec board scripts (bodies_executed there))
 untouched_some spec board scripts link none =
-    some_then (λ (b : Board). executed b ≡ []) (λ (b : Board). IsMergeOfAsked spec board scripts (executed b))
+    some_then (λ (b : Board). bodies_executed b ≡ []) (λ (b : Board). IsMergeOfAsked spec board scripts (bodies_executed b))
     (board_there link.telling)
     (λ b e. subst (IsMergeOfAsked spec board scripts) (sym e) (nothing_asked spec board scripts)) none
 
 executed_as : (settings : Limits) (spec : BoardSpec) (board : ℕ) (scripts : List (List Step)) (run : BoardRun)
     (link : LinkReport) (told : Greeting) → run.greeting ≡ told → ShowsScripts spec board scripts run
     → IsAsTold settings spec run link told
-    → IfSome (board_there link.telling) (λ there. IsMergeOfAsked spec board scripts (executed there))
+    → IfSome (board_there link.telling) (λ there. IsMergeOfAsked spec board scripts (bodies_executed there))
 executed_as settings spec board scripts run link (Live payload) greeted shows is =
     let bodies = planned_bodies board payload scripts run.parts
     (shows.plans ∙ ap (λ (g : Greeting). plans_on board g scripts) greeted) in
-    some_then (IsTrueRun settings (opening_of spec.link) run link.held)
-    (λ (b : Board). IsMergeOfAsked spec board scripts (executed b)) (board_there link.telling)
+    some_then (IsTrueRun settings (opens_with spec.link) run link.held)
+    (λ (b : Board). IsMergeOfAsked spec board scripts (bodies_executed b)) (board_there link.telling)
     (λ b true'. record {
       payload = payload;
       told = is.any_link.packets;
-      merge = subst (λ (bss : List (List (List ℕ))). IsMergeOfSome bss (executed b)) bodies
+      merge = subst (λ (bss : List (List (List ℕ))). IsMergeOfSome bss (bodies_executed b)) bodies
           (executed_some (bodies_by_client run) (outcomes_by_client run) (lates_by_client run)
-          (executed b) shows.shape is.any_link.script_order
+          (bodies_executed b) shows.shape is.any_link.script_order
           true'.executed_once);
     }) is.told
 executed_as settings spec board scripts run link Silent greeted shows is =
@@ -237,20 +237,20 @@ module _ (standing : Standing) where
   calm_live settings spec board scripts run link payload greeted some calm is =
       let live : IsLiveRun settings spec payload run link =
       subst (IsAsTold settings spec run link) greeted is.as_told in
-      let true' = at_some (IsTrueRun settings (opening_of spec.link) run link.held) (board_there link.telling)
+      let true' = at_some (IsTrueRun settings (opens_with spec.link) run link.held) (board_there link.telling)
       calm.there calm.tells live.told in
       let same = run_joined standing spec board scripts run is.scripts' in
       let patient : GaveUpOnlyAfter settings.window settings.rounds 0 (dispatches_by_client run) =
       subst (λ (n : ℕ). GaveUpOnlyAfter settings.window settings.rounds n (dispatches_by_client run)) calm.held'
       true'.held' in
-      let kept : AllByRecursion (AllByRecursion IsNotLost) (map joined (dispatches_by_client run)) =
+      let kept : AllByRecursion (AllByRecursion IsNotLost) (map outcomes_in_order (dispatches_by_client run)) =
       subst (AllByRecursion (AllByRecursion IsNotLost)) (sym same)
       (not_lost link (outcomes_by_client run) calm.faults' live.any_link.lost) in
       let replied : AllReplied (outcomes_by_client run) =
       subst AllReplied same (all_calm settings.window settings.rounds (dispatches_by_client run) some patient kept) in
-      let whole : IsMergeOfAll (bodies_by_client run) (executed calm.there) =
+      let whole : IsMergeOfAll (bodies_by_client run) (bodies_executed calm.there) =
       subst (IsMergeOfAll (bodies_by_client run))
-      (sym (executed_whole (bodies_by_client run) (outcomes_by_client run) (lates_by_client run) (executed calm.there)
+      (sym (executed_whole (bodies_by_client run) (outcomes_by_client run) (lates_by_client run) (bodies_executed calm.there)
       live.any_link.one_order replied true'.executed_once))
       (order_whole (bodies_by_client run) (outcomes_by_client run) is.scripts'.shape live.any_link.script_order replied)
       in
@@ -261,7 +261,7 @@ module _ (standing : Standing) where
         replied = replied;
         in_time = in_time run.parts replied is.lates.timed_out;
         history = is_history settings spec board scripts run link calm.there payload is greeted calm.tells;
-        all_executed = subst (λ (o : Option Board). IfSome o (λ b. IsMergeOfAll (bodies_by_client run) (executed b)))
+        all_executed = subst (λ (o : Option Board). IfSome o (λ b. IsMergeOfAll (bodies_by_client run) (bodies_executed b)))
             (sym calm.tells) whole;
       }
 
@@ -373,7 +373,7 @@ module _ (answering : Answering) (any : AnsweringAny) (keeping : Keeping) (keepi
       → IsRunOver settings spec board scripts run link → board_there link.telling ≡ Some there → OpensWithWords spec
       → AskRequests run → NoneGarbled run
   ungarbled_as settings spec board scripts run link there (Live payload) greeted is tells opens asks =
-      none_garbled answering any keeping keeping_all garbling joins (opening_of spec.link) run opens asks
+      none_garbled answering any keeping keeping_all garbling joins (opens_with spec.link) run opens asks
       (is_history settings spec board scripts run link there payload is greeted tells)
   ungarbled_as settings spec board scripts run link there Silent greeted is tells opens asks =
       nothing_garbled spec board Silent scripts run greeted (λ steps. refl) is.scripts'

@@ -13,11 +13,11 @@ use Rattle.lane_record.specs.declared.item.Item.{Item}
 use Rattle.lane_record.specs.declared.item.What.{What}
 use Rattle.lane_record.specs.declared.item.What.TheVariants.{Plan, Seal, Ask, Took}
 use Rattle.lane_record.specs.Lists.{CountsFrom}
-use Rattle.lane_record.specs.Items.{plan_in, ask_in, took_in, numbers, found}
-use Rattle.lane_record.specs.Claims.{Claim, claims, claims_behind, claim_in, outcome_taken, taken, IsTaken, IsFinished}
+use Rattle.lane_record.specs.Items.{plan_in, ask_in, took_in, numbers, told_by_first}
+use Rattle.lane_record.specs.Claims.{Claim, claims, claims_behind, claim_in, outcome_taken, taken_outcomes, IsTaken, IsFinished}
 use Rattle.lane_record.specs.Legal.{HasMaker, IsLegal, IsMade}
 use Rattle.lane_record.proofs.Finished.{asked_as_planned}
-use Rattle.lane_record.specs.Dispatches.{entries_by, joined}
+use Rattle.lane_record.specs.Dispatches.{entries_by, outcomes_in_order}
 use Rattle.lane_history.specs.Records.{IsRecordOf}
 use Rattle.lane_history.proofs.Own.{own_found, own_numbers}
 use Rattle.lane_history.proofs.Rans.{Ran, outcome_took, outcomes_ran, all_took}
@@ -42,7 +42,7 @@ steps_of (c ∷ cs) [] = []
 steps_of (c ∷ cs) (o ∷ os) = step_for c o ++ steps_of cs os
 
 abbrev pub steps : List Item → List Step
-steps items = steps_of (claims items) (taken items)
+steps items = steps_of (claims items) (taken_outcomes items)
 
 abbrev pub body_in : Step → List ℕ
 body_in s = s.body
@@ -193,7 +193,7 @@ read_off f k (s ∷ ss) xs counts all le =
 
 -- ---- every Ask has its Took
 
-joined_outcomes : (rs : List Ran) → joined (map outcomes_ran rs) ≡ map outcome_took (all_took rs)
+joined_outcomes : (rs : List Ran) → outcomes_in_order (map outcomes_ran rs) ≡ map outcome_took (all_took rs)
 joined_outcomes [] = refl
 joined_outcomes (r ∷ rs) =
     ap (λ (os : List Outcome). map outcome_took r.took ++ os) (joined_outcomes rs)
@@ -206,24 +206,24 @@ get_below (x ∷ xs) (suc k) lt = get_below xs k (omega (arith, lt))
 
 -- what the record has of a client
 pub record Holds (client : ℕ) (bodies : List (List ℕ)) (outcomes : List Outcome) (items : List Item) : Type 0 where
-  pub plan_is : (seq : ℕ) (body : List ℕ) → found plan_in client seq items ≡ Some body
+  pub plan_is : (seq : ℕ) (body : List ℕ) → told_by_first plan_in client seq items ≡ Some body
       → slice_get bodies seq ≡ Some body
-  pub took_is : (seq : ℕ) → found took_in client seq items ≡ slice_get outcomes seq
+  pub took_is : (seq : ℕ) → told_by_first took_in client seq items ≡ slice_get outcomes seq
   pub asked : length (numbers ask_in client items) ≡ length outcomes
   pub same : length outcomes ≡ length bodies
 
 pub holds : (client : ℕ) (bodies : List (List ℕ)) (dispatches : List (List Outcome)) (items : List Item)
     → CountsFrom 0 (numbers plan_in client items) → ClientRan client bodies dispatches items
-    → Holds client bodies (joined dispatches) items
+    → Holds client bodies (outcomes_in_order dispatches) items
 holds client bodies dispatches items counts ran =
     let mine = entries_by client items in
-    let outcomes : joined dispatches ≡ map outcome_took (all_took ran.rans) =
-    ap joined ran.same ∙ joined_outcomes ran.rans in
+    let outcomes : outcomes_in_order dispatches ≡ map outcome_took (all_took ran.rans) =
+    ap outcomes_in_order ran.same ∙ joined_outcomes ran.rans in
     record {
       plan_is = λ seq body f. subst (λ (bs : List (List ℕ)). slice_get bs seq ≡ Some body) ran.planned
           (plan_at client seq body items counts f);
       took_is = λ seq. own_found took_in client seq items ∙ found_beside took_in client seq mine (λ b. refl)
-          ∙ ap (found took_in client seq) ran.entries
+          ∙ ap (told_by_first took_in client seq) ran.entries
           ∙ own_took client seq ran.rans ∙ ap (λ (os : List Outcome). slice_get os seq) (sym outcomes);
       asked = ap length (own_numbers ask_in client items ∙ numbers_beside ask_in client mine (λ b. refl)
           ∙ ap (numbers ask_in client) ran.entries)
@@ -248,7 +248,7 @@ holds_at from client (bs ∷ later) (os ∷ others) items counts all low high = 
       holds_at (from + 1) client later others items counts all.1 (omega (arith, after)) (omega (arith, high))
   | inr here ↦ let same : from ≡ client = omega (arith, low, here) in
       subst (λ (c : ℕ). HoldsSome c items) same
-      (record { bodies = bs; outcomes = joined os; holds' = holds from bs os items (counts from) all.0 })
+      (record { bodies = bs; outcomes = outcomes_in_order os; holds' = holds from bs os items (counts from) all.0 })
 ]
 
 -- the number of a client's claim is one of its numbers
@@ -309,21 +309,21 @@ finished bodies outcomes items became is legal =
 -- ---- the steps of each client
 
 pub step_planned : (items : List Item) (became : List (Option Outcome)) → IsLegal items became
-    → AllByRecursion (λ (c : Claim). found plan_in c.client c.seq items ≡ Some c.body) (claims items)
+    → AllByRecursion (λ (c : Claim). told_by_first plan_in c.client c.seq items ≡ Some c.body) (claims items)
 step_planned items became legal =
-    all_at (λ (c : Claim). found plan_in c.client c.seq items ≡ Some c.body) (claims items) (λ k c e.
+    all_at (λ (c : Claim). told_by_first plan_in c.client c.seq items ≡ Some c.body) (claims items) (λ k c e.
     asked_as_planned items became k c.client c.seq c legal
     (record { there = e; same_client = refl; same_seq = refl }))
 
 -- the record has its body and its outcome
 pub record IsFoundIn (items : List Item) (s : Step) : Type 0 where
-  pub plan : found plan_in s.client s.seq items ≡ Some s.body
-  pub took : found took_in s.client s.seq items ≡ Some s.outcome
+  pub plan : told_by_first plan_in s.client s.seq items ≡ Some s.body
+  pub took : told_by_first took_in s.client s.seq items ≡ Some s.outcome
 
 pub steps_found : (items : List Item) (became : List (Option Outcome)) → IsLegal items became
     → AllByRecursion (IsFoundIn items) (steps items)
 steps_found items became legal = steps_all (IsFoundIn items) (outcome_taken items) (claims items)
-    (all-map (λ (c : Claim). found plan_in c.client c.seq items ≡ Some c.body)
+    (all-map (λ (c : Claim). told_by_first plan_in c.client c.seq items ≡ Some c.body)
     (λ (c : Claim). (o : Outcome) → outcome_taken items c ≡ Some o
     → IsFoundIn items (record { client = c.client; seq = c.seq; body = c.body; outcome = o }))
     (claims items) (λ c plan o took. record { plan = plan; took = took }) (step_planned items became legal))
@@ -349,11 +349,11 @@ client_steps client bodies outcomes items became legal done has =
     let at_bodies : AllByRecursion (λ (s : Step). slice_get bodies s.seq ≡ Some s.body) mine =
     all_both (IsFoundIn items) (λ (s : Step). s.client ≡ client)
     (λ (s : Step). slice_get bodies s.seq ≡ Some s.body) mine
-    (λ s f c. has.plan_is s.seq s.body (ap (λ (k : ℕ). found plan_in k s.seq items) (sym c) ∙ f.plan)) both own in
+    (λ s f c. has.plan_is s.seq s.body (ap (λ (k : ℕ). told_by_first plan_in k s.seq items) (sym c) ∙ f.plan)) both own in
     let at_outcomes : AllByRecursion (λ (s : Step). slice_get outcomes s.seq ≡ Some s.outcome) mine =
     all_both (IsFoundIn items) (λ (s : Step). s.client ≡ client)
     (λ (s : Step). slice_get outcomes s.seq ≡ Some s.outcome) mine
-    (λ s f c. sym (has.took_is s.seq) ∙ ap (λ (k : ℕ). found took_in k s.seq items) (sym c) ∙ f.took) both own in
+    (λ s f c. sym (has.took_is s.seq) ∙ ap (λ (k : ℕ). told_by_first took_in k s.seq items) (sym c) ∙ f.took) both own in
     record {
       bodies' = sym (read_off body_in 0 mine bodies counts at_bodies (omega (arith, many, has.same)));
       outcomes' = sym (read_off outcome_in 0 mine outcomes counts at_outcomes (omega (arith, many)));
@@ -376,19 +376,19 @@ pub record AreStepsOfAll (bodies : List (List (List ℕ))) (outcomes : List (Lis
 
 clients_steps : (client : ℕ) (bodies : List (List (List ℕ))) (outcomes : List (List (List Outcome))) (items : List Item)
     (became : List (Option Outcome)) → IsLegal items became → IsFinished items → AllRan client bodies outcomes items
-    → AreOf client bodies (map joined outcomes) (steps items)
+    → AreOf client bodies (map outcomes_in_order outcomes) (steps items)
 clients_steps client [] [] items became legal done all = tt
 clients_steps client [] (os ∷ others) items became legal done all = absurd all
 clients_steps client (bs ∷ later) [] items became legal done all = absurd all
 clients_steps client (bs ∷ later) (os ∷ others) items became legal done all = (
-  client_steps client bs (joined os) items became legal done
+  client_steps client bs (outcomes_in_order os) items became legal done
       (holds client bs os items (legal.plans_count.count client) all.0),
   clients_steps (client + 1) later others items became legal done all.1,
 )
 
 pub steps_of_all : (bodies : List (List (List ℕ))) (outcomes : List (List (List Outcome))) (items : List Item)
     (became : List (Option Outcome)) → IsRecordOf bodies outcomes items → IsLegal items became
-    → AreStepsOfAll bodies (map joined outcomes) (steps items)
+    → AreStepsOfAll bodies (map outcomes_in_order outcomes) (steps items)
 steps_of_all bodies outcomes items became is legal =
     let done = finished bodies outcomes items became is legal in
     let within = claims_within (length bodies) items

@@ -20,7 +20,7 @@ use Rattle.script_plans.specs.declared.board_run.ClientPart.{ClientPart}
 use Rattle.script_plans.specs.declared.board_run.BoardRun.{BoardRun}
 use Rattle.script_plans.specs.Plan.{AreSpelled}
 use Rattle.transcript.specs.Ends.{told_by, end_of, ends_of, ends_with}
-use Rattle.board_history.specs.Order.{Placed, with_place, placed, all_placed, order, places_of, bodies_of}
+use Rattle.board_history.specs.Order.{Placed, with_place, bodies_with_places, all_placed, order, places_of, bodies_in}
 use Rattle.board_history.specs.Parts.{AreBeside, IsLateReplyOf, IsReplyOf}
 use Rattle.board_history.specs.History.{ShowsHistory, bodies_by_client, outcomes_by_client}
 use Rattle.board_history.proofs.Sorting.{all_sorted, sorted_all}
@@ -58,21 +58,21 @@ place_words body None words = tt
 place_words body (Some place) words = (words, tt)
 
 placed_words : (bodies : List (List ℕ)) (outcomes : List Outcome) → AreSpelled bodies
-    → AllByRecursion HasWords (placed bodies outcomes)
+    → AllByRecursion HasWords (bodies_with_places bodies outcomes)
 placed_words [] outcomes spelled = tt
 placed_words (b ∷ bs) [] spelled = tt
-placed_words (b ∷ bs) (o ∷ os) spelled = AllByRecursion-append HasWords (with_place b (place_of o)) (placed bs os)
+placed_words (b ∷ bs) (o ∷ os) spelled = AllByRecursion-append HasWords (with_place b (place_of o)) (bodies_with_places bs os)
     (place_words b (place_of o) (spelled_words b spelled.0)) (placed_words bs os spelled.1)
 
 pub all_words : (parts : List ClientPart) → AllByRecursion AsksRequests parts
     → AllByRecursion HasWords (all_placed (map (λ (p : ClientPart). p.planned.bodies) parts)
     (map (λ (p : ClientPart). p.outcomes) parts))
 all_words [] asks = tt
-all_words (p ∷ parts) asks = AllByRecursion-append HasWords (placed p.planned.bodies p.outcomes)
+all_words (p ∷ parts) asks = AllByRecursion-append HasWords (bodies_with_places p.planned.bodies p.outcomes)
     (all_placed (map (λ (q : ClientPart). q.planned.bodies) parts) (map (λ (q : ClientPart). q.outcomes) parts))
     (placed_words p.planned.bodies p.outcomes asks.0) (all_words parts asks.1)
 
-pub words_of : (ps : List Placed) → AllByRecursion HasWords ps → AllByRecursion AreWords (bodies_of ps)
+pub words_of : (ps : List Placed) → AllByRecursion HasWords ps → AllByRecursion AreWords (bodies_in ps)
 words_of [] all = tt
 words_of (p ∷ ps) all = (all.0, words_of ps all.1)
 
@@ -117,33 +117,33 @@ module _ (answering : Answering) (any : AnsweringAny) (keeping : Keeping) (keepi
 
   -- the late answer at the place of a body is one to that body
   pub late_told : (opening : CellMap) (ps : List Placed) (body : List ℕ) (place rounds : ℕ) (late : Option (List ℕ))
-      → HoldsWords opening → AllByRecursion AreWords (bodies_of ps) → SpellsRequests body
+      → HoldsWords opening → AllByRecursion AreWords (bodies_in ps) → SpellsRequests body
       → StandsIn ps (record { place = place; body = body })
-      → IsLateReplyOf (replay opening (bodies_of ps)).replies (TimedOut place rounds) late → (words : List ℕ)
+      → IsLateReplyOf (replay opening (bodies_in ps)).replies (TimedOut place rounds) late → (words : List ℕ)
       → late ≡ Some words → IsTold body (Replied place words)
   late_told opening ps body place rounds late holds all spelled stand right words came =
-      reply_told opening (bodies_of ps) place body words holds all spelled
+      reply_told opening (bodies_in ps) place body words holds all spelled
       (at_map (λ (p : Placed). p.body) ps place (record { place = place; body = body }) stand)
-      (subst (IsLateReplyOf (replay opening (bodies_of ps)).replies (TimedOut place rounds)) came right)
+      (subst (IsLateReplyOf (replay opening (bodies_in ps)).replies (TimedOut place rounds)) came right)
 
   client_ungarbled : (opening : CellMap) (ps : List Placed) (bodies : List (List ℕ)) (outcomes : List Outcome)
-      (lates : List (Option (List ℕ))) → HoldsWords opening → AllByRecursion AreWords (bodies_of ps)
-      → AreSpelled bodies → AllByRecursion (StandsIn ps) (placed bodies outcomes)
-      → AllByRecursion (IsReplyOf (replay opening (bodies_of ps)).replies) outcomes
-      → AreBeside (IsLateReplyOf (replay opening (bodies_of ps)).replies) outcomes lates
+      (lates : List (Option (List ℕ))) → HoldsWords opening → AllByRecursion AreWords (bodies_in ps)
+      → AreSpelled bodies → AllByRecursion (StandsIn ps) (bodies_with_places bodies outcomes)
+      → AllByRecursion (IsReplyOf (replay opening (bodies_in ps)).replies) outcomes
+      → AreBeside (IsLateReplyOf (replay opening (bodies_in ps)).replies) outcomes lates
       → AllByRecursion IsUngarbled (ends_with bodies outcomes lates)
   client_ungarbled opening ps [] outcomes lates holds all spelled stand replies right = tt
   client_ungarbled opening ps (b ∷ bs) [] lates holds all spelled stand replies right = tt
   client_ungarbled opening ps (b ∷ bs) (Replied place words ∷ os) lates holds all spelled stand replies right =
-      let is = IsLateReplyOf (replay opening (bodies_of ps)).replies in (
+      let is = IsLateReplyOf (replay opening (bodies_in ps)).replies in (
         told_ungarbled b (Replied place words) (get_or lates 0 None)
-            (reply_told opening (bodies_of ps) place b words holds all spelled.0
+            (reply_told opening (bodies_in ps) place b words holds all spelled.0
             (at_map (λ (p : Placed). p.body) ps place (record { place = place; body = b }) stand.0) replies.0),
         client_ungarbled opening ps bs os (drop 1 lates) holds all spelled.1 stand.1 replies.1
             (beside_rest is (Replied place words) os lates right),
       )
   client_ungarbled opening ps (b ∷ bs) (TimedOut place rounds ∷ os) lates holds all spelled stand replies right =
-      let is = IsLateReplyOf (replay opening (bodies_of ps)).replies in (
+      let is = IsLateReplyOf (replay opening (bodies_in ps)).replies in (
         late_ungarbled b place rounds (get_or lates 0 None)
             (late_told opening ps b place rounds (get_or lates 0 None) holds all spelled.0 stand.0
             (beside_first is (TimedOut place rounds) os lates tt right)),
@@ -153,27 +153,27 @@ module _ (answering : Answering) (any : AnsweringAny) (keeping : Keeping) (keepi
   client_ungarbled opening ps (b ∷ bs) (Unsent ∷ os) lates holds all spelled stand replies right = (
     record { in_time = λ e. absurd cc; late = λ rounds e. absurd cc },
     client_ungarbled opening ps bs os (drop 1 lates) holds all spelled.1 stand replies.1
-        (beside_rest (IsLateReplyOf (replay opening (bodies_of ps)).replies) Unsent os lates right),
+        (beside_rest (IsLateReplyOf (replay opening (bodies_in ps)).replies) Unsent os lates right),
   )
   client_ungarbled opening ps (b ∷ bs) (LinkLost place ∷ os) lates holds all spelled stand replies right = (
     record { in_time = λ e. absurd cc; late = λ rounds e. absurd cc },
     client_ungarbled opening ps bs os (drop 1 lates) holds all spelled.1
-        (back_of_all (StandsIn ps) (with_place b place) (placed bs os) stand) replies.1
-        (beside_rest (IsLateReplyOf (replay opening (bodies_of ps)).replies) (LinkLost place) os lates right),
+        (back_of_all (StandsIn ps) (with_place b place) (bodies_with_places bs os) stand) replies.1
+        (beside_rest (IsLateReplyOf (replay opening (bodies_in ps)).replies) (LinkLost place) os lates right),
   )
 
   parts_ungarbled : (opening : CellMap) (ps : List Placed) (parts : List ClientPart) → HoldsWords opening
-      → AllByRecursion AreWords (bodies_of ps) → AllByRecursion AsksRequests parts
+      → AllByRecursion AreWords (bodies_in ps) → AllByRecursion AsksRequests parts
       → AllByRecursion (StandsIn ps) (all_placed (map (λ (p : ClientPart). p.planned.bodies) parts)
       (map (λ (p : ClientPart). p.outcomes) parts))
-      → AllByRecursion (AllByRecursion (IsReplyOf (replay opening (bodies_of ps)).replies))
+      → AllByRecursion (AllByRecursion (IsReplyOf (replay opening (bodies_in ps)).replies))
       (map (λ (p : ClientPart). p.outcomes) parts)
-      → AreBeside (AreBeside (IsLateReplyOf (replay opening (bodies_of ps)).replies))
+      → AreBeside (AreBeside (IsLateReplyOf (replay opening (bodies_in ps)).replies))
       (map (λ (p : ClientPart). p.outcomes) parts) (map (λ (p : ClientPart). p.lates) parts)
       → AllByRecursion (λ (part : ClientPart). AllByRecursion IsUngarbled (ends_of part)) parts
   parts_ungarbled opening ps [] holds all asks stand replies right = tt
   parts_ungarbled opening ps (p ∷ parts) holds all asks stand replies right =
-      let mine = placed p.planned.bodies p.outcomes in
+      let mine = bodies_with_places p.planned.bodies p.outcomes in
       let rest = all_placed (map (λ (q : ClientPart). q.planned.bodies) parts)
       (map (λ (q : ClientPart). q.outcomes) parts) in (
         client_ungarbled opening ps p.planned.bodies p.outcomes p.lates holds all asks.0

@@ -16,14 +16,14 @@ use Rattle.lane_record.specs.declared.item.What.{What}
 use Rattle.lane_record.specs.declared.item.What.TheVariants.{Plan, Seal, Ask, Took}
 use Rattle.lane_record.specs.Outcomes.{is_given_up, is_timed_out}
 use Rattle.lane_record.specs.Lists.{EachBehind}
-use Rattle.lane_record.specs.Items.{plan_in, ask_in, found, is_of, give_ups}
-use Rattle.lane_record.specs.Claims.{Claim, claims, claims_behind, claim_in, taken, outcome_taken}
+use Rattle.lane_record.specs.Items.{plan_in, ask_in, told_by_first, is_of, give_ups}
+use Rattle.lane_record.specs.Claims.{Claim, claims, claims_behind, claim_in, taken_outcomes, outcome_taken}
 use Rattle.lane_record.specs.Legal.{IsLegal, IsLate, IsLateEnough}
 use Rattle.lane_record.specs.Bounds.{IsKept, HasReached, timeouts}
 use Rattle.lane_record.proofs.Lookups.{found_append, found_other, first_or, if_some, and_true}
 use Rattle.lane_record.proofs.Sequences.{each_front, each_then}
 use Rattle.lane_record.proofs.Finished.{outcomes_taken}
-use Rattle.lane_record.specs.Dispatches.{joined}
+use Rattle.lane_record.specs.Dispatches.{outcomes_in_order}
 use Rattle.board_history.specs.GiveUps.{time_outs, was_given_up, times_given_up, IsExact, GaveUpOnlyAfter}
 use Rattle.lane_record.specs.Dispatches.{entries_by}
 use Rattle.lane_history.specs.Records.{IsRecordOf, beside_plans, has_become, planned_in}
@@ -109,18 +109,18 @@ all_counted p client many (s ∷ ss) within =
     omega (arith, first, rest, whole)
 
 joined_from : (client : ℕ) (bodies : List (List (List ℕ))) (outcomes : List (List (List Outcome))) (ss : List Step)
-    → AreOf client bodies (map joined outcomes) ss → flat_map joined outcomes ≡ outcomes_from client (length bodies) ss
+    → AreOf client bodies (map outcomes_in_order outcomes) ss → flat_map outcomes_in_order outcomes ≡ outcomes_from client (length bodies) ss
 joined_from client [] [] ss are = refl
 joined_from client [] (os ∷ others) ss are = absurd are
 joined_from client (bs ∷ later) [] ss are = absurd are
 joined_from client (bs ∷ later) (os ∷ others) ss are =
-    ap (λ (zs : List Outcome). zs ++ flat_map joined others) are.0.outcomes'
+    ap (λ (zs : List Outcome). zs ++ flat_map outcomes_in_order others) are.0.outcomes'
     ∙ ap (λ (zs : List Outcome). map outcome_in (of client ss) ++ zs) (joined_from (client + 1) later others ss are.1)
 
 -- a count over the outcomes is that over the steps
 same_count : (p : Outcome → Bool) (bodies : List (List (List ℕ))) (outcomes : List (List (List Outcome)))
-    (ss : List Step) → AreStepsOfAll bodies (map joined outcomes) ss
-    → count_by p (flat_map joined outcomes) ≡ count_by p (map outcome_in ss)
+    (ss : List Step) → AreStepsOfAll bodies (map outcomes_in_order outcomes) ss
+    → count_by p (flat_map outcomes_in_order outcomes) ≡ count_by p (map outcome_in ss)
 same_count p bodies outcomes ss are =
     ap (count_by p) (joined_from 1 bodies outcomes ss are.clients)
     ∙ all_counted p 1 (length bodies) ss are.nobody_else
@@ -146,12 +146,12 @@ steps_counted p (c ∷ cs) (Some o ∷ os) e =
 -- there are as many outcomes of each kind as Asks that became so
 pub became_counted : (p : Outcome → Bool) (bodies : List (List (List ℕ))) (outcomes : List (List (List Outcome)))
     (items : List Item) (became : List (Option Outcome)) → IsRecordOf bodies outcomes items → IsLegal items became
-    → count_by p (flat_map joined outcomes) ≡ count_by (has_become p) became
+    → count_by p (flat_map outcomes_in_order outcomes) ≡ count_by (has_become p) became
 became_counted p bodies outcomes items became is legal =
     let same = outcomes_taken items became legal (finished bodies outcomes items became is legal) in
-    let each : length (taken items) ≡ length (claims items) = length-map (claims items) (outcome_taken items) in
+    let each : length (taken_outcomes items) ≡ length (claims items) = length-map (claims items) (outcome_taken items) in
     same_count p bodies outcomes (steps items) (steps_of_all bodies outcomes items became is legal)
-    ∙ steps_counted p (claims items) (taken items) each ∙ ap (count_by (has_become p)) (sym same)
+    ∙ steps_counted p (claims items) (taken_outcomes items) each ∙ ap (count_by (has_become p)) (sym same)
 
 pub timeouts_counted : (os : List (Option Outcome)) → count_by (has_become is_timed_out) os ≡ timeouts os
 timeouts_counted [] = refl
@@ -223,7 +223,7 @@ found_here client seq number front x later (Some n) c s e = record {
     client = x.client;
     seq = x.seq;
     give_ups = n;
-    body = unwrap_or (found plan_in x.client x.seq front) [];
+    body = unwrap_or (told_by_first plan_in x.client x.seq front) [];
   };
   there = refl;
   same_client = c;
@@ -231,13 +231,13 @@ found_here client seq number front x later (Some n) c s e = record {
   same_number = let same : n ≡ number = cc in same;
 }
 
-pub ask_found : (client seq number : ℕ) (front xs : List Item) → found ask_in client seq xs ≡ Some number
+pub ask_found : (client seq number : ℕ) (front xs : List Item) → told_by_first ask_in client seq xs ≡ Some number
     → IsAskFound client seq number (claims_behind front xs)
 ask_found client seq number front [] e = absurd cc
 ask_found client seq number front (x ∷ xs) e =
     let here = claim_in front x (ask_in x.what) in
     let rest = claims_behind (front ++ x ∷ []) xs in
-    elim (first_or (if is_of client seq x then ask_in x.what else None) (found ask_in client seq xs) number e) [
+    elim (first_or (if is_of client seq x then ask_in x.what else None) (told_by_first ask_in client seq xs) number e) [
       | inl h ↦
           let is = if_some (is_of client seq x) (ask_in x.what) number h in
           let same = and_true (x.client == client) (x.seq == seq) is.0 in
@@ -279,7 +279,7 @@ IsFoundLate front x (Plan body) = Unit {0}
 IsFoundLate front x Seal = Unit {0}
 IsFoundLate front x (Ask n) = Unit {0}
 IsFoundLate front x (Took o n) =
-    is_given_up o ≡ true → IfSome (found ask_in x.client x.seq front) (λ asked. asked < n)
+    is_given_up o ≡ true → IfSome (told_by_first ask_in x.client x.seq front) (λ asked. asked < n)
 
 abbrev pub HasLate : List Item → Item → Type 0
 HasLate front x = IsFoundLate front x x.what
@@ -289,7 +289,7 @@ found_late front x (Plan body) late = tt
 found_late front x Seal late = tt
 found_late front x (Ask n) late = tt
 found_late front x (Took o n) late = λ given.
-    elim (found ask_in x.client x.seq front) as (λ z. found ask_in x.client x.seq front ≡ z
+    elim (told_by_first ask_in x.client x.seq front) as (λ z. told_by_first ask_in x.client x.seq front ≡ z
     → IfSome z (λ asked. asked < n)) [
       | None ↦ λ _. tt
       | Some m ↦ λ e.
@@ -305,7 +305,7 @@ late_own client front x (Plan body) e late = tt
 late_own client front x Seal e late = tt
 late_own client front x (Ask n) e late = tt
 late_own client front x (Took o n) e late = λ given. subst (λ (z : Option ℕ). IfSome z (λ asked. asked < n))
-    (subst (λ (c : ℕ). found ask_in x.client x.seq front ≡ found ask_in x.client x.seq (entries_by c front)) e
+    (subst (λ (c : ℕ). told_by_first ask_in x.client x.seq front ≡ told_by_first ask_in x.client x.seq (entries_by c front)) e
     (own_found ask_in x.client x.seq front)) (late given)
 
 own_late : (client : ℕ) (front xs : List Item) → EachBehind HasLate front xs
@@ -326,7 +326,7 @@ own_late client front (x ∷ xs) late =
 
 -- beside Plans the Asks are found as they were
 late_with : (front other : List Item) (x : Item) (what : What)
-    → found ask_in x.client x.seq front ≡ found ask_in x.client x.seq other → IsFoundLate front x what
+    → told_by_first ask_in x.client x.seq front ≡ told_by_first ask_in x.client x.seq other → IsFoundLate front x what
     → IsFoundLate other x what
 late_with front other x (Plan body) same late = tt
 late_with front other x Seal same late = tt
@@ -354,19 +354,19 @@ beside_late front (x ∷ xs) late =
 
 -- one dispatch's Tooks, behind its Asks
 tooks_late : (client seq : ℕ) (ns : List ℕ) (ts : List Taking) (front : List Item)
-    → ((j : ℕ) → found ask_in client (seq + j) front ≡ slice_get ns j)
+    → ((j : ℕ) → told_by_first ask_in client (seq + j) front ≡ slice_get ns j)
     → EachBehind HasLate front (took_items client seq ts) → AreLater ns ts
 tooks_late client seq [] ts front at late = tt
 tooks_late client seq (n ∷ ns) [] front at late = tt
 tooks_late client seq (n ∷ ns) (t ∷ ts) front at late =
     let x : Item = record { client = client; seq = seq; what = Took t.outcome t.give_ups } in
     let same : seq + 0 ≡ seq = omega arith in
-    let here : found ask_in client seq front ≡ Some n =
-    subst (λ (k : ℕ). found ask_in client k front ≡ Some n) same (at 0) in (
+    let here : told_by_first ask_in client seq front ≡ Some n =
+    subst (λ (k : ℕ). told_by_first ask_in client k front ≡ Some n) same (at 0) in (
       (λ given. subst (λ (z : Option ℕ). IfSome z (λ asked. asked < t.give_ups)) here (late.0 given)),
       tooks_late client (seq + 1) ns ts (front ++ x ∷ [])
           (λ j. let on : seq + 1 + j ≡ seq + suc j = omega arith in
-          found_other ask_in client (seq + 1 + j) front x refl ∙ ap (λ (k : ℕ). found ask_in client k front) on
+          found_other ask_in client (seq + 1 + j) front x refl ∙ ap (λ (k : ℕ). told_by_first ask_in client k front) on
           ∙ at (suc j))
           late.1,
     )
@@ -377,7 +377,7 @@ past_end (x ∷ xs) zero le = absurd (omega (arith, le))
 past_end (x ∷ xs) (suc j) le = past_end xs j (omega (arith, le))
 
 rans_late : (client seq : ℕ) (rs : List Ran) (front : List Item) → AreWhole rs
-    → ((j : ℕ) → found ask_in client (seq + j) front ≡ None)
+    → ((j : ℕ) → told_by_first ask_in client (seq + j) front ≡ None)
     → EachBehind HasLate front (ran_items client seq rs) → AllLater rs
 rans_late client seq [] front whole none late = tt
 rans_late client seq (r ∷ rs) front whole none late =
@@ -385,15 +385,15 @@ rans_late client seq (r ∷ rs) front whole none late =
     let tooks = took_items client seq r.took in
     let later = ran_items client (seq + length r.took) rs in
     let behind = each_behind HasLate front asks (tooks ++ later) late in
-    let at : (j : ℕ) → found ask_in client (seq + j) (front ++ asks) ≡ slice_get r.asked j =
+    let at : (j : ℕ) → told_by_first ask_in client (seq + j) (front ++ asks) ≡ slice_get r.asked j =
     λ j. found_append ask_in client (seq + j) front asks
-    ∙ ap (λ (z : Option ℕ). option_or z (found ask_in client (seq + j) asks)) (none j)
+    ∙ ap (λ (z : Option ℕ). option_or z (told_by_first ask_in client (seq + j) asks)) (none j)
     ∙ found_asks client seq j r.asked in
-    let next : (j : ℕ) → found ask_in client (seq + length r.took + j) ((front ++ asks) ++ tooks) ≡ None =
+    let next : (j : ℕ) → told_by_first ask_in client (seq + length r.took + j) ((front ++ asks) ++ tooks) ≡ None =
     λ j. let on : seq + length r.took + j ≡ seq + (length r.took + j) = omega arith in
     found_append ask_in client (seq + length r.took + j) (front ++ asks) tooks
-    ∙ ap (λ (z : Option ℕ). option_or z (found ask_in client (seq + length r.took + j) tooks))
-    (ap (λ (k : ℕ). found ask_in client k (front ++ asks)) on ∙ at (length r.took + j)
+    ∙ ap (λ (z : Option ℕ). option_or z (told_by_first ask_in client (seq + length r.took + j) tooks))
+    (ap (λ (k : ℕ). told_by_first ask_in client k (front ++ asks)) on ∙ at (length r.took + j)
     ∙ past_end r.asked (length r.took + j) (omega (arith, whole.0)))
     ∙ none_found ask_in client (seq + length r.took + j) tooks
     (tooks_are_not ask_in client seq r.took (λ o n. refl)) in (

@@ -6,7 +6,7 @@ use Rattle.board_bus.specs.Cells.{CellMap}
 use Rattle.board_bus.specs.Bodies.{replay}
 use Rattle.world_core.specs.Telling.{Telling}
 use Rattle.world_model.specs.declared.offered.Offered.{Offered}
-use Rattle.world_model.specs.Board.{Board, executed}
+use Rattle.world_model.specs.Board.{Board, bodies_executed}
 use Rattle.world_model.specs.Places.{at_place}
 use Rattle.world_model.specs.Settings.{Limits}
 use Rattle.lane_record.specs.declared.outcome.Outcome.{Outcome}
@@ -68,7 +68,7 @@ pub record IsSoundLane (settings : Limits) (opening : CellMap) (payload : ℕ) (
   pub late : (place : ℕ) (words : List ℕ) → late_in lates place ≡ Some words → WasTimedOut outcomes place
   -- over a link that tells
   pub told : IfSome (board_there link.telling)
-      (λ (board : Board). IsTrueOf opening (claims items) outcomes lates (executed board))
+      (λ (board : Board). IsTrueOf opening (claims items) outcomes lates (bodies_executed board))
   -- and once something became of each Ask
   pub exactly : AreSettled outcomes → IfSome link.telling (IsLateAsHanded outcomes lates)
   pub held : IfSome link.telling (λ _. HasReached (settings.rounds * given_up) link.held)

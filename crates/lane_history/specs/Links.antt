@@ -1,7 +1,7 @@
 -- What a link shows after a run. Profile.
 use Rattle.std.specs.Prelude.{◌≡◌, ℕ, ◌≤◌, true, List, [], Option, Some, None, IfSome}
 use Rattle.board_bus.specs.Ranges.{opening_bus}
-use Rattle.world_model.specs.Board.{Board, executed}
+use Rattle.world_model.specs.Board.{Board, bodies_executed}
 use Rattle.world_core.specs.Telling.{Telling}
 use Rattle.board_node.specs.declared.spec.LinkSpec.{LinkSpec}
 use Rattle.board_node.specs.declared.spec.LinkSpec.TheVariants.{Sim, Udp}
@@ -62,4 +62,4 @@ pub record IsFaithful (link : LinkReport) : Type 0 where
 
 -- where the link tells, its board executed nothing
 abbrev pub IsUntouched : LinkReport → Type 0
-IsUntouched link = IfSome (board_there link.telling) (λ board. executed board ≡ [])
+IsUntouched link = IfSome (board_there link.telling) (λ board. bodies_executed board ≡ [])

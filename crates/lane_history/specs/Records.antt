@@ -7,7 +7,7 @@ use Rattle.lane_record.specs.declared.outcome.Outcome.{Outcome}
 use Rattle.lane_record.specs.declared.item.Item.{Item}
 use Rattle.lane_record.specs.Items.{plan_in}
 use Rattle.lane_record.specs.NextEntry.{the_seal}
-use Rattle.lane_record.specs.Dispatches.{actions_by, dispatches_from, entries_by, joined, numbered_action}
+use Rattle.lane_record.specs.Dispatches.{actions_by, dispatches_from, entries_by, outcomes_in_order, numbered_action}
 use Rattle.lane_record.specs.Dispatches.{all_plans_from}
 
 -- ---- what each client planned, and what it did beside that
@@ -34,7 +34,7 @@ pub record HasLeft (client : ℕ) (bodies : List (List ℕ)) (dispatches : List 
     : Type 0 where
   pub planned : bodies_planned client items ≡ bodies
   pub did : map numbered_action (entries_beside_plans client items) ≡ dispatches_from 0 dispatches
-  pub count : length (joined dispatches) ≡ length bodies
+  pub count : length (outcomes_in_order dispatches) ≡ length bodies
 
 -- so of each client from a number on
 abbrev pub HaveLeft : ℕ → List (List (List ℕ)) → List (List (List Outcome)) → List Item → Type 0
@@ -71,7 +71,7 @@ IsOfClient many x = (1 ≤ x.client) × (x.client ≤ many)
 -- their Plans and the Seal, and behind these each client did its dispatches, and nobody else anything.
 pub record IsClientsRecord (bodies : List (List (List ℕ))) (outcomes : List (List (List Outcome)))
     (items : List Item) : Type 0 where
-  pub shape : map (λ (dispatches : List (List Outcome)). length (joined dispatches)) outcomes ≡ map length bodies
+  pub shape : map (λ (dispatches : List (List Outcome)). length (outcomes_in_order dispatches)) outcomes ≡ map length bodies
   pub past : List Item
   pub opens : items ≡ all_plans_from 1 bodies ++ the_seal ∷ past
   pub each : DidDispatches 1 outcomes past

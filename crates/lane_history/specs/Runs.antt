@@ -8,7 +8,7 @@ use Rattle.board_bus.specs.Cells.{CellMap}
 use Rattle.board_node.specs.declared.spec.BoardSpec.{BoardSpec}
 use Rattle.board_node.specs.declared.spec.LinkSpec.{LinkSpec}
 use Rattle.board_node.specs.declared.spec.LinkSpec.TheVariants.{Sim, Udp}
-use Rattle.world_model.specs.Board.{Board, executed}
+use Rattle.world_model.specs.Board.{Board, bodies_executed}
 use Rattle.world_model.specs.Settings.{Limits}
 use Rattle.world_core.specs.Receives.{first_status}
 use Rattle.lane_record.specs.declared.outcome.Outcome.{Outcome}
@@ -37,7 +37,7 @@ use Rattle.board_history.specs.History.{lates_by_client}
 use Rattle.board_history.specs.GiveUps.{GaveUpOnlyAfter, IsExact, time_outs, times_given_up}
 use Rattle.board_history.specs.Merges.{IsMergeOfSome, IsMergeOfAll}
 use Rattle.board_history.specs.InTurn.{IsUsedByOne}
-use Rattle.board_history.specs.Runs.{board_run, greeting_of, opening_of}
+use Rattle.board_history.specs.Runs.{board_run, greeting_of, opens_with}
 use Rattle.lane_history.specs.Lates.{AreLateExactly, AreLateOnlyIfTimedOut}
 use Rattle.lane_history.specs.Links.{LinkReport, HasFailed, IsBoardOf, IsLostOnlyIfFailed}
 use Rattle.lane_history.specs.Links.{IsUntouched, board_there}
@@ -62,7 +62,7 @@ TellsPayload (Udp address port wait) payload = (MIN_PAYLOAD ≤ payload) × (pay
 pub record IsTrueRun (settings : Limits) (opening : CellMap) (run : BoardRun) (held : ℕ) (board : Board) : Type 0 where
   -- the board executed a front of the order, each body once, and each body that was replied to, in time or late
   pub executed_once : IsExecutedOnce (order (bodies_by_client run) (outcomes_by_client run)) (outcomes_by_client run)
-      (lates_by_client run) (executed board)
+      (lates_by_client run) (bodies_executed board)
   -- each reply is the one that a bus with a single thread gives at its place
   pub replies : AreRepliesOf opening (order (bodies_by_client run) (outcomes_by_client run)) (outcomes_by_client run)
   -- and so is each late answer
@@ -109,7 +109,7 @@ pub record HoldsOverAnyLink (settings : Limits) (spec : BoardSpec) (payload : �
 pub record IsLiveRun (settings : Limits) (spec : BoardSpec) (payload : ℕ) (run : BoardRun) (link : LinkReport)
     : Type 0 where
   pub any_link : HoldsOverAnyLink settings spec payload run link
-  pub told : IfSome (board_there link.telling) (IsTrueRun settings (opening_of spec.link) run link.held)
+  pub told : IfSome (board_there link.telling) (IsTrueRun settings (opens_with spec.link) run link.held)
 
 -- ---- what came late
 
@@ -240,8 +240,8 @@ pub record IsWholeRun (spec : BoardSpec) (run : BoardRun) (link : LinkReport) : 
   pub greeting : run.greeting ≡ greeting_of spec.link
   pub replied : AllReplied (outcomes_by_client run)
   pub in_time : AllByRecursion (λ (part : ClientPart). part.lates ≡ []) run.parts
-  pub history : ShowsHistory (opening_of spec.link) run
-  pub all_executed : IfSome (board_there link.telling) (λ board. IsMergeOfAll (bodies_by_client run) (executed board))
+  pub history : ShowsHistory (opens_with spec.link) run
+  pub all_executed : IfSome (board_there link.telling) (λ board. IsMergeOfAll (bodies_by_client run) (bodies_executed board))
 
 -- the same of all boards
 abbrev pub AreWholeRuns : List BoardSpec → List BoardRun → List LinkReport → Type 0
@@ -280,6 +280,6 @@ HaveOwnBoards board (spec ∷ specs) scripts =
 abbrev pub AllExecutedSome : ℕ → List BoardSpec → List (List Step) → List LinkReport → Type 0
 AllExecutedSome board [] scripts [] = Unit {0}
 AllExecutedSome board (spec ∷ specs) scripts (link ∷ links) =
-    IfSome (board_there link.telling) (λ there. IsMergeOfAsked spec board scripts (executed there))
+    IfSome (board_there link.telling) (λ there. IsMergeOfAsked spec board scripts (bodies_executed there))
     × AllExecutedSome (board + 1) specs scripts links
 AllExecutedSome board specs scripts links = ⊥

@@ -2,7 +2,7 @@
 
 ghost use Rattle.std.specs.Prelude.{◌≡◌, ℕ, ◌++◌, List, Option};
 ghost use Rattle.world_model.specs.declared.datagram.Datagram.{Datagram};
-ghost use Rattle.world_model.specs.Board.{Board, executed};
+ghost use Rattle.world_model.specs.Board.{Board, bodies_executed};
 ghost use Rattle.world_model.specs.Facts.{IsStart};
 ghost use Rattle.world_model.specs.Hub.{HandedOut, Hub};
 ghost use Rattle.world_model.specs.Links.{Told};
@@ -25,7 +25,7 @@ pub fn a_state_of_a_run_is_true_of_its_lane()
         IsStart window board air → IsReached (start window rounds board air) out hub told →
         hub.sent ++ hub.queue ≡ offers_from 0 claims outcomes → AreToldBy out.fates outcomes →
         AreLatesToldBy out.lates lates →
-        IsTrueOf told.board.opening claims outcomes lates (executed told.board) }
+        IsTrueOf told.board.opening claims outcomes lates (bodies_executed told.board) }
 {
     a_state_of_a_run_tells_the_truth();
 }

@@ -7,7 +7,7 @@ ghost use Rattle.ipb_base.specs.Lists.{IsPrefix};
 ghost use Rattle.board_bus.specs.Cells.{CellMap};
 ghost use Rattle.board_node.specs.declared.spec.BoardSpec.{BoardSpec};
 ghost use Rattle.world_model.specs.declared.offered.Offered.{Offered};
-ghost use Rattle.world_model.specs.Board.{executed};
+ghost use Rattle.world_model.specs.Board.{bodies_executed};
 ghost use Rattle.world_model.specs.Facts as offered;
 ghost use Rattle.world_model.specs.Settings.{Limits};
 ghost use Rattle.script_steps.specs.declared.operation.Step.{Step};
@@ -22,14 +22,14 @@ ghost use Rattle.lane_record.specs.Outcomes.{TellsRounds};
 ghost use Rattle.script_plans.specs.declared.greeting.Greeting.TheVariants.{Live};
 ghost use Rattle.script_plans.specs.declared.board_run.BoardRun.{BoardRun};
 ghost use Rattle.script_plans.specs.Plan.{ClientBodies, plans_on};
-ghost use Rattle.board_history.specs.Order.{bodies_of, order};
+ghost use Rattle.board_history.specs.Order.{bodies_in, order};
 ghost use Rattle.board_history.specs.Parts.{HasOneOrder, IsExecutedOnce, KeepsScripts};
 ghost use Rattle.board_history.specs.History.{IsHistory, bodies_by_client, dispatches_by_client, lates_by_client};
 ghost use Rattle.board_history.specs.History.{outcomes_by_client};
-ghost use Rattle.lane_record.specs.Dispatches.{joined};
+ghost use Rattle.lane_record.specs.Dispatches.{outcomes_in_order};
 ghost use Rattle.board_history.specs.GiveUps.{GaveUpOnlyAfter};
 ghost use Rattle.board_history.specs.Merges.{IsMergeOfSome};
-ghost use Rattle.board_history.specs.Runs.{opening_of};
+ghost use Rattle.board_history.specs.Runs.{opens_with};
 ghost use Rattle.lane_history.specs.Lates.{AreLatesOf, lates_of};
 ghost use Rattle.lane_history.specs.Links.{HasFailed, IsBoardOf, IsLostOnlyIfFailed, IsUntouched, LinkReport};
 ghost use Rattle.lane_history.specs.Links.{board_there};
@@ -58,13 +58,13 @@ pub fn a_clients_record_is_finished()
 pub fn the_order_is_the_first_sends()
     ensures order { (bodies : List (List (List ℕ))) (outcomes : List (List (List Outcome))) (items : List Item)
         (became : List (Option Outcome)) → IsRecordOf bodies outcomes items → IsLegal items became →
-        HasOneOrder bodies (map joined outcomes) }
+        HasOneOrder bodies (map outcomes_in_order outcomes) }
     ensures scripts { (bodies : List (List (List ℕ))) (outcomes : List (List (List Outcome))) (items : List Item)
         (became : List (Option Outcome)) → IsRecordOf bodies outcomes items → IsLegal items became →
-        KeepsScripts bodies (map joined outcomes) }
+        KeepsScripts bodies (map outcomes_in_order outcomes) }
     ensures sends { (bodies : List (List (List ℕ))) (outcomes : List (List (List Outcome))) (items : List Item)
         (became : List (Option Outcome)) → IsRecordOf bodies outcomes items → IsLegal items became →
-        bodies_of (order bodies (map joined outcomes)) ≡ bodies_sent (first_sends items) }
+        bodies_in (order bodies (map outcomes_in_order outcomes)) ≡ bodies_sent (first_sends items) }
 {}
 
 /// Over a link that tells, what clients took is one legal history of the board: each packet was executed at most once,
@@ -74,14 +74,14 @@ pub fn what_clients_took_is_a_history()
     ensures history { (bodies : List (List (List ℕ))) (outcomes : List (List (List Outcome))) (items : List Item)
         (became : List (Option Outcome)) (lates : List (Option (List ℕ))) (shown : List (List (Option (List ℕ))))
         (opening : CellMap) (done : List (List ℕ)) →
-        IsRecordOf bodies outcomes items → IsLegal items became → AreLatesOf lates (map joined outcomes) shown →
-        IsTrueOf opening (claims items) became lates done → IsHistory opening bodies (map joined outcomes) shown }
+        IsRecordOf bodies outcomes items → IsLegal items became → AreLatesOf lates (map outcomes_in_order outcomes) shown →
+        IsTrueOf opening (claims items) became lates done → IsHistory opening bodies (map outcomes_in_order outcomes) shown }
     ensures executed { (bodies : List (List (List ℕ))) (outcomes : List (List (List Outcome))) (items : List Item)
         (became : List (Option Outcome)) (lates : List (Option (List ℕ))) (shown : List (List (Option (List ℕ))))
         (opening : CellMap) (done : List (List ℕ)) →
-        IsRecordOf bodies outcomes items → IsLegal items became → AreLatesOf lates (map joined outcomes) shown →
+        IsRecordOf bodies outcomes items → IsLegal items became → AreLatesOf lates (map outcomes_in_order outcomes) shown →
         IsTrueOf opening (claims items) became lates done →
-        IsExecutedOnce (order bodies (map joined outcomes)) (map joined outcomes) shown done }
+        IsExecutedOnce (order bodies (map outcomes_in_order outcomes)) (map outcomes_in_order outcomes) shown done }
 {}
 
 /// Who gave up has waited: where each give-up of the lane cost so much, the timed-out bodies and the dispatches that a
@@ -98,7 +98,7 @@ pub fn bodies_are_lost_with_a_failed_link()
     ensures { (bodies : List (List (List ℕ))) (outcomes : List (List (List Outcome))) (items : List Item)
         (became : List (Option Outcome)) (link : LinkReport) → IsRecordOf bodies outcomes items →
         IsLegal items became → AreLostOnlyIf (HasFailed link) became →
-        AllByRecursion (AllByRecursion (IsLostOnlyIfFailed link)) (map joined outcomes) }
+        AllByRecursion (AllByRecursion (IsLostOnlyIfFailed link)) (map outcomes_in_order outcomes) }
 {}
 
 /// A body that was timed out tells the rounds of its lane.
@@ -106,7 +106,7 @@ pub fn timed_out_bodies_tell_the_rounds()
     ensures { (bodies : List (List (List ℕ))) (outcomes : List (List (List Outcome))) (items : List Item)
         (became : List (Option Outcome)) (rounds : ℕ) → IsRecordOf bodies outcomes items →
         IsLegal items became → TellRounds rounds became →
-        AllByRecursion (AllByRecursion (TellsRounds rounds)) (map joined outcomes) }
+        AllByRecursion (AllByRecursion (TellsRounds rounds)) (map outcomes_in_order outcomes) }
 {}
 
 /// At any moment what a board executed can be dealt out to the clients so that each gets bodies of its own, in order,
@@ -140,11 +140,11 @@ pub fn a_lane_left_at_any_moment_executed_a_merge()
         (payload : ℕ) (items : List Item) (became : List (Option Outcome)) (lates : List (Option (List ℕ)))
         (given_up : ℕ) → TellsPayload spec.link payload →
         IsPartlyPlanned (map (λ (p : ClientBodies). p.bodies) (plans_on board (Live payload) scripts)) items →
-        IsSoundLane settings (opening_of spec.link) payload link items became lates given_up →
-        IfSome (board_there link.telling) (λ there. IsMergeOfAsked spec board scripts (executed there)) }
+        IsSoundLane settings (opens_with spec.link) payload link items became lates given_up →
+        IfSome (board_there link.telling) (λ there. IsMergeOfAsked spec board scripts (bodies_executed there)) }
     ensures untouched { (spec : BoardSpec) (board : ℕ) (scripts : List (List Step)) (link : LinkReport) →
         IsUntouched link →
-        IfSome (board_there link.telling) (λ there. IsMergeOfAsked spec board scripts (executed there)) }
+        IfSome (board_there link.telling) (λ there. IsMergeOfAsked spec board scripts (bodies_executed there)) }
 {
     a_lane_sends_a_merge_at_any_moment();
 }
@@ -153,7 +153,7 @@ pub fn a_lane_left_at_any_moment_executed_a_merge()
 pub fn a_record_counts_what_became_of_bodies()
     ensures { (kind : Outcome → Bool) (bodies : List (List (List ℕ))) (outcomes : List (List (List Outcome)))
         (items : List Item) (became : List (Option Outcome)) → IsRecordOf bodies outcomes items →
-        IsLegal items became → count_by kind (flat_map joined outcomes) ≡ count_by (has_become kind) became }
+        IsLegal items became → count_by kind (flat_map outcomes_in_order outcomes) ≡ count_by (has_become kind) became }
 {}
 
 /// A finished lane is live: what its record and its link tell is what may be shown of its board, where the outcomes
@@ -161,10 +161,10 @@ pub fn a_record_counts_what_became_of_bodies()
 pub fn a_finished_lane_is_live()
     ensures { (settings : Limits) (spec : BoardSpec) (run : BoardRun) (link : LinkReport) (payload : ℕ)
         (items : List Item) (became : List (Option Outcome)) (lates : List (Option (List ℕ))) (given_up : ℕ) →
-        map joined (dispatches_by_client run) ≡ outcomes_by_client run → TellsPayload spec.link payload →
+        map outcomes_in_order (dispatches_by_client run) ≡ outcomes_by_client run → TellsPayload spec.link payload →
         IsRecordOf (bodies_by_client run) (dispatches_by_client run) items →
         AreLatesOf lates (outcomes_by_client run) (lates_by_client run) →
-        IsSoundLane settings (opening_of spec.link) payload link items became lates given_up →
+        IsSoundLane settings (opens_with spec.link) payload link items became lates given_up →
         IsLiveRun settings spec payload run link }
 {}
 
@@ -178,7 +178,7 @@ pub fn a_finished_lane_is_a_live_run()
         run.greeting ≡ Live payload → TellsPayload spec.link payload →
         IsClientsRecord (bodies_by_client run) (dispatches_by_client run) items →
         lates_by_client run ≡ map (lates_of lates) (outcomes_by_client run) →
-        IsSoundLane settings (opening_of spec.link) payload link items became lates given_up →
+        IsSoundLane settings (opens_with spec.link) payload link items became lates given_up →
         IsRunOver settings spec board scripts run link }
 {
     bodies_stand_dispatch_by_dispatch();

@@ -19,7 +19,7 @@ ghost use Rattle.board_history.specs.History.{ShowsHistory, bodies_by_client, di
 ghost use Rattle.board_history.specs.InTurn.{IsUsedByOne};
 ghost use Rattle.board_history.specs.Parts.{AllReplied};
 ghost use Rattle.board_history.specs.GiveUps.{time_outs};
-ghost use Rattle.board_history.specs.Runs.{board_run, opening_of, runs_from};
+ghost use Rattle.board_history.specs.Runs.{board_run, opens_with, runs_from};
 ghost use Rattle.board_history.specs.Lines.{IsBusLine};
 ghost use Rattle.board_history.specs.Answering.{AskRequests, OpensWithWords};
 ghost use Rattle.lane_history.specs.Links.{CanBeMade, IsFaithful, LinkReport, board_there};
@@ -44,7 +44,7 @@ use transcript::laws::the_status_tells_whether_all_was_done;
 pub fn a_live_board_shows_a_history()
     ensures { (settings : Limits) (spec : BoardSpec) (board : ℕ) (scripts : List (List Step)) (run : BoardRun)
         (link : LinkReport) (there : Board) (payload : ℕ) → IsRunOver settings spec board scripts run link →
-        run.greeting ≡ Live payload → board_there link.telling ≡ Some there → ShowsHistory (opening_of spec.link) run }
+        run.greeting ≡ Live payload → board_there link.telling ≡ Some there → ShowsHistory (opens_with spec.link) run }
 {}
 
 /// Over a link that tells no reply is garbled, in time or late: each answers all transactions of its body. The board

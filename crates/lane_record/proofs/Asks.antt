@@ -7,7 +7,7 @@ use Rattle.std.specs.List.{slice_get}
 use Rattle.std.specs.Option.{unwrap_or}
 use Rattle.world_model.proofs.Lists.{get_front}
 use Rattle.lane_record.specs.declared.item.Item.{Item}
-use Rattle.lane_record.specs.Items.{numbers, found, plan_in, ask_in, asked}
+use Rattle.lane_record.specs.Items.{numbers, told_by_first, plan_in, ask_in, asked_count}
 use Rattle.lane_record.specs.Claims.{Claim, claims, claims_behind, claim_in, IsAskOf}
 use Rattle.lane_record.proofs.Lookups.{Count, IsNext, count_front, count_last, numbers_append, claims_front, own_number}
 
@@ -34,12 +34,12 @@ ask_front xs ys k client seq claim is = record {
 
 -- the Asks among these claims have numbers that their clients have asked in this front, each pair once
 pub record AreApart (front : List Item) (cs : List Claim) : Type 0 where
-  pub below : (k : ℕ) (c : Claim) → slice_get cs k ≡ Some c → c.seq < asked c.client front
+  pub below : (k : ℕ) (c : Claim) → slice_get cs k ≡ Some c → c.seq < asked_count c.client front
   pub apart : (j k : ℕ) (c d : Claim) → slice_get cs j ≡ Some c → slice_get cs k ≡ Some d → c.client ≡ d.client
       → c.seq ≡ d.seq → j ≡ k
 
-asked_more : (front : List Item) (x : Item) (client seq : ℕ) → seq < asked client front
-    → seq < asked client (front ++ x ∷ [])
+asked_more : (front : List Item) (x : Item) (client seq : ℕ) → seq < asked_count client front
+    → seq < asked_count client (front ++ x ∷ [])
 asked_more front x client seq lt =
     let e = ap length (numbers_append ask_in client front (x ∷ []))
     ∙ length-append (numbers ask_in client front) (numbers ask_in client (x ∷ [])) in
@@ -59,25 +59,25 @@ new_claim front x g = record {
   seq = x.seq;
   give_ups = g;
   body = unwrap_or
-      (found plan_in x.client x.seq front) [];
+      (told_by_first plan_in x.client x.seq front) [];
 }
 
-clash : (front : List Item) (x : Item) (a b : ℕ) → a < asked x.client front → a ≡ b → b ≡ x.seq
-    → x.seq ≡ asked x.client front → ⊥
+clash : (front : List Item) (x : Item) (a b : ℕ) → a < asked_count x.client front → a ≡ b → b ≡ x.seq
+    → x.seq ≡ asked_count x.client front → ⊥
 clash front x a b lt e f g = omega (arith, lt, e, f, g)
 
 apart_new : (front : List Item) (x : Item) (cs : List Claim) (new : Claim) → new.client ≡ x.client → new.seq ≡ x.seq
-    → x.seq ≡ asked x.client front → x.seq < asked x.client (front ++ x ∷ [])
+    → x.seq ≡ asked_count x.client front → x.seq < asked_count x.client (front ++ x ∷ [])
     → AreApart front cs → AreApart (front ++ x ∷ []) (cs ++ new ∷ [])
 apart_new front x cs new same_client same_seq next one is =
     let below_old = λ (k : ℕ) (c : Claim) (h : slice_get cs k ≡ Some c) (p : c.client ≡ new.client)
     (q : c.seq ≡ new.seq).
-    clash front x c.seq new.seq (subst (λ (z : ℕ). c.seq < asked z front) (p ∙ same_client) (is.below k c h)) q
+    clash front x c.seq new.seq (subst (λ (z : ℕ). c.seq < asked_count z front) (p ∙ same_client) (is.below k c h)) q
     same_seq next in
     record {
       below = λ k c e. elim (get_split cs new k c e) [
         | inl h ↦ asked_more front x c.client c.seq (is.below k c h)
-        | inr h ↦ subst (λ (d : Claim). d.seq < asked d.client (front ++ x ∷ [])) (sym h.1)
+        | inr h ↦ subst (λ (d : Claim). d.seq < asked_count d.client (front ++ x ∷ [])) (sym h.1)
             (rw (same_client, same_seq) one)
       ];
       apart = λ j k c d e f p q. elim (get_split cs new j c e) [
@@ -93,8 +93,8 @@ apart_new front x cs new same_client same_seq next one is =
       ];
     }
 
-one_more_asked : (front : List Item) (x : Item) → is_some (ask_in x.what) ≡ true → x.seq ≡ asked x.client front
-    → x.seq < asked x.client (front ++ x ∷ [])
+one_more_asked : (front : List Item) (x : Item) → is_some (ask_in x.what) ≡ true → x.seq ≡ asked_count x.client front
+    → x.seq < asked_count x.client (front ++ x ∷ [])
 one_more_asked front x some next =
     let e = ap length (numbers_append ask_in x.client front (x ∷ [])
     ∙ ap (λ (l : List ℕ). numbers ask_in x.client front ++ l) (own_number ask_in x some))

@@ -11,7 +11,7 @@ use Rattle.lane_record.specs.declared.outcome.Outcome.TheVariants.{Replied, Time
 use Rattle.lane_record.specs.declared.item.Item.{Item}
 use Rattle.lane_record.specs.declared.item.What.{What}
 use Rattle.lane_record.specs.declared.item.What.TheVariants.{Plan, Seal, Ask, Took}
-use Rattle.lane_record.specs.Coding.{Head, head_numbers, opening_numbers, cell_numbers, kind_number, recorded}
+use Rattle.lane_record.specs.Coding.{Head, head_numbers, opening_numbers, cell_numbers, kind_number, as_recorded}
 use Rattle.lane_record.specs.Coding.{record_of, item_from, content_of, outcome_numbers, outcome_from, what_from}
 use Rattle.lane_record.specs.Coding.{kind_of, item_with}
 use Rattle.std.specs.Option.{option_map}
@@ -31,10 +31,10 @@ read_what Seal = refl
 read_what (Ask g) = refl
 read_what (Took o g) = ap (option_map (λ (outcome : Outcome). Took outcome g)) (read_outcome o)
 
-pub read_item : (x : Item) → item_from (recorded x) ≡ Some x
-read_item x = ap (option_map (item_with (recorded x).entry)) (read_what x.what)
+pub read_item : (x : Item) → item_from (as_recorded x) ≡ Some x
+read_item x = ap (option_map (item_with (as_recorded x).entry)) (read_what x.what)
 
-pub one_item : (x y : Item) → recorded x ≡ recorded y → x ≡ y
+pub one_item : (x y : Item) → as_recorded x ≡ as_recorded y → x ≡ y
 one_item x y e = let h : Some x ≡ Some y = sym (read_item x) ∙ (ap item_from e ∙ read_item y) in cc
 
 -- ---- heads
@@ -100,15 +100,15 @@ one_head h g e =
 pub fronts_spell : (h g : Head) (xs ys : List Item) → g ≡ h → IsPrefix xs ys → Begins (record_of h xs) (record_of g ys)
 fronts_spell h g xs ys e is = record {
   head = ap head_numbers e;
-  entries = (map recorded is.0, ap (map recorded) is.1 ∙ map-append recorded xs is.0);
+  entries = (map as_recorded is.0, ap (map as_recorded) is.1 ∙ map-append as_recorded xs is.0);
 }
 
-front_of : (xs ys : List Item) (rest : List Recorded) → map recorded ys ≡ map recorded xs ++ rest → IsPrefix xs ys
+front_of : (xs ys : List Item) (rest : List Recorded) → map as_recorded ys ≡ map as_recorded xs ++ rest → IsPrefix xs ys
 front_of [] ys rest e = (ys, refl)
 front_of (x ∷ xs) [] rest e = absurd (cc)
 front_of (x ∷ xs) (y ∷ ys) rest e =
-    let first : recorded y ≡ recorded x = cc in
-    let later : map recorded ys ≡ map recorded xs ++ rest = cc in
+    let first : as_recorded y ≡ as_recorded x = cc in
+    let later : map as_recorded ys ≡ map as_recorded xs ++ rest = cc in
     let f = front_of xs ys rest later in
     (f.0, ap (λ (z : Item). z ∷ ys) (one_item y x first) ∙ ap (λ (l : List Item). x ∷ l) f.1)
 

@@ -10,7 +10,7 @@ use Rattle.world_model.specs.declared.offered.Fate.{Fate}
 use Rattle.world_model.specs.declared.offered.Fate.TheVariants as fate
 use Rattle.world_model.specs.Messages.{ToHub, Reply, StatusReply}
 use Rattle.world_model.specs.Places.{at_place}
-use Rattle.world_model.specs.Hub.{Hub, give_up, tag_of, take_message, time_out, unsent}
+use Rattle.world_model.specs.Hub.{Hub, give_up, tag_of, take_message, time_out, unsent_fate}
 use Rattle.world_model.proofs.Lists.{either}
 use Rattle.world_model.proofs.Flushing.{reply_cases, status_cases}
 use Rattle.world_model.proofs.Hubs.{all_inserted, all_unsent}
@@ -61,7 +61,7 @@ module _ (P : Outcome → Type 0) where
   pub give_up_holds : (hub : Hub) (outs : List (Option Outcome)) → ((place : ℕ) → P (TimedOut place hub.rounds))
       → P Unsent → hub.fates ≡ [] → HoldOfEach outs → HoldOfEach (put_all (give_up hub).fates outs)
   give_up_holds hub outs late never none are = put_all_hold (give_up hub).fates outs
-      (AllByRecursion-append FateHolds (time_out hub.rounds hub.sent hub.open_places hub.fates) (map unsent hub.queue)
+      (AllByRecursion-append FateHolds (time_out hub.rounds hub.sent hub.open_places hub.fates) (map unsent_fate hub.queue)
       (timed_out_hold hub.rounds hub.sent hub.open_places hub.fates late (none_yet hub none))
       (all_unsent FateHolds hub.queue (λ tag. never))) are
 

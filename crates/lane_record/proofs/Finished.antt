@@ -18,13 +18,13 @@ use Rattle.lane_record.specs.declared.item.Item.{Item}
 use Rattle.lane_record.specs.declared.item.What.{What}
 use Rattle.lane_record.specs.declared.item.What.TheVariants.{Plan, Seal, Ask, Took}
 use Rattle.lane_record.specs.Outcomes.{place_of, is_sent}
-use Rattle.lane_record.specs.Items.{found, plan_in, ask_in, took_in, is_of, asked, planned}
-use Rattle.lane_record.specs.Claims.{Claim, claims, claims_behind, claim_in, IsAskOf, outcome_taken, taken, IsTaken}
+use Rattle.lane_record.specs.Items.{told_by_first, plan_in, ask_in, took_in, is_of, asked_count, planned_count}
+use Rattle.lane_record.specs.Claims.{Claim, claims, claims_behind, claim_in, IsAskOf, outcome_taken, taken_outcomes, IsTaken}
 use Rattle.lane_record.specs.Claims.{IsFinished}
 use Rattle.lane_record.specs.Lists.{EachBehind, CountsFrom}
 use Rattle.lane_record.specs.FirstSends.{HavePlacesAfter, HasPlaceAfter, may_have_place, Sent, sent_at, sent_as}
 use Rattle.lane_record.specs.FirstSends.{sent_of, first_sends, places_of, bodies_sent, IsOfAsk}
-use Rattle.lane_record.specs.Offers.{Agrees, offers_from, unsettled_from, awaited, tags}
+use Rattle.lane_record.specs.Offers.{Agrees, offers_from, unsettled_from, awaited_tags, tags}
 use Rattle.lane_record.specs.Legal.{IsLegal, IsPlanned, HasPlan, IsTookOf, MayTake}
 use Rattle.lane_record.proofs.Lookups.{first_or, if_some, and_true, found_front, found_below, found_within}
 use Rattle.lane_record.proofs.Asks.{ask_front, one_ask}
@@ -57,10 +57,10 @@ found_in_took outcomes front items x client seq outcome (Took o g) c s e may =
 
 found_behind : (outcomes : List (Option Outcome)) (front items : List Item) (client seq : ℕ) (outcome : Outcome)
     → EachBehind (IsTookOf outcomes) front items
-    → found took_in client seq items ≡ Some outcome → IsFound (front ++ items) outcomes client seq outcome
+    → told_by_first took_in client seq items ≡ Some outcome → IsFound (front ++ items) outcomes client seq outcome
 found_behind outcomes front [] client seq outcome is e = absurd (cc)
 found_behind outcomes front (x ∷ items) client seq outcome is e =
-    elim (first_or (if is_of client seq x then took_in x.what else None) (found took_in client seq items) outcome e) [
+    elim (first_or (if is_of client seq x then took_in x.what else None) (told_by_first took_in client seq items) outcome e) [
       | inl h ↦
           let r = if_some (is_of client seq x) (took_in x.what) outcome h in
           let same = and_true (x.client == client) (x.seq == seq) r.0 in
@@ -71,7 +71,7 @@ found_behind outcomes front (x ∷ items) client seq outcome is e =
     ]
 
 pub took_found : (items : List Item) (outcomes : List (Option Outcome)) (client seq : ℕ) (outcome : Outcome)
-    → IsLegal items outcomes → found took_in client seq items ≡ Some outcome
+    → IsLegal items outcomes → told_by_first took_in client seq items ≡ Some outcome
     → IsFound items outcomes client seq outcome
 took_found items outcomes client seq outcome is e = found_behind outcomes [] items client seq outcome is.taken_once e
 
@@ -88,7 +88,7 @@ outcomes_are f (c ∷ cs) (o ∷ os) len h =
 
 -- the record alone tells what became of each Ask
 pub outcomes_taken : (items : List Item) (outcomes : List (Option Outcome)) → IsLegal items outcomes
-    → IsFinished items → outcomes ≡ taken items
+    → IsFinished items → outcomes ≡ taken_outcomes items
 outcomes_taken items outcomes is all = outcomes_are (outcome_taken items)
     (claims items) outcomes is.places_count.each (λ k c e.
     let took = all_get (IsTaken items) (claims items) k c all e in
@@ -139,7 +139,7 @@ sent_counts others (c ∷ cs) (Some outcome ∷ os) all is =
 pub first_sends_count : (items : List Item) (outcomes : List (Option Outcome)) → IsLegal items outcomes
     → IsFinished items → CountsFrom 1 (places_of (first_sends items))
 first_sends_count items outcomes is all =
-    sent_counts 0 (claims items) (taken items) (some_taken items (claims items) all)
+    sent_counts 0 (claims items) (taken_outcomes items) (some_taken items (claims items) all)
     (subst (HavePlacesAfter 0) (outcomes_taken items outcomes is all) is.places_count.places)
 
 -- ---- each at its place
@@ -242,7 +242,7 @@ of_asks items front (c ∷ cs) e =
 -- ---- each body is that of its Plan
 
 abbrev pub IsOfPlan : List Item → Claim → Type 0
-IsOfPlan items c = found plan_in c.client c.seq items ≡ Some c.body
+IsOfPlan items c = told_by_first plan_in c.client c.seq items ≡ Some c.body
 
 planned_one : (front items : List Item) (x : Item) (what : What) → HasPlan front x what
     → AllByRecursion (IsOfPlan (front ++ items)) (claim_in front x (ask_in what))
@@ -250,7 +250,7 @@ planned_one front items x (Plan body) is = tt
 planned_one front items x Seal is = tt
 planned_one front items x (Took outcome g) is = tt
 planned_one front items x (Ask g) is = (
-  found_front plan_in x.client x.seq front items (unwrap_or (found plan_in x.client x.seq front) [])
+  found_front plan_in x.client x.seq front items (unwrap_or (told_by_first plan_in x.client x.seq front) [])
       (is.1 ∙ ap (λ (o : Option (List ℕ)). Some (unwrap_or o [])) (sym is.1)),
   tt,
 )
@@ -267,10 +267,10 @@ planned_behind front (x ∷ items) is =
 
 pub asked_as_planned : (items : List Item) (outcomes : List (Option Outcome)) (k client seq : ℕ) (claim : Claim)
     → IsLegal items outcomes → IsAskOf items k client seq claim
-    → found plan_in client seq items ≡ Some claim.body
+    → told_by_first plan_in client seq items ≡ Some claim.body
 asked_as_planned items outcomes k client seq claim is ask =
-    subst (λ (c : ℕ). found plan_in c seq items ≡ Some claim.body) ask.same_client
-    (subst (λ (s : ℕ). found plan_in claim.client s items ≡ Some claim.body) ask.same_seq
+    subst (λ (c : ℕ). told_by_first plan_in c seq items ≡ Some claim.body) ask.same_client
+    (subst (λ (s : ℕ). told_by_first plan_in claim.client s items ≡ Some claim.body) ask.same_seq
     (all_get (IsOfPlan items) (claims items) k claim (planned_behind [] items is.asks_follow_plans.planned) ask.there))
 
 pub stands_at : (items : List Item) (outcomes : List (Option Outcome)) (k client seq : ℕ) (claim : Claim)
@@ -286,7 +286,7 @@ pub stands_at : (items : List Item) (outcomes : List (Option Outcome)) (k client
     })
 stands_at items outcomes k client seq claim outcome place is all ask took at =
     let same = outcomes_taken items outcomes is all in
-    let s = stands_after 0 (claims items) (taken items) k claim outcome place (some_taken items (claims items) all)
+    let s = stands_after 0 (claims items) (taken_outcomes items) k claim outcome place (some_taken items (claims items) all)
     (subst (HavePlacesAfter 0) same is.places_count.places) ask.there
     (get_map (outcome_taken items) (claims items) k claim ask.there ∙ ap (λ (o : Option Outcome). Some o) took) at in
     let p = s.place_is in
@@ -347,47 +347,47 @@ pub finished_hub : (items : List Item) (outcomes : List (Option Outcome)) (sent 
 finished_hub items outcomes sent queue open_places is all agrees =
     let same = outcomes_taken items outcomes is all in
     let some = some_taken items (claims items) all in
-    let none = no_queue (awaited sent open_places) queue (agrees.waits
-    ∙ (ap (unsettled_from 0) same ∙ all_settled 0 (taken items) some)) in
+    let none = no_queue (awaited_tags sent open_places) queue (agrees.waits
+    ∙ (ap (unsettled_from 0) same ∙ all_settled 0 (taken_outcomes items) some)) in
     record {
       nothing_queued = none;
       bodies = ap bodies_of (sym (append-nil sent) ∙ (ap (λ (q : List Offered). sent ++ q) (sym none)
           ∙ (agrees.offered ∙ ap (offers_from 0 (claims items)) same)))
-          ∙ same_bodies 0 (claims items) (taken items) some (length-map (claims items) (outcome_taken items));
+          ∙ same_bodies 0 (claims items) (taken_outcomes items) some (length-map (claims items) (outcome_taken items));
     }
 
 -- ---- no more Asks than Plans
 
 plan_of_asked : (front items : List Item) (x : Item) (what : What) (client seq g : ℕ) → x.client ≡ client
     → x.seq ≡ seq → ask_in what ≡ Some g → HasPlan front x what
-    → (body : List ℕ) × (found plan_in client seq (front ++ items) ≡ Some body)
+    → (body : List ℕ) × (told_by_first plan_in client seq (front ++ items) ≡ Some body)
 plan_of_asked front items x (Plan body) client seq g c s e is = absurd (cc)
 plan_of_asked front items x Seal client seq g c s e is = absurd (cc)
 plan_of_asked front items x (Took outcome n) client seq g c s e is = absurd (cc)
 plan_of_asked front items x (Ask n) client seq g c s e is = (
   is.0,
   found_front plan_in client seq front items is.0
-      (subst (λ (d : ℕ). found plan_in d seq front ≡ Some is.0) c
-      (subst (λ (t : ℕ). found plan_in x.client t front ≡ Some is.0) s is.1)),
+      (subst (λ (d : ℕ). told_by_first plan_in d seq front ≡ Some is.0) c
+      (subst (λ (t : ℕ). told_by_first plan_in x.client t front ≡ Some is.0) s is.1)),
 )
 
 plan_behind : (front items : List Item) (client seq g : ℕ) → EachBehind IsPlanned front items
-    → found ask_in client seq items ≡ Some g
-    → (body : List ℕ) × (found plan_in client seq (front ++ items) ≡ Some body)
+    → told_by_first ask_in client seq items ≡ Some g
+    → (body : List ℕ) × (told_by_first plan_in client seq (front ++ items) ≡ Some body)
 plan_behind front [] client seq g is e = absurd (cc)
 plan_behind front (x ∷ items) client seq g is e =
-    elim (first_or (if is_of client seq x then ask_in x.what else None) (found ask_in client seq items) g e) [
+    elim (first_or (if is_of client seq x then ask_in x.what else None) (told_by_first ask_in client seq items) g e) [
       | inl h ↦
           let r = if_some (is_of client seq x) (ask_in x.what) g h in
           let same = and_true (x.client == client) (x.seq == seq) r.0 in
           plan_of_asked front (x ∷ items) x x.what client seq g (eqb-true x.client client same.0)
           (eqb-true x.seq seq same.1) r.1 is.0
-      | inr h ↦ subst (λ (l : List Item). (body : List ℕ) × (found plan_in client seq l ≡ Some body))
+      | inr h ↦ subst (λ (l : List Item). (body : List ℕ) × (told_by_first plan_in client seq l ≡ Some body))
           (append_assoc front (x ∷ []) items) (plan_behind (front ++ x ∷ []) items client seq g is.1 h)
     ]
 
 last_planned : (items : List Item) (outcomes : List (Option Outcome)) (client many : ℕ)
-    → asked client items ≡ suc many → IsLegal items outcomes → suc many ≤ planned client items
+    → asked_count client items ≡ suc many → IsLegal items outcomes → suc many ≤ planned_count client items
 last_planned items outcomes client many e is =
     let ask = found_below ask_in client many items is.asks_follow_plans.count (omega (arith, e)) in
     let plan = plan_behind [] items client many ask.0 is.asks_follow_plans.planned ask.1 in
@@ -395,9 +395,9 @@ last_planned items outcomes client many e is =
     omega (arith, within)
 
 pub asked_few : (items : List Item) (outcomes : List (Option Outcome)) (client : ℕ) → IsLegal items outcomes
-    → asked client items ≤ planned client items
-asked_few items outcomes client is = elim (asked client items) as
-    (λ n. asked client items ≡ n → n ≤ planned client items) [
+    → asked_count client items ≤ planned_count client items
+asked_few items outcomes client is = elim (asked_count client items) as
+    (λ n. asked_count client items ≡ n → n ≤ planned_count client items) [
       | zero ↦ λ e. omega arith
       | suc many ↦ λ e. last_planned items outcomes client many e is
     ] refl

@@ -12,9 +12,9 @@ use Rattle.world_model.specs.declared.offered.OpenPlace.{OpenPlace}
 use Rattle.world_model.specs.declared.offered.Fate.{Fate}
 use Rattle.world_model.specs.declared.offered.Fate.TheVariants as fate
 use Rattle.world_model.specs.Messages.{ToHub, StatusReply, Reply}
-use Rattle.world_model.specs.Hub.{Hub, without, open_with, settle, hear_reply, recover, recovered}
+use Rattle.world_model.specs.Hub.{Hub, without, open_with, settle, hear_reply, recover, after_recovery}
 use Rattle.world_model.specs.Hub.{told_place, hear_status, take_message}
-use Rattle.world_model.specs.Hub.{time_out, unsent, give_up, want_status, hear_quiet, want_control, offer}
+use Rattle.world_model.specs.Hub.{time_out, unsent_fate, give_up, want_status, hear_quiet, want_control, offer}
 use Rattle.world_model.specs.Hub.{insert_fate, goes_before}
 use Rattle.world_model.specs.Hub.{places, place_of as place_open, least}
 use Rattle.world_model.specs.Facts.{IsWindow, AreRising}
@@ -25,7 +25,7 @@ use Rattle.lane_record.specs.declared.outcome.Outcome.TheVariants.{Replied, Time
 use Rattle.lane_record.specs.Outcomes.{is_replied, is_given_up, is_timed_out}
 use Rattle.lane_record.specs.Claims.{Claim}
 use Rattle.lane_record.specs.Bounds.{timeouts}
-use Rattle.lane_record.specs.Offers.{awaited, tag_at, tags, Agrees, put}
+use Rattle.lane_record.specs.Offers.{awaited_tags, tag_at, tags, Agrees, put}
 use Rattle.lane_record.specs.Offers.{put_all, outcome_of, AreOutcomes, KeepsOutcomes, AddsOnly, Settles}
 use Rattle.lane_record.proofs.Offers.{unsettled_none}
 use Rattle.lane_record.proofs.Offers.{keeps_put, adds_put, timeouts_put}
@@ -165,8 +165,8 @@ unwaited_agrees sent queue front back o cs outs waits is = record {
   counts = is.counts;
   offered = is.offered;
   waits = ap (λ (l : List ℕ). l ++ tags queue) (awaited_append sent front back
-      ∙ sym (awaited_append sent front (o ∷ back) ∙ ap (λ (b : Bool). awaited sent front ++ cond b
-      (tag_at sent o.place ∷ awaited sent back) (awaited sent back)) waits)) ∙ is.waits;
+      ∙ sym (awaited_append sent front (o ∷ back) ∙ ap (λ (b : Bool). awaited_tags sent front ++ cond b
+      (tag_at sent o.place ∷ awaited_tags sent back) (awaited_tags sent back)) waits)) ∙ is.waits;
 }
 
 -- the fates of a settled place, and the outcomes with them
@@ -204,8 +204,8 @@ settle_settles hub words (Some o) cs outs first id f none opens is =
     (subst (AllByRecursion (IsOpened (length hub.sent))) s.is opens) in
     elim o.waited as (λ b. o.waited ≡ b → Settles (settle hub words (Some o)) cs outs is_replied 0) [
       | true ↦ λ w.
-          let none_yet = unsettled_none (tag_at hub.sent o.place) outs (awaited hub.sent s.front)
-          (awaited hub.sent s.back ++ tags hub.queue) (waits_at hub.sent hub.queue s.front s.back o cs outs w here) in
+          let none_yet = unsettled_none (tag_at hub.sent o.place) outs (awaited_tags hub.sent s.front)
+          (awaited_tags hub.sent s.back ++ tags hub.queue) (waits_at hub.sent hub.queue s.front s.back o cs outs w here) in
           let new = put (tag_at hub.sent o.place) (Replied o.place words) outs in
           settles_by (settle hub words (Some o)) cs outs new is_replied 0
           (settled_by hub words o true outs w none)
@@ -237,16 +237,16 @@ recover_same e o = either (λ (x : OpenPlace). (x.place ≡ o.place) × (x.waite
     (record o { resend = true }) (record o { control = true }) (λ _. (refl, refl)) (λ _. (refl, refl))
 
 recovered_settles : (hub : Hub) (r : Option ℕ) (cs : List Claim) (outs : List (Option Outcome)) → hub.fates ≡ []
-    → Agrees hub.sent hub.queue hub.open_places cs outs → Settles (recovered hub r) cs outs is_replied 0
+    → Agrees hub.sent hub.queue hub.open_places cs outs → Settles (after_recovery hub r) cs outs is_replied 0
 recovered_settles hub None cs outs none is = same_settles hub cs outs is_replied 0 none is
-recovered_settles hub (Some e) cs outs none is = same_settles (recovered hub (Some e)) cs outs is_replied 0 none
+recovered_settles hub (Some e) cs outs none is = same_settles (after_recovery hub (Some e)) cs outs is_replied 0 none
     (mapped_agrees hub.sent hub.queue hub.open_places cs outs (recover e) (λ o. (recover_same e o).0)
     (λ o. (recover_same e o).1) is)
 
 status_settles : (hub : Hub) (next : ℕ) (cs : List Claim) (outs : List (Option Outcome)) → hub.fates ≡ []
     → Agrees hub.sent hub.queue hub.open_places cs outs → Settles (hear_status hub next) cs outs is_replied 0
 status_settles hub next cs outs none is = either (λ (x : Hub). Settles x cs outs is_replied 0)
-    (nat_lt 0 hub.status_requests) (recovered hub (told_place hub next)) hub
+    (nat_lt 0 hub.status_requests) (after_recovery hub (told_place hub next)) hub
     (λ _. recovered_settles hub (told_place hub next) cs outs none is)
     (λ _. same_settles hub cs outs is_replied 0 none is)
 
@@ -341,7 +341,7 @@ time_outs_end rounds sent queue (o ∷ os) cs outs opens is =
       | true ↦ λ w.
           let out : Outcome = TimedOut o.place rounds in
           let next = settled_agrees sent queue [] os o cs outs out opens.0 w refl refl is in
-          let none_yet = unsettled_none (tag_at sent o.place) outs [] (awaited sent os ++ tags queue)
+          let none_yet = unsettled_none (tag_at sent o.place) outs [] (awaited_tags sent os ++ tags queue)
           (waits_at sent queue [] os o cs outs w is) in
           let one = goes_put outs (tag_at sent o.place) out is_given_up none_yet refl in
           let later = time_outs_end rounds sent queue os cs (put (tag_at sent o.place) out outs) opens.1 next in
@@ -376,7 +376,7 @@ time_outs_end rounds sent queue (o ∷ os) cs outs opens is =
     ] refl
 
 unsent_end : (sent queue : List Offered) (cs : List Claim) (outs : List (Option Outcome))
-    → Agrees sent queue [] cs outs → Ends sent [] [] cs (map unsent queue) outs 0
+    → Agrees sent queue [] cs outs → Ends sent [] [] cs (map unsent_fate queue) outs 0
 unsent_end sent [] cs outs is = record { agrees = is; told = tt; goes = goes_none outs is_given_up 0 }
 unsent_end sent (x ∷ queue) cs outs is =
     let next = unsent_agrees sent queue x cs outs is in
@@ -387,7 +387,7 @@ unsent_end sent (x ∷ queue) cs outs is =
       agrees = later.agrees;
       told = (later.goes.keeps x.tag Unsent (put_there x.tag Unsent outs none_yet), later.told);
       goes = goes_on outs (put x.tag Unsent outs)
-          (put_all (map unsent queue) (put x.tag Unsent outs)) is_given_up 0 0 one later.goes;
+          (put_all (map unsent_fate queue) (put x.tag Unsent outs)) is_given_up 0 0 one later.goes;
     }
 
 rising_few : (from past : ℕ) (ps : List ℕ) → AreRising from past ps → length ps + from ≤ past
@@ -412,18 +412,18 @@ give_up_settles hub cs outs none window is =
     ap (λ (l : List (ℕ × Fate)). time_out hub.rounds hub.sent hub.open_places l) none
     ∙ timed_in_order hub.rounds hub.sent hub.open_places (least (places hub.open_places) (length hub.sent + 1))
     (length hub.sent + 1) [] window.rising tt in
-    let fates_are : put_all (give_up hub).fates outs ≡ put_all (map unsent hub.queue) (put_all late outs) =
-    ap (λ (l : List (ℕ × Fate)). put_all (l ++ map unsent hub.queue) outs) timed_is
-    ∙ put_append late (map unsent hub.queue) outs in
-    let told : AreOutcomes (give_up hub).fates (put_all (map unsent hub.queue) (put_all late outs)) =
-    subst (λ (l : List (ℕ × Fate)). AreOutcomes (l ++ map unsent hub.queue)
-    (put_all (map unsent hub.queue) (put_all late outs))) (sym timed_is)
-    (AllByRecursion-append _ late (map unsent hub.queue) (still_told (put_all late outs)
-    (put_all (map unsent hub.queue) (put_all late outs)) late b.goes.keeps a.told) b.told) in
+    let fates_are : put_all (give_up hub).fates outs ≡ put_all (map unsent_fate hub.queue) (put_all late outs) =
+    ap (λ (l : List (ℕ × Fate)). put_all (l ++ map unsent_fate hub.queue) outs) timed_is
+    ∙ put_append late (map unsent_fate hub.queue) outs in
+    let told : AreOutcomes (give_up hub).fates (put_all (map unsent_fate hub.queue) (put_all late outs)) =
+    subst (λ (l : List (ℕ × Fate)). AreOutcomes (l ++ map unsent_fate hub.queue)
+    (put_all (map unsent_fate hub.queue) (put_all late outs))) (sym timed_is)
+    (AllByRecursion-append _ late (map unsent_fate hub.queue) (still_told (put_all late outs)
+    (put_all (map unsent_fate hub.queue) (put_all late outs)) late b.goes.keeps a.told) b.told) in
     let few = window_few hub.window (length hub.sent) hub.open_places window in
-    let both = goes_on outs (put_all late outs) (put_all (map unsent hub.queue) (put_all late outs)) is_given_up
+    let both = goes_on outs (put_all late outs) (put_all (map unsent_fate hub.queue) (put_all late outs)) is_given_up
     (length hub.open_places) 0 a.goes b.goes in
-    settles_by (give_up hub) cs outs (put_all (map unsent hub.queue) (put_all late outs)) is_given_up hub.window
+    settles_by (give_up hub) cs outs (put_all (map unsent_fate hub.queue) (put_all late outs)) is_given_up hub.window
     fates_are
     (record {
       counts = b.agrees.counts;

@@ -10,7 +10,7 @@ use Rattle.world_model.proofs.Lists.{either}
 use Rattle.lane_record.specs.declared.item.Item.{Item}
 use Rattle.lane_record.specs.declared.item.What.{What}
 use Rattle.lane_record.specs.Lists.{CountsFrom}
-use Rattle.lane_record.specs.Items.{numbers, found, is_of, is_sealed, is_seal, give_ups, give_ups_in, and_number}
+use Rattle.lane_record.specs.Items.{numbers, told_by_first, is_of, is_sealed, is_seal, give_ups, give_ups_in, and_number}
 use Rattle.lane_record.specs.Items.{ask_in}
 use Rattle.lane_record.specs.Claims.{Claim, claims, claims_behind, claim_in}
 use Rattle.lane_record.proofs.Sequences.{counts_push, counts_front, counts_last}
@@ -32,11 +32,11 @@ or_assoc None p q = refl
 or_assoc (Some x) p q = refl
 
 pub found_append : {A : Type 0} (kind : What → Option A) (client seq : ℕ) (xs ys : List Item)
-    → found kind client seq (xs ++ ys) ≡ option_or (found kind client seq xs) (found kind client seq ys)
+    → told_by_first kind client seq (xs ++ ys) ≡ option_or (told_by_first kind client seq xs) (told_by_first kind client seq ys)
 found_append kind client seq [] ys = refl
 found_append kind client seq (x ∷ xs) ys =
     ap (option_or (if is_of client seq x then kind x.what else None)) (found_append kind client seq xs ys)
-    ∙ or_assoc (if is_of client seq x then kind x.what else None) (found kind client seq xs) (found kind client seq ys)
+    ∙ or_assoc (if is_of client seq x then kind x.what else None) (told_by_first kind client seq xs) (told_by_first kind client seq ys)
 
 or_some : {A : Type 0} (o p : Option A) (x : A) → o ≡ Some x → option_or o p ≡ Some x
 or_some None p x e = absurd (cc)
@@ -48,19 +48,19 @@ or_none (Some x) = refl
 
 -- what was found is found in a longer record
 pub found_front : {A : Type 0} (kind : What → Option A) (client seq : ℕ) (xs ys : List Item) (y : A)
-    → found kind client seq xs ≡ Some y → found kind client seq (xs ++ ys) ≡ Some y
+    → told_by_first kind client seq xs ≡ Some y → told_by_first kind client seq (xs ++ ys) ≡ Some y
 found_front kind client seq xs ys y e = found_append kind client seq xs ys
-    ∙ or_some (found kind client seq xs) (found kind client seq ys) y e
+    ∙ or_some (told_by_first kind client seq xs) (told_by_first kind client seq ys) y e
 
 -- an entry of another kind changes no look-up
 pub found_other : {A : Type 0} (kind : What → Option A) (client seq : ℕ) (xs : List Item) (x : Item)
-    → kind x.what ≡ None → found kind client seq (xs ++ x ∷ []) ≡ found kind client seq xs
+    → kind x.what ≡ None → told_by_first kind client seq (xs ++ x ∷ []) ≡ told_by_first kind client seq xs
 found_other {A} kind client seq xs x e =
     let none : (if is_of client seq x then kind x.what else None)
     ≡ None = either (λ o. o ≡ None) (is_of client seq x) (kind x.what) None (λ _. e) (λ _. refl) in
     found_append kind client seq xs (x ∷ [])
-    ∙ (ap (λ (o : Option A). option_or (found kind client seq xs) (option_or o None)) none
-    ∙ or_none (found kind client seq xs))
+    ∙ (ap (λ (o : Option A). option_or (told_by_first kind client seq xs) (option_or o None)) none
+    ∙ or_none (told_by_first kind client seq xs))
 
 pub sealed_append : (xs ys : List Item) → is_sealed (xs ++ ys) ≡ (is_sealed xs || is_sealed ys)
 sealed_append [] ys = refl
@@ -152,23 +152,23 @@ there (Some y) e = (y, refl)
 
 found_here : {A : Type 0} (kind : What → Option A) (client seq : ℕ) (x : Item) (xs : List Item) → x.client ≡ client
     → x.seq ≡ seq → is_some (kind x.what) ≡ true
-    → (y : A) × (found kind client seq (x ∷ xs) ≡ Some y)
+    → (y : A) × (told_by_first kind client seq (x ∷ xs) ≡ Some y)
 found_here kind client seq x xs c s e =
     let y = there (kind x.what) e in
-    (y.0, rw (eq-eqb x.client client c, eq-eqb x.seq seq s) (or_some (kind x.what) (found kind client seq xs) y.0 y.1))
+    (y.0, rw (eq-eqb x.client client c, eq-eqb x.seq seq s) (or_some (kind x.what) (told_by_first kind client seq xs) y.0 y.1))
 
 found_from : {A : Type 0} (kind : What → Option A) (client seq k : ℕ) (items : List Item)
     → CountsFrom k (numbers kind client items) → k ≤ seq → seq < k + length (numbers kind client items)
-    → (y : A) × (found kind client seq items ≡ Some y)
+    → (y : A) × (told_by_first kind client seq items ≡ Some y)
 found_from kind client seq k [] is le lt = absurd (omega (arith, le, lt))
 found_from {A} kind client seq k (x ∷ xs) is le lt =
     let P = λ (ns : List ℕ). CountsFrom k ns → seq < k + length ns
-    → (y : A) × (found kind client seq (x ∷ xs) ≡ Some y) in
-    let skip = λ (f : (y : A) × (found kind client seq xs ≡ Some y)). there_or
-    (if is_of client seq x then kind x.what else None) (found kind client seq xs) f.0 f.1 in
+    → (y : A) × (told_by_first kind client seq (x ∷ xs) ≡ Some y) in
+    let skip = λ (f : (y : A) × (told_by_first kind client seq xs ≡ Some y)). there_or
+    (if is_of client seq x then kind x.what else None) (told_by_first kind client seq xs) f.0 f.1 in
     either P ((x.client == client) && is_some (kind x.what)) (x.seq ∷ numbers kind client xs) (numbers kind client xs)
     (λ e is lt. let parts = and_true (x.client == client) (is_some (kind x.what)) e in elim (seq == k) as
-    (λ b. (seq == k) ≡ b → (y : A) × (found kind client seq (x ∷ xs) ≡ Some y)) [
+    (λ b. (seq == k) ≡ b → (y : A) × (told_by_first kind client seq (x ∷ xs) ≡ Some y)) [
       | true ↦ λ same. found_here kind client seq x xs (eqb-true x.client client parts.0)
           (is.0 ∙ sym (eqb-true seq k same)) parts.1
       | false ↦ λ other. skip (found_from kind client seq (k + 1) xs is.1
@@ -179,7 +179,7 @@ found_from {A} kind client seq k (x ∷ xs) is le lt =
 
 pub found_below : {A : Type 0} (kind : What → Option A) (client seq : ℕ) (items : List Item) → Count kind items
     → seq < length (numbers kind client items)
-    → (y : A) × (found kind client seq items ≡ Some y)
+    → (y : A) × (told_by_first kind client seq items ≡ Some y)
 found_below kind client seq items is lt = found_from kind client seq 0 items (is client) (omega arith)
     (omega (arith, lt))
 
@@ -197,19 +197,19 @@ if_some true o y e = (refl, e)
 if_some false o y e = absurd (cc)
 
 within_from : {A : Type 0} (kind : What → Option A) (client seq k : ℕ) (items : List Item) (y : A)
-    → CountsFrom k (numbers kind client items) → found kind client seq items ≡ Some y
+    → CountsFrom k (numbers kind client items) → told_by_first kind client seq items ≡ Some y
     → seq < k + length (numbers kind client items)
 within_from kind client seq k [] y is e = absurd (cc)
 within_from kind client seq k (x ∷ xs) y is e =
     either (λ (ns : List ℕ). CountsFrom k ns → seq < k + length ns) ((x.client == client) && is_some (kind x.what))
     (x.seq ∷ numbers kind client xs) (numbers kind client xs)
-    (λ t is. elim (first_or (if is_of client seq x then kind x.what else None) (found kind client seq xs) y e) [
+    (λ t is. elim (first_or (if is_of client seq x then kind x.what else None) (told_by_first kind client seq xs) y e) [
       | inl h ↦ let parts = and_true (x.client == client) (x.seq == seq)
           (if_some (is_of client seq x) (kind x.what) y h).0 in let s = eqb-true x.seq seq parts.1 in let a = is.0 in
           omega (arith, s, a)
       | inr h ↦ let later = within_from kind client seq (k + 1) xs y is.1 h in omega (arith, later)
     ])
-    (λ f is. elim (first_or (if is_of client seq x then kind x.what else None) (found kind client seq xs) y e) [
+    (λ f is. elim (first_or (if is_of client seq x then kind x.what else None) (told_by_first kind client seq xs) y e) [
       | inl h ↦ let r = if_some (is_of client seq x) (kind x.what) y h in let parts = and_true (x.client == client)
           (x.seq == seq) r.0 in
           absurd (true≢false (sym (both (x.client == client) (is_some (kind x.what)) parts.0
@@ -219,16 +219,16 @@ within_from kind client seq k (x ∷ xs) y is e =
     is
 
 pub found_within : {A : Type 0} (kind : What → Option A) (client seq : ℕ) (items : List Item) (y : A)
-    → Count kind items → found kind client seq items ≡ Some y
+    → Count kind items → told_by_first kind client seq items ≡ Some y
     → seq < length (numbers kind client items)
 found_within kind client seq items y is e = let h = within_from kind client seq 0 items y (is client) e in omega
     (arith, h)
 
 -- one that is next was not there
 pub none_next : {A : Type 0} (kind : What → Option A) (client seq : ℕ) (items : List Item) → Count kind items
-    → length (numbers kind client items) ≤ seq → found kind client seq items ≡ None
-none_next kind client seq items is le = elim (found kind client seq items) as
-    (λ o. found kind client seq items ≡ o → o ≡ None) [
+    → length (numbers kind client items) ≤ seq → told_by_first kind client seq items ≡ None
+none_next kind client seq items is le = elim (told_by_first kind client seq items) as
+    (λ o. told_by_first kind client seq items ≡ o → o ≡ None) [
       | None ↦ λ e. refl
       | Some y ↦ λ e. let h = found_within kind client seq items y is e in absurd (omega (arith, h, le))
     ] refl

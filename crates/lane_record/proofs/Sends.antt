@@ -8,12 +8,12 @@ use Rattle.world_model.specs.declared.offered.Offered.{Offered}
 use Rattle.world_model.specs.declared.offered.OpenPlace.{OpenPlace}
 use Rattle.world_model.specs.declared.sending.Sending.TheVariants as sends
 use Rattle.world_model.specs.Hub.{Hub, is_waiting, some_waited, some_queued, low, places}
-use Rattle.world_model.specs.Sends.{Next, Wanted, next_send, wanted, wanted_or_first, first_send, after_open, opened}
+use Rattle.world_model.specs.Sends.{Next, Wanted, next_send, first_wanted, wanted_or_first, first_send, after_open, opened_place}
 use Rattle.world_model.specs.Facts.{IsWindow}
 use Rattle.world_model.proofs.Lists.{either}
 use Rattle.lane_record.specs.declared.outcome.Outcome.{Outcome}
 use Rattle.lane_record.specs.Claims.{Claim}
-use Rattle.lane_record.specs.Offers.{awaited, tag_at, tags, Agrees}
+use Rattle.lane_record.specs.Offers.{awaited_tags, tag_at, tags, Agrees}
 use Rattle.lane_record.proofs.Events.{IsOpened, window_opened, first_agrees}
 
 -- the hub after a send agrees with the same outcomes, and somebody waits as before
@@ -35,9 +35,9 @@ or_true true = refl
 or_true false = refl
 
 first_waits : (queue : List Offered) (os : List OpenPlace) (place : ℕ)
-    → (some_queued queue || some_waited (os ++ opened place ∷ [])) ≡ true
+    → (some_queued queue || some_waited (os ++ opened_place place ∷ [])) ≡ true
 first_waits queue os place = ap (λ (b : Bool). some_queued queue || b)
-    (or_append os (opened place ∷ []) ∙ or_true (some_waited os)) ∙ or_true (some_queued queue)
+    (or_append os (opened_place place ∷ []) ∙ or_true (some_waited os)) ∙ or_true (some_queued queue)
 
 after_first : (hub : Hub) (queue : List Offered) (cs : List Claim) (outs : List (Option Outcome)) → hub.queue ≡ queue
     → AllByRecursion (IsOpened (length hub.sent)) hub.open_places
@@ -49,7 +49,7 @@ after_first hub (o ∷ later) cs outs e opens is =
     (Some (record {
       send = sends.Control place (identifier_at hub.first place);
       hub = record hub
-          { sent = hub.sent ++ o ∷ []; queue = later; open_places = hub.open_places ++ opened place ∷ [] };
+          { sent = hub.sent ++ o ∷ []; queue = later; open_places = hub.open_places ++ opened_place place ∷ [] };
     }))
     None
     (λ _. record {
@@ -62,7 +62,7 @@ after_first hub (o ∷ later) cs outs e opens is =
 
 -- a wanted send changes flags alone
 pub record SameWaits (os ps : List OpenPlace) : Type 0 where
-  pub same : (sent : List Offered) → awaited sent ps ≡ awaited sent os
+  pub same : (sent : List Offered) → awaited_tags sent ps ≡ awaited_tags sent os
   pub some : some_waited ps ≡ some_waited os
 
 abbrev pub SameWaitsOr : List OpenPlace → Option Wanted → Type 0
@@ -77,10 +77,10 @@ after_waits o os (Some w) f = record {
   some = ap (λ (b : Bool). o.waited || b) f.some;
 }
 
-wanted_waits : (first : ℕ) (os : List OpenPlace) → SameWaitsOr os (wanted first os)
+wanted_waits : (first : ℕ) (os : List OpenPlace) → SameWaitsOr os (first_wanted first os)
 wanted_waits first [] = tt
 wanted_waits first (o ∷ os) =
-    let later = after_open o (wanted first os) in
+    let later = after_open o (first_wanted first os) in
     let control = Some (record {
       send = sends.Control o.place
           (identifier_at first o.place);
@@ -95,7 +95,7 @@ wanted_waits first (o ∷ os) =
     (λ _. record { same = λ sent. refl; some = refl })
     (λ _. either (SameWaitsOr (o ∷ os)) o.control control later
     (λ _. record { same = λ sent. refl; some = refl })
-    (λ _. after_waits o os (wanted first os) (wanted_waits first os)))
+    (λ _. after_waits o os (first_wanted first os) (wanted_waits first os)))
 
 after_wanted : (hub : Hub) (r : Option Wanted) (cs : List Claim) (outs : List (Option Outcome))
     → SameWaitsOr hub.open_places r → AllByRecursion (IsOpened (length hub.sent)) hub.open_places
@@ -117,7 +117,7 @@ pub after_send : (hub : Hub) (cs : List Claim) (outs : List (Option Outcome))
 after_send hub cs outs window is =
     either (AfterSend hub cs outs) hub.status_wanted (Some (record
     { send = sends.Status; hub = record hub { status_wanted = false } }))
-    (wanted_or_first hub (wanted hub.first hub.open_places))
+    (wanted_or_first hub (first_wanted hub.first hub.open_places))
     (λ _. record { agrees = is; waits = refl })
-    (λ _. after_wanted hub (wanted hub.first hub.open_places) cs outs (wanted_waits hub.first hub.open_places)
+    (λ _. after_wanted hub (first_wanted hub.first hub.open_places) cs outs (wanted_waits hub.first hub.open_places)
     (window_opened hub.window (length hub.sent) hub.open_places window) is)

@@ -4,7 +4,7 @@ use Rattle.std.specs.List.{slice_get, AllByRecursion}
 use Rattle.std.specs.Option.{unwrap_or}
 use Rattle.lane_record.specs.declared.outcome.Outcome.{Outcome}
 use Rattle.lane_record.specs.declared.item.Item.{Item}
-use Rattle.lane_record.specs.Items.{plan_in, ask_in, took_in, found}
+use Rattle.lane_record.specs.Items.{plan_in, ask_in, took_in, told_by_first}
 
 -- An asked body: whose it is, its number among the client's, how many times the lane had given up when it was asked,
 -- and its words, which are those of its Plan. In a legal record each Ask has its Plan.
@@ -22,7 +22,7 @@ claim_in front x (Some give_ups) =
       client = x.client;
       seq = x.seq;
       give_ups = give_ups;
-      body = unwrap_or (found plan_in x.client x.seq front) [];
+      body = unwrap_or (told_by_first plan_in x.client x.seq front) [];
     } ∷ []
 
 abbrev pub claims_behind : List Item → List Item → List Claim
@@ -41,11 +41,11 @@ pub record IsAskOf (items : List Item) (k client seq : ℕ) (claim : Claim) : Ty
 
 -- what a client took for an asked body
 abbrev pub outcome_taken : List Item → Claim → Option Outcome
-outcome_taken items claim = found took_in claim.client claim.seq items
+outcome_taken items claim = told_by_first took_in claim.client claim.seq items
 
 -- what was taken for each Ask, in order
-abbrev pub taken : List Item → List (Option Outcome)
-taken items = map (outcome_taken items) (claims items)
+abbrev pub taken_outcomes : List Item → List (Option Outcome)
+taken_outcomes items = map (outcome_taken items) (claims items)
 
 abbrev pub IsTaken : List Item → Claim → Type 0
 IsTaken items claim = (outcome : Outcome) × (outcome_taken items claim ≡ Some outcome)

@@ -53,8 +53,8 @@ content_of (Took outcome give_ups) = give_ups ∷ outcome_numbers outcome
 abbrev pub entry_of : Item → Entry
 entry_of x = record { maker = x.client; kind = kind_of x.what; seq = x.seq }
 
-abbrev pub recorded : Item → Recorded
-recorded x = record { entry = entry_of x; content = content_of x.what }
+abbrev pub as_recorded : Item → Recorded
+as_recorded x = record { entry = entry_of x; content = content_of x.what }
 
 -- ---- numbers as entries
 
@@ -149,4 +149,4 @@ head_numbers h = h.rounds ∷ h.window ∷ h.mtu ∷ h.buffers ∷ h.first ∷ o
 
 -- a lane's record as a value that is handed on shows it
 abbrev pub record_of : Head → List Item → Record
-record_of head items = record { head = head_numbers head; entries = map recorded items }
+record_of head items = record { head = head_numbers head; entries = map as_recorded items }

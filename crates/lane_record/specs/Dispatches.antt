@@ -40,8 +40,8 @@ actions_by client items = map numbered_action (entries_by client items)
 -- ---- dispatch by dispatch
 
 -- what became of the bodies of a client's dispatches, in order
-abbrev pub joined : List (List Outcome) → List Outcome
-joined dispatches = flat_map (λ outcomes. outcomes) dispatches
+abbrev pub outcomes_in_order : List (List Outcome) → List Outcome
+outcomes_in_order dispatches = flat_map (λ outcomes. outcomes) dispatches
 
 -- so many Asks from a number on
 abbrev pub asks_from : ℕ → ℕ → List NumberedAction

@@ -5,7 +5,7 @@ use Rattle.std.specs.Prelude.{Option, Some, None}
 use Rattle.lane_record.specs.declared.outcome.Outcome.{Outcome}
 use Rattle.lane_record.specs.declared.item.Item.{Item}
 use Rattle.lane_record.specs.Outcomes.{place_of, is_sent}
-use Rattle.lane_record.specs.Claims.{Claim, claims, taken, IsAskOf, outcome_taken}
+use Rattle.lane_record.specs.Claims.{Claim, claims, taken_outcomes, IsAskOf, outcome_taken}
 
 -- a body without an outcome was sent, or may still be
 abbrev pub may_have_place : Option Outcome → Bool
@@ -63,7 +63,7 @@ sent_of (c ∷ cs) (o ∷ os) = sent_as c o ++ sent_of cs os
 
 -- What a record alone tells of the bodies that were sent and taken. Of a finished record these are the first sends.
 abbrev pub first_sends : List Item → List Sent
-first_sends items = sent_of (claims items) (taken items)
+first_sends items = sent_of (claims items) (taken_outcomes items)
 
 -- a body that was sent is that of an Ask, with what was taken for it
 pub record IsOfAsk (items : List Item) (s : Sent) : Type 0 where

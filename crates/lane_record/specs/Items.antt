@@ -54,17 +54,17 @@ numbers kind client (x ∷ xs) =
     else numbers kind client xs
 
 -- what the first entry of one kind, client and number tells
-abbrev pub found : {A : Type 0} → (What → Option A) → ℕ → ℕ → List Item → Option A
-found kind client seq [] = None
-found kind client seq (x ∷ xs) =
-    option_or (if is_of client seq x then kind x.what else None) (found kind client seq xs)
+abbrev pub told_by_first : {A : Type 0} → (What → Option A) → ℕ → ℕ → List Item → Option A
+told_by_first kind client seq [] = None
+told_by_first kind client seq (x ∷ xs) =
+    option_or (if is_of client seq x then kind x.what else None) (told_by_first kind client seq xs)
 
 -- how many bodies a client planned, and how many it asked
-abbrev pub planned : ℕ → List Item → ℕ
-planned client items = length (numbers plan_in client items)
+abbrev pub planned_count : ℕ → List Item → ℕ
+planned_count client items = length (numbers plan_in client items)
 
-abbrev pub asked : ℕ → List Item → ℕ
-asked client items = length (numbers ask_in client items)
+abbrev pub asked_count : ℕ → List Item → ℕ
+asked_count client items = length (numbers ask_in client items)
 
 -- whether planning was closed
 abbrev pub is_sealed : List Item → Bool

@@ -8,7 +8,7 @@ use Rattle.lane_record.specs.declared.item.What.{What}
 use Rattle.lane_record.specs.declared.item.What.TheVariants.{Plan, Seal, Ask, Took}
 use Rattle.lane_record.specs.Outcomes.{is_given_up}
 use Rattle.lane_record.specs.Lists.{CountsFrom, NeverFalls, Throughout}
-use Rattle.lane_record.specs.Items.{plan_in, ask_in, took_in, numbers, found, is_sealed, give_ups}
+use Rattle.lane_record.specs.Items.{plan_in, ask_in, took_in, numbers, told_by_first, is_sealed, give_ups}
 use Rattle.lane_record.specs.Claims.{Claim, claims, IsAskOf}
 use Rattle.lane_record.specs.FirstSends.{PlacesCount}
 
@@ -44,7 +44,7 @@ pub record PlansCount (items : List Item) : Type 0 where
 abbrev pub HasPlan : List Item → Item → What → Type 0
 HasPlan front x (Plan body) = Unit {0}
 HasPlan front x Seal = Unit {0}
-HasPlan front x (Ask give_ups) = (body : List ℕ) × (found plan_in x.client x.seq front ≡ Some body)
+HasPlan front x (Ask give_ups) = (body : List ℕ) × (told_by_first plan_in x.client x.seq front ≡ Some body)
 HasPlan front x (Took outcome give_ups) = Unit {0}
 
 abbrev pub IsPlanned : List Item → Item → Type 0
@@ -63,7 +63,7 @@ pub record TakesOf (front : List Item) (outcomes : List (Option Outcome)) (clien
   pub k : ℕ
   pub claim : Claim
   pub ask : IsAskOf front k client seq claim
-  pub once : found took_in client seq front ≡ None
+  pub once : told_by_first took_in client seq front ≡ None
   pub became : slice_get outcomes k ≡ Some (Some outcome)
 
 abbrev pub MayTake : List (Option Outcome) → List Item → Item → What → Type 0

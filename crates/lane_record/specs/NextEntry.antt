@@ -4,7 +4,7 @@ use Rattle.lane_record.specs.declared.outcome.Outcome.{Outcome}
 use Rattle.lane_record.specs.declared.item.Item.{Item}
 use Rattle.lane_record.specs.declared.item.What.TheVariants.{Plan, Seal, Ask, Took}
 use Rattle.lane_record.specs.Outcomes.{is_given_up}
-use Rattle.lane_record.specs.Items.{planned, asked, is_sealed}
+use Rattle.lane_record.specs.Items.{planned_count, asked_count, is_sealed}
 use Rattle.lane_record.specs.Legal.{TakesOf}
 use Rattle.lane_record.specs.Bounds.{AreWithin}
 
@@ -24,14 +24,14 @@ the_seal = record { client = 0; seq = 0; what = Seal }
 -- a client plans its next body, before planning is closed
 pub record MayPlan (items : List Item) (client seq : ℕ) : Type 0 where
   pub some_client : 1 ≤ client
-  pub next : seq ≡ planned client items
+  pub next : seq ≡ planned_count client items
   pub unsealed : is_sealed items ≡ false
 
 -- a client asks its next planned body
 pub record MayAsk (items : List Item) (client seq now : ℕ) : Type 0 where
   pub some_client : 1 ≤ client
-  pub next : seq ≡ asked client items
-  pub is_planned : seq < planned client items
+  pub next : seq ≡ asked_count client items
+  pub is_planned : seq < planned_count client items
   pub within : AreWithin now items
 
 -- a client takes what became of a body that it asked and did not take yet

@@ -35,9 +35,9 @@ unsettled_from n (Some outcome ∷ os) = unsettled_from (n + 1) os
 abbrev pub tag_at : List Offered → ℕ → ℕ
 tag_at sent place = tag_of (at_place sent place)
 
-abbrev pub awaited : List Offered → List OpenPlace → List ℕ
-awaited sent [] = []
-awaited sent (o ∷ os) = if o.waited then tag_at sent o.place ∷ awaited sent os else awaited sent os
+abbrev pub awaited_tags : List Offered → List OpenPlace → List ℕ
+awaited_tags sent [] = []
+awaited_tags sent (o ∷ os) = if o.waited then tag_at sent o.place ∷ awaited_tags sent os else awaited_tags sent os
 
 abbrev pub tag_in : Offered → ℕ
 tag_in offered = offered.tag
@@ -50,7 +50,7 @@ pub record Agrees (sent queue : List Offered) (open_places : List OpenPlace) (cl
     (outcomes : List (Option Outcome)) : Type 0 where
   pub counts : PlacesCount claims outcomes
   pub offered : sent ++ queue ≡ offers_from 0 claims outcomes
-  pub waits : awaited sent open_places ++ tags queue ≡ unsettled_from 0 outcomes
+  pub waits : awaited_tags sent open_places ++ tags queue ≡ unsettled_from 0 outcomes
 
 abbrev pub AgreesWith : Hub → List Claim → List (Option Outcome) → Type 0
 AgreesWith hub claims outcomes = Agrees hub.sent hub.queue hub.open_places claims outcomes

@@ -4,10 +4,10 @@
 ghost use Rattle.std.specs.Prelude.{◌≡◌, ◌∷◌, [], ◌⊎◌, List, Option, Some};
 ghost use Rattle.lane_record.specs.declared.outcome.Outcome.{Outcome};
 ghost use Rattle.lane_record.specs.declared.outcome.Outcome.TheVariants.{Replied, TimedOut};
-ghost use Rattle.lane_record.specs.Claims.{claims, taken};
+ghost use Rattle.lane_record.specs.Claims.{claims, taken_outcomes};
 ghost use Rattle.lane_record.specs.FirstSends.{first_sends};
 ghost use Rattle.lane_record.specs.Legal.{IsLegal};
-ghost use Rattle.lane_record.specs.Coding.{recorded};
+ghost use Rattle.lane_record.specs.Coding.{as_recorded};
 ghost use Rattle.lane_record.specs.NextEntry.{took_of};
 ghost use Rattle.lane_record.specs.Examples.{asked_before_planned, asked_by_two, first_replied, first_timed_out};
 ghost use Rattle.lane_record.specs.Examples.{outcomes_of_two, places_by_arrival, planned_behind_seal, planned_twice};
@@ -19,11 +19,11 @@ pub fn two_clients_ask_one_body_each()
     ensures claims { claims taken_by_two
         ≡ record { client = 1; seq = 0; give_ups = 0; body = 7 ∷ [] }
         ∷ record { client = 2; seq = 0; give_ups = 0; body = 8 ∷ [] } ∷ [] }
-    ensures taken { taken taken_by_two ≡ outcomes_of_two }
+    ensures taken { taken_outcomes taken_by_two ≡ outcomes_of_two }
     ensures sent { first_sends taken_by_two
         ≡ record { place = 1; client = 1; seq = 0; body = 7 ∷ []; outcome = TimedOut 1 3 }
         ∷ record { place = 2; client = 2; seq = 0; body = 8 ∷ []; outcome = Replied 2 (9 ∷ []) } ∷ [] }
-    ensures numbers { recorded (took_of 2 0 (Replied 2 (9 ∷ [])) 0)
+    ensures numbers { as_recorded (took_of 2 0 (Replied 2 (9 ∷ [])) 0)
         ≡ record { entry = record { maker = 2; kind = 4; seq = 0 }; content = 0 ∷ 0 ∷ 2 ∷ 9 ∷ [] } }
 {}
 

@@ -10,19 +10,19 @@ use Rattle.std.proofs.lemmas.Bool.Decides.{eqb_tells}
 use Rattle.world_model.proofs.Lists.{get_front, get_seam}
 use Rattle.lane_record.specs.declared.item.Item.{Item}
 use Rattle.lane_record.specs.Claims.{Claim, claim_in, claims, claims_behind}
-use Rattle.lane_record.specs.Items.{ask_in, asked, found, plan_in}
+use Rattle.lane_record.specs.Items.{ask_in, asked_count, told_by_first, plan_in}
 use Rattle.lane_record.specs.NextEntry.{ask_of, plan_of}
 use Rattle.lane_record.proofs.Lookups.{claims_push}
 use Rattle.lane_tables.specs.declared.rows.PlannedBody.{PlannedBody}
 use Rattle.lane_tables.specs.Books.{HasNext, IsAskedRow, Row, TellsAsks, after_ask, after_took, as_asked, as_taken}
-use Rattle.lane_tables.specs.Books.{ask_at, planned_at, replaced, row_of, with_ask, with_plan, with_took}
+use Rattle.lane_tables.specs.Books.{ask_at, planned_at, with_changed_body, row_of, with_ask, with_plan, with_took}
 use Rattle.lane_tables.specs.Taken.{IsAskAt}
 use Rattle.lane_tables.proofs.ClientRows.{becomes, grown, row_changed, row_changed_other, row_planned, row_planned_other}
 use Rattle.lane_tables.proofs.PlannedBodies.{ask_here, ask_other, ask_push, ask_taken}
 
 -- ---- how many Asks there are
 
-same_claims : (items : List Item) (x : Item) → ask_in x.what ≡ None → claims (items ++ x ∷ []) ≡ claims items
+pub same_claims : (items : List Item) (x : Item) → ask_in x.what ≡ None → claims (items ++ x ∷ []) ≡ claims items
 same_claims items x none = claims_push items x
     ∙ (ap (λ (o : Option ℕ). claims items ++ claim_in items x o) none ∙ append-nil (claims items))
 
@@ -112,7 +112,7 @@ row_taken : (items : List Item) (client seq : ℕ) (row : Option Row) → IsAske
     → IsAskedRow items client (becomes (after_took seq) row)
 row_taken items client seq None is = is
 row_taken items client seq (Some r) is =
-    tells_alike items client r.bodies (replaced seq as_taken r.bodies) r.asked (ask_taken seq r.bodies) is
+    tells_alike items client r.bodies (with_changed_body seq as_taken r.bodies) r.asked (ask_taken seq r.bodies) is
 
 pub asked_took : (items : List Item) (rows : List Row) (client seq : ℕ) (x : Item)
     → ((c : ℕ) → IsAskedRow items c (row_of c rows))
@@ -136,7 +136,7 @@ new_ask items client seq g =
       client = client;
       seq = seq;
       give_ups = g;
-      body = unwrap_or (found plan_in client seq items) [];
+      body = unwrap_or (told_by_first plan_in client seq items) [];
     } in
     record {
       claim = claim;
@@ -150,14 +150,14 @@ new_ask items client seq g =
 
 tells_one_more : (items : List Item) (client g ask : ℕ) (bodies : List PlannedBody) (asks : ℕ) → asks < length bodies
     → ask ≡ length (claims items) → TellsAsks items client bodies asks
-    → TellsAsks (items ++ ask_of client asks g ∷ []) client (replaced asks (as_asked ask) bodies) (asks + 1)
+    → TellsAsks (items ++ ask_of client asks g ∷ []) client (with_changed_body asks (as_asked ask) bodies) (asks + 1)
 tells_one_more items client g ask bodies asks left number is =
     let x = ask_of client asks g in
     record {
       right = λ seq found there. dite (ℕ_discrete seq asks)
           (λ (e : seq ≡ asks). (
           let here : Some ask ≡ Some found = sym (ask_here asks ask bodies left)
-          ∙ (ap (ask_at (replaced asks (as_asked ask) bodies)) (sym e) ∙ there) in
+          ∙ (ap (ask_at (with_changed_body asks (as_asked ask) bodies)) (sym e) ∙ there) in
           let same : ask ≡ found = cc in
           subst (IsAskAt (items ++ x ∷ []) client seq) (sym number ∙ same)
           (subst (λ (n : ℕ). IsAskAt (items ++ x ∷ []) client n (length (claims items))) (sym e)
@@ -165,7 +165,7 @@ tells_one_more items client g ask bodies asks left number is =
           (λ (ne : seq ≢ asks). ask_stays items x client seq found
           (is.right seq found (sym (ask_other asks ask bodies seq ne) ∙ there)));
       all = λ seq less. dite (ℕ_discrete seq asks)
-          (λ (e : seq ≡ asks). ap is_some (ap (ask_at (replaced asks (as_asked ask) bodies)) e
+          (λ (e : seq ≡ asks). ap is_some (ap (ask_at (with_changed_body asks (as_asked ask) bodies)) e
           ∙ ask_here asks ask bodies left))
           (λ (ne : seq ≢ asks). ap is_some (ask_other asks ask bodies seq ne)
           ∙ is.all seq (elim (cases_lt seq asks) [
@@ -180,7 +180,7 @@ row_asked : (items : List Item) (client seq g ask : ℕ) (row : Option Row) (r :
 row_asked items client seq g ask None r e left next number is = absurd cc
 row_asked items client seq g ask (Some q) r e left next number is =
     (let same : r ≡ q = cc in
-    subst (λ (n : ℕ). TellsAsks (items ++ ask_of client n g ∷ []) client (replaced q.asked (as_asked ask) q.bodies)
+    subst (λ (n : ℕ). TellsAsks (items ++ ask_of client n g ∷ []) client (with_changed_body q.asked (as_asked ask) q.bodies)
     (q.asked + 1)) (subst (λ (x : Row). x.asked ≡ seq) same next)
     (tells_one_more items client g ask q.bodies q.asked
     (subst (λ (x : Row). x.asked < length x.bodies) same left) number is))
@@ -208,8 +208,8 @@ is_ask items client bodies asks seq None tells is = tt
 is_ask items client bodies asks seq (Some ask) tells is = tells.right seq ask (sym is)
 
 pub is_not_asked : (items : List Item) (client : ℕ) (bodies : List PlannedBody) (asks seq : ℕ) (found : Option ℕ)
-    → TellsAsks items client bodies asks → asks ≡ asked client items → found ≡ ask_at bodies seq
-    → IfNone found (asked client items ≤ seq)
+    → TellsAsks items client bodies asks → asks ≡ asked_count client items → found ≡ ask_at bodies seq
+    → IfNone found (asked_count client items ≤ seq)
 is_not_asked items client bodies asks seq (Some ask) tells count is = tt
 is_not_asked items client bodies asks seq None tells count is = elim (cases_lt seq asks) [
   | inl less ↦ absurd (let there = tells.all seq less in let none : is_some (ask_at bodies seq) ≡ false

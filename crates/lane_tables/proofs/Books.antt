@@ -15,7 +15,7 @@ use Rattle.turn_pass.specs.declared.chronicle.Entry.{Entry}
 use Rattle.lane_record.specs.declared.outcome.Outcome.{Outcome}
 use Rattle.lane_record.specs.declared.item.Item.{Item}
 use Rattle.lane_record.specs.declared.item.What.TheVariants.{Plan}
-use Rattle.lane_record.specs.Items.{ask_in, asked, found, is_sealed, plan_in, planned}
+use Rattle.lane_record.specs.Items.{ask_in, asked_count, told_by_first, is_sealed, plan_in, planned_count}
 use Rattle.lane_record.specs.NextEntry.{ask_of, plan_of, the_seal, took_of}
 use Rattle.lane_record.proofs.Asks.{get_split}
 use Rattle.lane_record.proofs.Lookups.{Count, count_push, found_append, found_front, found_within}
@@ -24,9 +24,9 @@ use Rattle.lane_record.specs.Coding.{entry_of}
 use Rattle.lane_tables.specs.Planned.{IsFull, one_with, planned_bodies, planned_words, words_with}
 use Rattle.lane_tables.specs.declared.rows.PlannedBody.{PlannedBody}
 use Rattle.lane_tables.specs.Books.{HasAsked, HasMorePlans, HasNext, IsAskedRow, IsBook, IsPlanAt, IsRow, IsTakenRow}
-use Rattle.lane_tables.specs.Books.{Row, TellsBodies, after_ask, after_took, as_asked, as_taken, changed, next_of}
+use Rattle.lane_tables.specs.Books.{Row, TellsBodies, after_ask, after_took, as_asked, as_taken, with_changed_row, next_of}
 use Rattle.lane_tables.specs.Books.{plan_of_body}
-use Rattle.lane_tables.specs.Books.{planned_at, replaced, row_of, with_ask, with_plan, with_took}
+use Rattle.lane_tables.specs.Books.{planned_at, with_changed_body, row_of, with_ask, with_plan, with_took}
 use Rattle.lane_tables.proofs.ClientRows.{becomes, grown, row_changed, row_changed_other, row_planned, row_planned_other}
 use Rattle.lane_tables.proofs.AskedRows.{asked_ask, asked_plan, asked_stay, asked_took, one_more_claim, same_count}
 use Rattle.lane_tables.proofs.OneMore.{one_number, same_number}
@@ -44,7 +44,7 @@ plan_stays items x client seq place is = record {
 }
 
 tells_other : (items : List Item) (x : Item) (client : ℕ) (bodies : List PlannedBody) (asks : ℕ)
-    → planned client (items ++ x ∷ []) ≡ planned client items → asked client (items ++ x ∷ []) ≡ asked client items
+    → planned_count client (items ++ x ∷ []) ≡ planned_count client items → asked_count client (items ++ x ∷ []) ≡ asked_count client items
     → TellsBodies items client bodies asks → TellsBodies (items ++ x ∷ []) client bodies asks
 tells_other items x client bodies asks plan ask is = record {
   planned_are = is.planned_are ∙ sym plan;
@@ -54,7 +54,7 @@ tells_other items x client bodies asks plan ask is = record {
 }
 
 row_other : (items : List Item) (x : Item) (client : ℕ) (row : Option Row)
-    → planned client (items ++ x ∷ []) ≡ planned client items → asked client (items ++ x ∷ []) ≡ asked client items
+    → planned_count client (items ++ x ∷ []) ≡ planned_count client items → asked_count client (items ++ x ∷ []) ≡ asked_count client items
     → IsRow items client row → IsRow (items ++ x ∷ []) client row
 row_other items x client None plan ask is = tells_other items x client [] 0 plan ask is
 row_other items x client (Some r) plan ask is = tells_other items x client r.bodies r.asked plan ask is
@@ -62,27 +62,27 @@ row_other items x client (Some r) plan ask is = tells_other items x client r.bod
 -- ---- one more Plan
 
 plan_for : (client seq other : ℕ) (body : List ℕ) (items : List Item)
-    → planned other (items ++ plan_of client seq body ∷ []) ≡ planned other items + cond (client == other) 1 0
+    → planned_count other (items ++ plan_of client seq body ∷ []) ≡ planned_count other items + cond (client == other) 1 0
 plan_for client seq other body items = one_number plan_in other items (plan_of client seq body)
-    ∙ ap (λ (b : Bool). planned other items + cond b 1 0) (and-true (client == other))
+    ∙ ap (λ (b : Bool). planned_count other items + cond b 1 0) (and-true (client == other))
 
 plan_found : (client : ℕ) (body : List ℕ) (items : List Item) → Count plan_in items
-    → found plan_in client (planned client items) (items ++ plan_of client (planned client items) body ∷ [])
+    → told_by_first plan_in client (planned_count client items) (items ++ plan_of client (planned_count client items) body ∷ [])
     ≡ Some body
 plan_found client body items count =
-    let seq = planned client items in
+    let seq = planned_count client items in
     let none = none_next plan_in client seq items count (omega arith) in
     found_append plan_in client seq items (plan_of client seq body ∷ [])
-    ∙ (ap (λ (o : Option (List ℕ)). option_or o (found plan_in client seq (plan_of client seq body ∷ []))) none
+    ∙ (ap (λ (o : Option (List ℕ)). option_or o (told_by_first plan_in client seq (plan_of client seq body ∷ []))) none
     ∙ (let same = eq-eqb client client refl in let number = eq-eqb seq seq refl in rw (same, number) refl))
 
 -- the row of the client of a new Plan
 tells_plan : (items : List Item) (client : ℕ) (body : List ℕ) (bodies : List PlannedBody) (asks : ℕ)
     → Count plan_in items → TellsBodies items client bodies asks
-    → TellsBodies (items ++ plan_of client (planned client items) body ∷ []) client
+    → TellsBodies (items ++ plan_of client (planned_count client items) body ∷ []) client
     (bodies ++ planned_at (length items) ∷ []) asks
 tells_plan items client body bodies asks count is =
-    let seq = planned client items in
+    let seq = planned_count client items in
     let x = plan_of client seq body in
     let one = plan_for client seq client body items in
     let own = eq-eqb client client refl in
@@ -109,25 +109,25 @@ tells_plan items client body bodies asks count is =
 
 tells_grown : (items : List Item) (client : ℕ) (body : List ℕ) (row : Option Row) → Count plan_in items
     → IsRow items client row
-    → IsRow (items ++ plan_of client (planned client items) body ∷ []) client (Some (grown client (length items) row))
+    → IsRow (items ++ plan_of client (planned_count client items) body ∷ []) client (Some (grown client (length items) row))
 tells_grown items client body None count is = tells_plan items client body [] 0 count is
 tells_grown items client body (Some r) count is = tells_plan items client body r.bodies r.asked count is
 
 rows_plan : (items : List Item) (rows : List Row) (client : ℕ) (body : List ℕ) → Count plan_in items
     → ((c : ℕ) → IsRow items c (row_of c rows))
-    → (other : ℕ) → IsRow (items ++ plan_of client (planned client items) body ∷ []) other
+    → (other : ℕ) → IsRow (items ++ plan_of client (planned_count client items) body ∷ []) other
     (row_of other (with_plan client (length items) rows))
 rows_plan items rows client body count are other = elim (eqb_tells client other) [
-  | inl same ↦ subst (λ (c : ℕ). IsRow (items ++ plan_of client (planned client items) body ∷ []) c
+  | inl same ↦ subst (λ (c : ℕ). IsRow (items ++ plan_of client (planned_count client items) body ∷ []) c
       (row_of c (with_plan client (length items) rows))) same.1
-      (subst (IsRow (items ++ plan_of client (planned client items) body ∷ []) client)
+      (subst (IsRow (items ++ plan_of client (planned_count client items) body ∷ []) client)
       (sym (row_planned client (length items) rows)) (tells_grown items client body (row_of client rows) count (are
       client)))
   | inr apart ↦
-      let x = plan_of client (planned client items) body in
-      let one = plan_for client (planned client items) other body items in
+      let x = plan_of client (planned_count client items) body in
+      let one = plan_for client (planned_count client items) other body items in
       let off : ◌≡◌ {A = ℕ} (cond (client == other) 1 0) 0 = rw apart.0 refl in
-      let plan : planned other (items ++ x ∷ []) ≡ planned other items = omega (arith, one, off) in
+      let plan : planned_count other (items ++ x ∷ []) ≡ planned_count other items = omega (arith, one, off) in
       subst (IsRow (items ++ x ∷ []) other) (sym (row_planned_other client (length items) other rows apart.0))
       (row_other items x other (row_of other rows) plan (same_number ask_in other items x refl) (are other))
 ]
@@ -135,14 +135,14 @@ rows_plan items rows client body count are other = elim (eqb_tells client other)
 -- ---- one more Ask
 
 ask_for : (client seq other g : ℕ) (items : List Item)
-    → asked other (items ++ ask_of client seq g ∷ []) ≡ asked other items + cond (client == other) 1 0
+    → asked_count other (items ++ ask_of client seq g ∷ []) ≡ asked_count other items + cond (client == other) 1 0
 ask_for client seq other g items = one_number ask_in other items (ask_of client seq g)
-    ∙ ap (λ (b : Bool). asked other items + cond b 1 0) (and-true (client == other))
+    ∙ ap (λ (b : Bool). asked_count other items + cond b 1 0) (and-true (client == other))
 
 -- a change of one body that leaves its Plan where it is
 tells_changed : (items : List Item) (client k : ℕ) (change : PlannedBody → PlannedBody)
     → ((b : PlannedBody) → (change b).plan ≡ b.plan) → (bodies : List PlannedBody) (asks : ℕ)
-    → TellsBodies items client bodies asks → TellsBodies items client (replaced k change bodies) asks
+    → TellsBodies items client bodies asks → TellsBodies items client (with_changed_body k change bodies) asks
 tells_changed items client k change keeps bodies asks is =
     let same = length-replaced k change bodies in
     let most = is.no_more in
@@ -161,10 +161,10 @@ tells_changed items client k change keeps bodies asks is =
 
 tells_ask : (items : List Item) (client g : ℕ) (bodies : List PlannedBody) (asks : ℕ) → asks < length bodies
     → TellsBodies items client bodies asks
-    → TellsBodies (items ++ ask_of client (asked client items) g ∷ []) client bodies (asks + 1)
+    → TellsBodies (items ++ ask_of client (asked_count client items) g ∷ []) client bodies (asks + 1)
 tells_ask items client g bodies asks left is =
-    let x = ask_of client (asked client items) g in
-    let one = ask_for client (asked client items) client g items in
+    let x = ask_of client (asked_count client items) g in
+    let one = ask_for client (asked_count client items) client g items in
     let own = eq-eqb client client refl in
     let plus : ◌≡◌ {A = ℕ} (cond (client == client) 1 0) 1 = rw own refl in
     let before = is.asked_are in
@@ -177,7 +177,7 @@ tells_ask items client g bodies asks left is =
 
 -- a client with a Plan that was not asked has a row with one
 next_in : (items : List Item) (client : ℕ) (row : Option Row) → IsRow items client row
-    → asked client items < planned client items → (r : Row) × (row ≡ Some r) × (r.asked < length r.bodies)
+    → asked_count client items < planned_count client items → (r : Row) × (row ≡ Some r) × (r.asked < length r.bodies)
 next_in items client None is left = (let a = is.planned_are in let b = is.asked_are in absurd (omega (arith, a, left)))
 next_in items client (Some r) is left =
     (r, refl, (let a = is.planned_are in let b = is.asked_are in omega (arith, a, b, left)))
@@ -185,37 +185,37 @@ next_in items client (Some r) is left =
 pub has_next : (items : List Item) (rows : List Row) (client : ℕ) → Count plan_in items
     → ((c : ℕ) → IsRow items c (row_of c rows)) → HasMorePlans client items → HasNext client rows
 has_next items rows client count are more =
-    let left = found_within plan_in client (asked client items) items more.body count more.there in
+    let left = found_within plan_in client (asked_count client items) items more.body count more.there in
     let row = next_in items client (row_of client rows) (are client) left in
     record { row = row.0; there = row.1; left = row.2 }
 
 tells_asked : (items : List Item) (client g ask : ℕ) (row : Option Row) (r : Row) → row ≡ Some r
     → r.asked < length r.bodies → IsRow items client row
-    → IsRow (items ++ ask_of client (asked client items) g ∷ []) client
+    → IsRow (items ++ ask_of client (asked_count client items) g ∷ []) client
     (becomes (after_ask ask) row)
 tells_asked items client g ask None r e left is = absurd cc
 tells_asked items client g ask (Some q) r e left is =
     (let same : q ≡ r = cc in
-    tells_changed (items ++ ask_of client (asked client items) g ∷ []) client q.asked (as_asked ask) (λ b. refl)
+    tells_changed (items ++ ask_of client (asked_count client items) g ∷ []) client q.asked (as_asked ask) (λ b. refl)
     q.bodies (q.asked + 1) (tells_ask items client g q.bodies q.asked
     (subst (λ (x : Row). x.asked < length x.bodies) (sym same) left) is))
 
 rows_ask : (items : List Item) (rows : List Row) (client g ask : ℕ) → HasNext client rows
     → ((c : ℕ) → IsRow items c (row_of c rows))
-    → (other : ℕ) → IsRow (items ++ ask_of client (asked client items) g ∷ []) other
+    → (other : ℕ) → IsRow (items ++ ask_of client (asked_count client items) g ∷ []) other
     (row_of other (with_ask client ask rows))
 rows_ask items rows client g ask next are other =
     elim (eqb_tells client other) [
-      | inl same ↦ subst (λ (c : ℕ). IsRow (items ++ ask_of client (asked client items) g ∷ []) c
+      | inl same ↦ subst (λ (c : ℕ). IsRow (items ++ ask_of client (asked_count client items) g ∷ []) c
           (row_of c (with_ask client ask rows))) same.1
-          (subst (IsRow (items ++ ask_of client (asked client items) g ∷ []) client)
+          (subst (IsRow (items ++ ask_of client (asked_count client items) g ∷ []) client)
           (sym (row_changed client (after_ask ask) rows (λ r. refl)))
           (tells_asked items client g ask (row_of client rows) next.row next.there next.left (are client)))
       | inr apart ↦
-          let x = ask_of client (asked client items) g in
-          let one = ask_for client (asked client items) other g items in
+          let x = ask_of client (asked_count client items) g in
+          let one = ask_for client (asked_count client items) other g items in
           let off : ◌≡◌ {A = ℕ} (cond (client == other) 1 0) 0 = rw apart.0 refl in
-          let same : asked other (items ++ x ∷ []) ≡ asked other items = omega (arith, one, off) in
+          let same : asked_count other (items ++ x ∷ []) ≡ asked_count other items = omega (arith, one, off) in
           subst (IsRow (items ++ x ∷ []) other)
           (sym (row_changed_other client (after_ask ask) other rows (λ r. refl) apart.0))
           (row_other items x other (row_of other rows) (same_number plan_in other items x refl) same (are other))
@@ -224,7 +224,7 @@ rows_ask items rows client g ask next are other =
 -- ---- one more Took
 
 asked_row : (items : List Item) (client seq : ℕ) (row : Option Row) → IsRow items client row
-    → seq < asked client items → (r : Row) × (row ≡ Some r) × (seq < r.asked)
+    → seq < asked_count client items → (r : Row) × (row ≡ Some r) × (seq < r.asked)
 asked_row items client seq None is below = (let a = is.asked_are in absurd (omega (arith, a, below)))
 asked_row items client seq (Some r) is below = (r, refl, (let a = is.asked_are in omega (arith, a, below)))
 
@@ -235,14 +235,14 @@ row_few items client (Some q) r e is =
     (let same : q ≡ r = cc in subst (λ (x : Row). x.asked ≤ length x.bodies) same is.no_more)
 
 pub has_asked : (items : List Item) (rows : List Row) (client seq : ℕ)
-    → ((c : ℕ) → IsRow items c (row_of c rows)) → seq < asked client items → HasAsked client seq rows
+    → ((c : ℕ) → IsRow items c (row_of c rows)) → seq < asked_count client items → HasAsked client seq rows
 has_asked items rows client seq are below =
     let row = asked_row items client seq (row_of client rows) (are client) below in
     record { row = row.0; there = row.1; is_asked = row.2 }
 
 -- so there is such a body in its row
 asked_there : (items : List Item) (rows : List Row) (client seq : ℕ)
-    → (are : (c : ℕ) → IsRow items c (row_of c rows)) → (below : seq < asked client items)
+    → (are : (c : ℕ) → IsRow items c (row_of c rows)) → (below : seq < asked_count client items)
     → seq < length (has_asked items rows client seq are below).row.bodies
 asked_there items rows client seq are below =
     let h = has_asked items rows client seq are below in
@@ -272,10 +272,10 @@ rows_took items rows client seq x plan ask are other =
 
 -- the row of a client with a next body has as many asked as the entries tell
 next_asks : (items : List Item) (client : ℕ) (row : Option Row) (r : Row) → row ≡ Some r → IsRow items client row
-    → r.asked ≡ asked client items
+    → r.asked ≡ asked_count client items
 next_asks items client None r e is = absurd cc
 next_asks items client (Some q) r e is =
-    (let same : q ≡ r = cc in subst (λ (x : Row). x.asked ≡ asked client items) same is.asked_are)
+    (let same : q ≡ r = cc in subst (λ (x : Row). x.asked ≡ asked_count client items) same is.asked_are)
 
 -- ---- the other tables
 
@@ -338,7 +338,7 @@ module _ (items : List Item) (entries : List Entry) (rows : List Row) (asks bodi
   }
 
   pub book_took : (client seq : ℕ) (outcome : Outcome) (g : ℕ) (new : List Entry) (after : ℕ)
-      → seq < asked client items → new ≡ entries ++ entry_of (took_of client seq outcome g) ∷ [] → 1 ≤ after
+      → seq < asked_count client items → new ≡ entries ++ entry_of (took_of client seq outcome g) ∷ [] → 1 ≤ after
       → IsBook (items ++ took_of client seq outcome g ∷ []) new (with_took client seq rows) asks bodies words closed
       after
   book_took client seq outcome g new after below entry one =
@@ -361,20 +361,20 @@ module _ (items : List Item) (entries : List Entry) (rows : List Row) (asks bodi
       (asked_stay items rows the_seal is.asked_are) (taken_seal items rows is.taken_are)
 
   pub book_ask : (client g : ℕ) (new : List Entry) (after : ℕ) → HasMorePlans client items
-      → new ≡ entries ++ entry_of (ask_of client (asked client items) g) ∷ [] → 1 ≤ after
-      → IsBook (items ++ ask_of client (asked client items) g ∷ []) new (with_ask client asks rows) (asks + 1) bodies
+      → new ≡ entries ++ entry_of (ask_of client (asked_count client items) g) ∷ [] → 1 ≤ after
+      → IsBook (items ++ ask_of client (asked_count client items) g ∷ []) new (with_ask client asks rows) (asks + 1) bodies
       words closed after
   book_ask client g new after more entry one =
-      let x = ask_of client (asked client items) g in
+      let x = ask_of client (asked_count client items) g in
       let next = has_next items rows client is.plans_count is.rows_are more in
       record {
         entries_are = entries_push items x new entries is.entries_are entry;
         plans_count = count_push plan_in items x is.plans_count (λ some. absurd cc);
         rows_are = rows_ask items rows client g asks next is.rows_are;
-        asked_are = asked_ask items rows client (asked client items) g asks is.asks_are next
+        asked_are = asked_ask items rows client (asked_count client items) g asks is.asks_are next
             (next_asks items client (row_of client rows) next.row next.there (is.rows_are client)) is.asked_are;
-        taken_are = taken_ask items rows client (asked client items) g asks is.taken_are;
-        asks_are = (let h = one_more_claim items client (asked client items) g in let a = is.asks_are in
+        taken_are = taken_ask items rows client (asked_count client items) g asks is.taken_are;
+        asks_are = (let h = one_more_claim items client (asked_count client items) g in let a = is.asks_are in
             omega (arith, h, a));
         bodies_are = (let h = bodies_push items x in let b = is.bodies_are in omega (arith, h, b));
         words_are = (let h = words_push items x in let b = is.words_are in omega (arith, h, b));
@@ -386,20 +386,20 @@ module _ (items : List Item) (entries : List Entry) (rows : List Row) (asks bodi
 
   pub book_plan : (client : ℕ) (body : List ℕ) (new : List Entry) (more more_words after : ℕ)
       → ¬ IsFull items (length body) (reply_room body)
-      → new ≡ entries ++ entry_of (plan_of client (planned client items) body) ∷ [] → 1 ≤ after
+      → new ≡ entries ++ entry_of (plan_of client (planned_count client items) body) ∷ [] → 1 ≤ after
       → more ≡ bodies + 1 → more_words ≡ words + (length body + reply_room body)
-      → IsBook (items ++ plan_of client (planned client items) body ∷ []) new (with_plan client (length items) rows)
+      → IsBook (items ++ plan_of client (planned_count client items) body ∷ []) new (with_plan client (length items) rows)
       asks more more_words closed after
   book_plan client body new more more_words after few entry one more_is words_is =
-      let x = plan_of client (planned client items) body in
+      let x = plan_of client (planned_count client items) body in
       let b = is.bodies_are in
       let w = is.words_are in
       record {
         entries_are = entries_push items x new entries is.entries_are entry;
         plans_count = count_push plan_in items x is.plans_count (λ _. refl);
         rows_are = rows_plan items rows client body is.plans_count is.rows_are;
-        asked_are = asked_plan items rows client (planned client items) (length items) body is.asked_are;
-        taken_are = taken_plan items rows client (planned client items) (length items) body is.taken_are;
+        asked_are = asked_plan items rows client (planned_count client items) (length items) body is.asked_are;
+        taken_are = taken_plan items rows client (planned_count client items) (length items) body is.taken_are;
         asks_are = is.asks_are ∙ sym (same_count items x refl);
         bodies_are = (let h = bodies_push items x in omega (arith, h, b, more_is));
         words_are = (let h = words_push items x in omega (arith, h, w, words_is));
@@ -428,15 +428,15 @@ some_body None place is = absurd cc
 some_body (Some body) place is = (body, refl, cc)
 
 pub next_some : (items : List Item) (client place : ℕ) (row : Option Row) → IsRow items client row
-    → next_of row ≡ Some place → IsPlanAt items client (asked client items) place
+    → next_of row ≡ Some place → IsPlanAt items client (asked_count client items) place
 next_some items client place None is there = absurd cc
 next_some items client place (Some r) is there =
     let b = some_body (slice_get r.bodies r.asked) place there in
-    subst (IsPlanAt items client (asked client items)) b.2
+    subst (IsPlanAt items client (asked_count client items)) b.2
     (subst (λ (seq : ℕ). IsPlanAt items client seq b.0.plan) is.asked_are (is.plans_are r.asked b.0 b.1))
 
 pub next_none : (items : List Item) (client : ℕ) (row : Option Row) → IsRow items client row → next_of row ≡ None
-    → asked client items ≡ planned client items
+    → asked_count client items ≡ planned_count client items
 next_none items client None is there = sym is.asked_are ∙ is.planned_are
 next_none items client (Some r) is there =
     let past = no_body r.bodies r.asked there in
@@ -485,7 +485,7 @@ not_a_plan item client seq body same other =
 
 pub book_asked : (items more : List Item) (entries longer : List Entry) (rows changed : List Row)
     (asks bodies words : ℕ) (closed : Bool) (room after client seq g : ℕ)
-    → IsBook items entries rows asks bodies words closed room → seq ≡ asked client items
+    → IsBook items entries rows asks bodies words closed room → seq ≡ asked_count client items
     → HasMorePlans client items → more ≡ items ++ ask_of client seq g ∷ []
     → longer ≡ entries ++ entry_of (ask_of client seq g) ∷ [] → changed ≡ with_ask client asks rows
     → 1 ≤ after
@@ -496,14 +496,14 @@ book_asked items more entries longer rows changed asks bodies words closed room 
     let entry = e ∙ ap (λ (n : ℕ). entries ++ entry_of (ask_of client n g) ∷ []) number in
     subst (λ (xs : List Item). IsBook xs longer changed (asks + 1) bodies words closed after)
     (sym (i ∙ ap seq_item number))
-    (subst (λ (rs : List Row). IsBook (seq_item (asked client items)) longer rs (asks + 1) bodies words closed after)
+    (subst (λ (rs : List Row). IsBook (seq_item (asked_count client items)) longer rs (asks + 1) bodies words closed after)
     (sym r)
     (book_ask items entries rows asks bodies words closed room is client g longer after plans entry fits))
 
 pub book_planned : (items more : List Item) (entries longer : List Entry) (rows changed : List Row)
     (asks bodies words count total : ℕ) (closed : Bool) (room after client seq place : ℕ)
     (body : List ℕ)
-    → IsBook items entries rows asks bodies words closed room → seq ≡ planned client items
+    → IsBook items entries rows asks bodies words closed room → seq ≡ planned_count client items
     → ¬ IsFull items (length body) (reply_room body) → more ≡ items ++ plan_of client seq body ∷ []
     → longer ≡ entries ++ entry_of (plan_of client seq body) ∷ [] → place ≡ length items
     → changed ≡ with_plan client place rows → count ≡ bodies + 1
@@ -516,7 +516,7 @@ book_planned items more entries longer rows changed asks bodies words count tota
     let entry = e ∙ ap (λ (n : ℕ). entries ++ entry_of (plan_of client n body) ∷ []) number in
     subst (λ (xs : List Item). IsBook xs longer changed asks count total closed after)
     (sym (i ∙ ap seq_item number))
-    (subst (λ (rs : List Row). IsBook (seq_item (planned client items)) longer rs asks count total closed after)
+    (subst (λ (rs : List Row). IsBook (seq_item (planned_count client items)) longer rs asks count total closed after)
     (sym (r ∙ ap (λ (n : ℕ). with_plan client n rows) at))
     (book_plan items entries rows asks bodies words closed room is client body longer count total after few entry fits
     c t))

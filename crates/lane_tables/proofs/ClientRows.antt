@@ -4,7 +4,7 @@ use Rattle.std.proofs.Common.{Option, Some, None, refl, sym, ap, ◌∙◌, arit
 use Rattle.std.specs.List.{slice_get}
 use Rattle.std.specs.Prelude.{OnOk, Result, Ok, Err}
 use Rattle.std.proofs.lemmas.Bool.{eqb-true, eq-eqb}
-use Rattle.lane_tables.specs.Books.{Row, after_plan, changed, first_row, one_later, row_at, row_of, with_plan}
+use Rattle.lane_tables.specs.Books.{Row, after_plan, with_changed_row, first_row, one_later, row_at, row_of, with_plan}
 
 -- the first row of a client stands there
 pub record IsFirstAt (client : ℕ) (rows : List Row) (at : ℕ) : Type 0 where
@@ -58,11 +58,11 @@ no_row client (r ∷ rs) is = elim (r.client == client)
 -- ---- a row is changed where it stands
 
 pub set_changed : (client : ℕ) (change : Row → Row) (rows : List Row) (at : ℕ) → row_at client rows ≡ Some at
-    → (row : Row) → slice_get rows at ≡ Some row → set rows at (change row) ≡ changed client change rows
+    → (row : Row) → slice_get rows at ≡ Some row → set rows at (change row) ≡ with_changed_row client change rows
 set_changed client change [] at is row there = absurd cc
 set_changed client change (r ∷ rs) at is row there = elim (r.client == client)
     as (λ b. cond b (Some 0) (one_later (row_at client rs)) ≡ Some at
-    → set (r ∷ rs) at (change row) ≡ cond b (change r ∷ rs) (r ∷ changed client change rs)) [
+    → set (r ∷ rs) at (change row) ≡ cond b (change r ∷ rs) (r ∷ with_changed_row client change rs)) [
       | true ↦ λ e.
           let zero_is : at ≡ 0 = cc in
           let here : slice_get (r ∷ rs) 0 ≡ Some row = ap (slice_get (r ∷ rs)) (sym zero_is) ∙ there in
@@ -76,12 +76,12 @@ set_changed client change (r ∷ rs) at is row there = elim (r.client == client)
     ] is
 
 pub plan_changed : (client place : ℕ) (rows : List Row) (at : ℕ) → row_at client rows ≡ Some at
-    → with_plan client place rows ≡ changed client (after_plan place) rows
+    → with_plan client place rows ≡ with_changed_row client (after_plan place) rows
 plan_changed client place [] at is = absurd cc
 plan_changed client place (r ∷ rs) at is = elim (r.client == client)
     as (λ b. cond b (Some 0) (one_later (row_at client rs)) ≡ Some at
     → cond b (after_plan place r ∷ rs) (r ∷ with_plan client place rs)
-    ≡ cond b (after_plan place r ∷ rs) (r ∷ changed client (after_plan place) rs)) [
+    ≡ cond b (after_plan place r ∷ rs) (r ∷ with_changed_row client (after_plan place) rs)) [
       | true ↦ λ e. refl
       | false ↦ λ e. let later = later_is (row_at client rs) at e in
           ap (λ (xs : List Row). r ∷ xs) (plan_changed client place rs later.0 later.1)
@@ -113,11 +113,11 @@ becomes change None = None
 becomes change (Some r) = Some (change r)
 
 pub row_changed : (client : ℕ) (change : Row → Row) (rows : List Row) → ((r : Row) → (change r).client ≡ r.client)
-    → row_of client (changed client change rows) ≡ becomes change (row_of client rows)
+    → row_of client (with_changed_row client change rows) ≡ becomes change (row_of client rows)
 row_changed client change [] keeps = refl
 row_changed client change (r ∷ rs) keeps = elim (r.client == client)
     as (λ b. (r.client == client) ≡ b
-    → row_of client (cond b (change r ∷ rs) (r ∷ changed client change rs))
+    → row_of client (cond b (change r ∷ rs) (r ∷ with_changed_row client change rs))
     ≡ becomes change (cond b (Some r) (row_of client rs))) [
       | true ↦ λ same. (let e : ((change r).client == client) ≡ true = ap (λ (n : ℕ). n == client) (keeps r) ∙ same in
           rw e refl)
@@ -126,11 +126,11 @@ row_changed client change (r ∷ rs) keeps = elim (r.client == client)
 
 pub row_changed_other : (client : ℕ) (change : Row → Row) (other : ℕ) (rows : List Row)
     → ((r : Row) → (change r).client ≡ r.client) → (client == other) ≡ false
-    → row_of other (changed client change rows) ≡ row_of other rows
+    → row_of other (with_changed_row client change rows) ≡ row_of other rows
 row_changed_other client change other [] keeps apart = refl
 row_changed_other client change other (r ∷ rs) keeps apart = elim (r.client == client)
     as (λ b. (r.client == client) ≡ b
-    → row_of other (cond b (change r ∷ rs) (r ∷ changed client change rs)) ≡ row_of other (r ∷ rs)) [
+    → row_of other (cond b (change r ∷ rs) (r ∷ with_changed_row client change rs)) ≡ row_of other (r ∷ rs)) [
       | true ↦ λ same. (
           let e : (r.client == other) ≡ false = ap (λ (n : ℕ). n == other) (eqb-true _ _ same) ∙ apart in
           let f : ((change r).client == other) ≡ false = ap (λ (n : ℕ). n == other) (keeps r) ∙ e in

@@ -1,7 +1,7 @@
 mod PlannedBodies
 mod ClientRows
 mod OneMore
-mod AskedRows
+pub mod AskedRows
 mod Books
 pub mod TakenRows
 mod Put

@@ -5,16 +5,16 @@ use Rattle.std.proofs.Common.{length-append}
 use Rattle.std.specs.List.{slice_get}
 use Rattle.std.proofs.lemmas.Bool.{cases_lt}
 use Rattle.lane_tables.specs.declared.rows.PlannedBody.{PlannedBody}
-use Rattle.lane_tables.specs.Books.{IsFirstUntaken, as_asked, as_taken, ask_at, is_marked, planned_at, replaced}
+use Rattle.lane_tables.specs.Books.{IsFirstUntaken, as_asked, as_taken, ask_at, is_marked, planned_at, with_changed_body}
 
 pub length-replaced : (k : ℕ) (change : PlannedBody → PlannedBody) (bodies : List PlannedBody)
-    → length (replaced k change bodies) ≡ length bodies
+    → length (with_changed_body k change bodies) ≡ length bodies
 length-replaced k change [] = refl
 length-replaced zero change (b ∷ bs) = refl
 length-replaced (suc k) change (b ∷ bs) = ap suc (length-replaced k change bs)
 
 pub set_replaced : (k : ℕ) (change : PlannedBody → PlannedBody) (bodies : List PlannedBody) (body : PlannedBody)
-    → k < length bodies → body ≡ get_or bodies k body → set bodies k (change body) ≡ replaced k change bodies
+    → k < length bodies → body ≡ get_or bodies k body → set bodies k (change body) ≡ with_changed_body k change bodies
 set_replaced k change [] body within is = absurd (omega arith)
 set_replaced zero change (b ∷ bs) body within is = ap (λ (x : PlannedBody). change x ∷ bs) is
 set_replaced (suc k) change (b ∷ bs) body within is =
@@ -28,7 +28,7 @@ pub record WasBody (k : ℕ) (change : PlannedBody → PlannedBody) (bodies : Li
   pub is : ((seq ≡ k) × (body ≡ change old)) ⊎ ((seq ≡ k → ⊥) × (body ≡ old))
 
 pub was_body : (k : ℕ) (change : PlannedBody → PlannedBody) (bodies : List PlannedBody) (seq : ℕ) (body : PlannedBody)
-    → slice_get (replaced k change bodies) seq ≡ Some body → WasBody k change bodies seq body
+    → slice_get (with_changed_body k change bodies) seq ≡ Some body → WasBody k change bodies seq body
 was_body k change [] seq body e = absurd cc
 was_body zero change (b ∷ bs) zero body e = record { old = b; there = refl; is = inl (refl, cc) }
 was_body zero change (b ∷ bs) (suc n) body e = record { old = body; there = e; is = inr (λ z. omega (arith, z), refl) }
@@ -61,7 +61,7 @@ marked_push (b ∷ bs) place zero = refl
 marked_push (b ∷ bs) place (suc n) = marked_push bs place n
 
 pub marked_other : (k : ℕ) (change : PlannedBody → PlannedBody) (bodies : List PlannedBody) (n : ℕ) → (n ≡ k → ⊥)
-    → is_marked (replaced k change bodies) n ≡ is_marked bodies n
+    → is_marked (with_changed_body k change bodies) n ≡ is_marked bodies n
 marked_other k change [] n apart = refl
 marked_other zero change (b ∷ bs) zero apart = absurd (apart refl)
 marked_other zero change (b ∷ bs) (suc n) apart = refl
@@ -69,14 +69,14 @@ marked_other (suc k) change (b ∷ bs) zero apart = refl
 marked_other (suc k) change (b ∷ bs) (suc n) apart = marked_other k change bs n (λ e. apart (ap suc e))
 
 pub marked_taken : (k : ℕ) (bodies : List PlannedBody) → k < length bodies
-    → is_marked (replaced k as_taken bodies) k ≡ true
+    → is_marked (with_changed_body k as_taken bodies) k ≡ true
 marked_taken k [] within = absurd (omega arith)
 marked_taken zero (b ∷ bs) within = refl
 marked_taken (suc k) (b ∷ bs) within = marked_taken k bs (omega arith)
 
 -- a change that takes nothing changes no mark
 pub marked_kept : (k : ℕ) (change : PlannedBody → PlannedBody) → ((b : PlannedBody) → (change b).is_taken ≡ b.is_taken)
-    → (bodies : List PlannedBody) (n : ℕ) → is_marked (replaced k change bodies) n ≡ is_marked bodies n
+    → (bodies : List PlannedBody) (n : ℕ) → is_marked (with_changed_body k change bodies) n ≡ is_marked bodies n
 marked_kept k change keeps [] n = refl
 marked_kept zero change keeps (b ∷ bs) zero = keeps b
 marked_kept zero change keeps (b ∷ bs) (suc n) = refl
@@ -85,7 +85,7 @@ marked_kept (suc k) change keeps (b ∷ bs) (suc n) = marked_kept k change keeps
 
 -- a mark stays
 pub still_marked : (k : ℕ) (bodies : List PlannedBody) (n : ℕ) → is_marked bodies n ≡ true
-    → is_marked (replaced k as_taken bodies) n ≡ true
+    → is_marked (with_changed_body k as_taken bodies) n ≡ true
 still_marked k [] n is = is
 still_marked zero (b ∷ bs) zero is = refl
 still_marked zero (b ∷ bs) (suc n) is = is
@@ -102,7 +102,7 @@ ask_push (b ∷ bs) place zero = refl
 ask_push (b ∷ bs) place (suc n) = ask_push bs place n
 
 pub ask_taken : (k : ℕ) (bodies : List PlannedBody) (n : ℕ)
-    → ask_at (replaced k as_taken bodies) n ≡ ask_at bodies n
+    → ask_at (with_changed_body k as_taken bodies) n ≡ ask_at bodies n
 ask_taken k [] n = refl
 ask_taken zero (b ∷ bs) zero = refl
 ask_taken zero (b ∷ bs) (suc n) = refl
@@ -110,13 +110,13 @@ ask_taken (suc k) (b ∷ bs) zero = refl
 ask_taken (suc k) (b ∷ bs) (suc n) = ask_taken k bs n
 
 pub ask_here : (k ask : ℕ) (bodies : List PlannedBody) → k < length bodies
-    → ask_at (replaced k (as_asked ask) bodies) k ≡ Some ask
+    → ask_at (with_changed_body k (as_asked ask) bodies) k ≡ Some ask
 ask_here k ask [] within = absurd (omega arith)
 ask_here zero ask (b ∷ bs) within = refl
 ask_here (suc k) ask (b ∷ bs) within = ask_here k ask bs (omega arith)
 
 pub ask_other : (k ask : ℕ) (bodies : List PlannedBody) (n : ℕ) → (n ≡ k → ⊥)
-    → ask_at (replaced k (as_asked ask) bodies) n ≡ ask_at bodies n
+    → ask_at (with_changed_body k (as_asked ask) bodies) n ≡ ask_at bodies n
 ask_other k ask [] n apart = refl
 ask_other zero ask (b ∷ bs) zero apart = absurd (apart refl)
 ask_other zero ask (b ∷ bs) (suc n) apart = refl
@@ -137,7 +137,7 @@ first_planned bodies asked taken place is = record {
 
 pub first_asked : (bodies : List PlannedBody) (asked taken ask : ℕ) → asked < length bodies
     → IsFirstUntaken bodies asked taken
-    → IsFirstUntaken (replaced asked (as_asked ask) bodies) (asked + 1) taken
+    → IsFirstUntaken (with_changed_body asked (as_asked ask) bodies) (asked + 1) taken
 first_asked bodies asked taken ask left is =
     let same = marked_kept asked (as_asked ask) (λ b. refl) bodies in
     record {
@@ -153,9 +153,9 @@ first_asked bodies asked taken ask left is =
 
 pub first_taken : (bodies : List PlannedBody) (asked taken seq after : ℕ) → seq < asked
     → IsFirstUntaken bodies asked taken → taken ≤ after → after ≤ asked
-    → ((n : ℕ) → taken ≤ n → n < after → is_marked (replaced seq as_taken bodies) n ≡ true)
-    → (after < asked → is_marked (replaced seq as_taken bodies) after ≡ false)
-    → IsFirstUntaken (replaced seq as_taken bodies) asked after
+    → ((n : ℕ) → taken ≤ n → n < after → is_marked (with_changed_body seq as_taken bodies) n ≡ true)
+    → (after < asked → is_marked (with_changed_body seq as_taken bodies) after ≡ false)
+    → IsFirstUntaken (with_changed_body seq as_taken bodies) asked after
 first_taken bodies asked taken seq after was is from within marked stops = record {
   few = (let h = is.few in let same = length-replaced seq as_taken bodies in omega (arith, h, same));
   within = within;

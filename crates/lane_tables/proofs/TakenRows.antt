@@ -11,12 +11,12 @@ use Rattle.std.proofs.Math.Bool.{and-false}
 use Rattle.std.specs.Option.{option_or}
 use Rattle.lane_record.specs.declared.outcome.Outcome.{Outcome}
 use Rattle.lane_record.specs.declared.item.Item.{Item}
-use Rattle.lane_record.specs.Items.{asked, found, is_of, took_in}
+use Rattle.lane_record.specs.Items.{asked_count, told_by_first, is_of, took_in}
 use Rattle.lane_record.specs.NextEntry.{ask_of, plan_of, the_seal, took_of}
 use Rattle.lane_record.proofs.Lookups.{found_append, found_other}
 use Rattle.lane_tables.specs.declared.rows.PlannedBody.{PlannedBody}
 use Rattle.lane_tables.specs.Books.{HasAsked, IsTakenRow, Row, TellsTaken, after_ask, after_took, as_asked}
-use Rattle.lane_tables.specs.Books.{as_taken, is_marked, planned_at, replaced, row_of, with_ask, with_plan, with_took}
+use Rattle.lane_tables.specs.Books.{as_taken, is_marked, planned_at, with_changed_body, row_of, with_ask, with_plan, with_took}
 use Rattle.lane_tables.specs.Taken.{HasTakenAll, IsOldest, IsTakenIn}
 use Rattle.lane_tables.proofs.ClientRows.{becomes, grown, row_changed, row_changed_other, row_planned, row_planned_other}
 use Rattle.lane_tables.proofs.PlannedBodies.{marked_kept, marked_other, marked_push, marked_taken}
@@ -24,7 +24,7 @@ use Rattle.lane_tables.proofs.PlannedBodies.{marked_kept, marked_other, marked_p
 -- ---- an entry that takes nothing from the client
 
 tells_same : (items more : List Item) (client : ℕ) (bodies : List PlannedBody) (asks : ℕ)
-    → ((n : ℕ) → found took_in client n more ≡ found took_in client n items)
+    → ((n : ℕ) → told_by_first took_in client n more ≡ told_by_first took_in client n items)
     → TellsTaken items client bodies asks → TellsTaken more client bodies asks
 tells_same items more client bodies asks same is = record {
   marks = λ n. ap is_some (same n) ∙ is.marks n;
@@ -32,7 +32,7 @@ tells_same items more client bodies asks same is = record {
 }
 
 row_same : (items more : List Item) (client : ℕ) (row : Option Row)
-    → ((n : ℕ) → found took_in client n more ≡ found took_in client n items)
+    → ((n : ℕ) → told_by_first took_in client n more ≡ told_by_first took_in client n items)
     → IsTakenRow items client row → IsTakenRow more client row
 row_same items more client None same is = tells_same items more client [] 0 same is
 row_same items more client (Some r) same is = tells_same items more client r.bodies r.asked same is
@@ -71,7 +71,7 @@ taken_plan items rows client seq place body are other =
 
 tells_asked : (items : List Item) (client ask : ℕ) (bodies : List PlannedBody) (asks : ℕ)
     → TellsTaken items client bodies asks
-    → TellsTaken items client (replaced asks (as_asked ask) bodies) (asks + 1)
+    → TellsTaken items client (with_changed_body asks (as_asked ask) bodies) (asks + 1)
 tells_asked items client ask bodies asks is = record {
   marks = λ n. is.marks n ∙ sym (marked_kept asks (as_asked ask) (λ b. refl) bodies n);
   later = λ n most. is.later n (omega (arith, most));
@@ -104,19 +104,19 @@ none_is None e = refl
 none_is (Some x) e = absurd cc
 
 pub is_oldest : (items : List Item) (client most : ℕ) (bodies : List PlannedBody) (oldest : Option ℕ)
-    → most ≡ asked client items → TellsTaken items client bodies most
+    → most ≡ asked_count client items → TellsTaken items client bodies most
     → IfSome oldest (λ seq. seq < most) → IfSome oldest (λ seq. is_marked bodies seq ≡ false)
     → IfSome oldest (λ seq. (n : ℕ) → n < seq → is_marked bodies n ≡ true)
     → IfSome oldest (λ seq. IsOldest items client seq)
 is_oldest items client most bodies None asks tells below untaken before = tt
 is_oldest items client most bodies (Some seq) asks tells below untaken before = record {
   is_asked = subst (λ (n : ℕ). seq < n) asks below;
-  untaken = none_is (found took_in client seq items) (tells.marks seq ∙ untaken);
+  untaken = none_is (told_by_first took_in client seq items) (tells.marks seq ∙ untaken);
   before = λ n less. tells.marks n ∙ before n less;
 }
 
 pub all_taken : (items : List Item) (client most : ℕ) (bodies : List PlannedBody) (oldest : Option ℕ)
-    → most ≡ asked client items → TellsTaken items client bodies most
+    → most ≡ asked_count client items → TellsTaken items client bodies most
     → IfNone oldest ((n : ℕ) → n < most → is_marked bodies n ≡ true)
     → IfNone oldest (HasTakenAll items client)
 all_taken items client most bodies None asks tells all =
@@ -131,10 +131,10 @@ or_none (Some x) = refl
 
 -- an entry of another client or number changes no look-up
 found_apart : (client seq : ℕ) (items : List Item) (x : Item) → is_of client seq x ≡ false
-    → found took_in client seq (items ++ x ∷ []) ≡ found took_in client seq items
+    → told_by_first took_in client seq (items ++ x ∷ []) ≡ told_by_first took_in client seq items
 found_apart client seq items x apart = found_append took_in client seq items (x ∷ [])
-    ∙ (ap (λ (b : Bool). option_or (found took_in client seq items)
-    (option_or (if b then took_in x.what else None) None)) apart ∙ or_none (found took_in client seq items))
+    ∙ (ap (λ (b : Bool). option_or (told_by_first took_in client seq items)
+    (option_or (if b then took_in x.what else None) None)) apart ∙ or_none (told_by_first took_in client seq items))
 
 pub or_right : {A : Type 0} (o p : Option A) → is_some p ≡ true → is_some (option_or o p) ≡ true
 or_right None p e = e
@@ -146,9 +146,9 @@ now_taken client seq g outcome items =
     let x = took_of client seq outcome g in
     let same = eq-eqb client client refl in
     let number = eq-eqb seq seq refl in
-    let here : is_some (found took_in client seq (x ∷ [])) ≡ true = rw (same, number) refl in
+    let here : is_some (told_by_first took_in client seq (x ∷ [])) ≡ true = rw (same, number) refl in
     ap is_some (found_append took_in client seq items (x ∷ []))
-    ∙ or_right (found took_in client seq items) (found took_in client seq (x ∷ [])) here
+    ∙ or_right (told_by_first took_in client seq items) (told_by_first took_in client seq (x ∷ [])) here
 
 number_apart : (client seq n : ℕ) (outcome : Outcome) (g : ℕ) → (n ≡ seq → ⊥)
     → is_of client n (took_of client seq outcome g) ≡ false
@@ -162,14 +162,14 @@ number_apart client seq n outcome g apart =
 -- the body of this number was taken
 tells_took : (items : List Item) (client seq g : ℕ) (outcome : Outcome) (bodies : List PlannedBody) (asks : ℕ)
     → seq < asks → seq < length bodies → TellsTaken items client bodies asks
-    → TellsTaken (items ++ took_of client seq outcome g ∷ []) client (replaced seq as_taken bodies) asks
+    → TellsTaken (items ++ took_of client seq outcome g ∷ []) client (with_changed_body seq as_taken bodies) asks
 tells_took items client seq g outcome bodies asks below within is =
     let x = took_of client seq outcome g in
     record {
       marks = λ n. dite (ℕ_discrete n seq)
           (λ (e : n ≡ seq). subst (λ (m : ℕ). IsTakenIn (items ++ x ∷ []) client m) (sym e)
           (now_taken client seq g outcome items)
-          ∙ sym (ap (is_marked (replaced seq as_taken bodies)) e ∙ marked_taken seq bodies within))
+          ∙ sym (ap (is_marked (with_changed_body seq as_taken bodies)) e ∙ marked_taken seq bodies within))
           (λ (ne : n ≢ seq). ap is_some (found_apart client n items x (number_apart client seq n outcome g ne))
           ∙ (is.marks n ∙ sym (marked_other seq as_taken bodies n ne)));
       later = λ n most. found_apart client n items x

@@ -8,7 +8,7 @@ use Rattle.std.specs.List.{slice_get}
 use Rattle.turn_pass.specs.declared.chronicle.Entry.{Entry}
 use Rattle.lane_record.specs.declared.item.Item.{Item}
 use Rattle.lane_record.specs.Claims.{claims}
-use Rattle.lane_record.specs.Items.{asked, found, is_sealed, numbers, plan_in, planned, took_in}
+use Rattle.lane_record.specs.Items.{asked_count, told_by_first, is_sealed, numbers, plan_in, planned_count, took_in}
 use Rattle.lane_record.specs.Lists.{CountsFrom}
 use Rattle.lane_record.specs.Coding.{entry_of}
 use Rattle.lane_record.specs.NextEntry.{plan_of}
@@ -34,10 +34,10 @@ abbrev pub as_taken : PlannedBody → PlannedBody
 as_taken body = record { plan = body.plan; ask = body.ask; is_taken = true }
 
 -- the body of this number becomes another
-abbrev pub replaced : ℕ → (PlannedBody → PlannedBody) → List PlannedBody → List PlannedBody
-replaced k change [] = []
-replaced zero change (b ∷ bs) = change b ∷ bs
-replaced (suc k) change (b ∷ bs) = b ∷ replaced k change bs
+abbrev pub with_changed_body : ℕ → (PlannedBody → PlannedBody) → List PlannedBody → List PlannedBody
+with_changed_body k change [] = []
+with_changed_body zero change (b ∷ bs) = change b ∷ bs
+with_changed_body (suc k) change (b ∷ bs) = b ∷ with_changed_body k change bs
 
 -- the number of its Ask
 abbrev pub ask_of_body : Option PlannedBody → Option ℕ
@@ -78,12 +78,12 @@ after_plan place r = record { client = r.client; bodies = r.bodies ++ planned_at
 abbrev pub after_ask : ℕ → Row → Row
 after_ask ask r = record {
   client = r.client;
-  bodies = replaced r.asked (as_asked ask) r.bodies;
+  bodies = with_changed_body r.asked (as_asked ask) r.bodies;
   asked = r.asked + 1;
 }
 
 abbrev pub after_took : ℕ → Row → Row
-after_took seq r = record { client = r.client; bodies = replaced seq as_taken r.bodies; asked = r.asked }
+after_took seq r = record { client = r.client; bodies = with_changed_body seq as_taken r.bodies; asked = r.asked }
 
 -- ---- the rows of all clients
 
@@ -118,9 +118,9 @@ next_of None = None
 next_of (Some r) = next_in r
 
 -- the row of a client becomes another
-abbrev pub changed : ℕ → (Row → Row) → List Row → List Row
-changed client change [] = []
-changed client change (r ∷ rs) = if r.client == client then change r ∷ rs else r ∷ changed client change rs
+abbrev pub with_changed_row : ℕ → (Row → Row) → List Row → List Row
+with_changed_row client change [] = []
+with_changed_row client change (r ∷ rs) = if r.client == client then change r ∷ rs else r ∷ with_changed_row client change rs
 
 -- one more Plan of a client, at this place among the entries
 abbrev pub with_plan : ℕ → ℕ → List Row → List Row
@@ -130,11 +130,11 @@ with_plan client place (r ∷ rs) =
 
 -- one more Ask of a client, under this number
 abbrev pub with_ask : ℕ → ℕ → List Row → List Row
-with_ask client ask rows = changed client (after_ask ask) rows
+with_ask client ask rows = with_changed_row client (after_ask ask) rows
 
 -- one more Took of a client
 abbrev pub with_took : ℕ → ℕ → List Row → List Row
-with_took client seq rows = changed client (after_took seq) rows
+with_took client seq rows = with_changed_row client (after_took seq) rows
 
 -- a client asked its body of this number
 pub record HasAsked (client seq : ℕ) (rows : List Row) : Type 0 where
@@ -154,12 +154,12 @@ pub record HasNext (client : ℕ) (rows : List Row) : Type 0 where
 pub record IsPlanAt (items : List Item) (client seq place : ℕ) : Type 0 where
   pub body : List ℕ
   pub there : slice_get items place ≡ Some (plan_of client seq body)
-  pub first : found plan_in client seq items ≡ Some body
+  pub first : told_by_first plan_in client seq items ≡ Some body
 
 -- a row tells the bodies of its client, and where there is no row there are none
 pub record TellsBodies (items : List Item) (client : ℕ) (bodies : List PlannedBody) (asks : ℕ) : Type 0 where
-  pub planned_are : length bodies ≡ planned client items
-  pub asked_are : asks ≡ asked client items
+  pub planned_are : length bodies ≡ planned_count client items
+  pub asked_are : asks ≡ asked_count client items
   pub no_more : asks ≤ length bodies
   pub plans_are : (seq : ℕ) (body : PlannedBody) → slice_get bodies seq ≡ Some body
       → IsPlanAt items client seq body.plan
@@ -179,8 +179,8 @@ IsAskedRow items client (Some r) = TellsAsks items client r.bodies r.asked
 
 -- what a row tells of the bodies that its client took, and where there is no row none was taken
 pub record TellsTaken (items : List Item) (client : ℕ) (bodies : List PlannedBody) (asks : ℕ) : Type 0 where
-  pub marks : (n : ℕ) → is_some (found took_in client n items) ≡ is_marked bodies n
-  pub later : (n : ℕ) → asks ≤ n → found took_in client n items ≡ None
+  pub marks : (n : ℕ) → is_some (told_by_first took_in client n items) ≡ is_marked bodies n
+  pub later : (n : ℕ) → asks ≤ n → told_by_first took_in client n items ≡ None
 
 abbrev pub IsTakenRow : List Item → ℕ → Option Row → Type 0
 IsTakenRow items client None = TellsTaken items client [] 0
@@ -189,7 +189,7 @@ IsTakenRow items client (Some r) = TellsTaken items client r.bodies r.asked
 -- a client has a body that was planned and not asked
 pub record HasMorePlans (client : ℕ) (items : List Item) : Type 0 where
   pub body : List ℕ
-  pub there : found plan_in client (asked client items) items ≡ Some body
+  pub there : told_by_first plan_in client (asked_count client items) items ≡ Some body
 
 -- how many more items and entries there is room for
 abbrev pub room_of : ℕ → ℕ → ℕ → ℕ → ℕ

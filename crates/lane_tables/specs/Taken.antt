@@ -2,7 +2,7 @@
 use Rattle.std.specs.Prelude.{◌≡◌, ℕ, ◌<◌, true, None, is_some, List}
 use Rattle.lane_record.specs.declared.item.Item.{Item}
 use Rattle.lane_record.specs.Claims.{Claim, IsAskOf}
-use Rattle.lane_record.specs.Items.{asked, found, took_in}
+use Rattle.lane_record.specs.Items.{asked_count, told_by_first, took_in}
 
 -- the Ask of this number is that of the client's body
 pub record IsAskAt (items : List Item) (client seq ask : ℕ) : Type 0 where
@@ -11,14 +11,14 @@ pub record IsAskAt (items : List Item) (client seq ask : ℕ) : Type 0 where
 
 -- a body of a client that was taken
 abbrev pub IsTakenIn : List Item → ℕ → ℕ → Type 0
-IsTakenIn items client seq = is_some (found took_in client seq items) ≡ true
+IsTakenIn items client seq = is_some (told_by_first took_in client seq items) ≡ true
 
 -- the oldest body of a client that was asked and not taken
 pub record IsOldest (items : List Item) (client seq : ℕ) : Type 0 where
-  pub is_asked : seq < asked client items
-  pub untaken : found took_in client seq items ≡ None
+  pub is_asked : seq < asked_count client items
+  pub untaken : told_by_first took_in client seq items ≡ None
   pub before : (n : ℕ) → n < seq → IsTakenIn items client n
 
 -- the client has no asked body to take
 abbrev pub HasTakenAll : List Item → ℕ → Type 0
-HasTakenAll items client = (n : ℕ) → n < asked client items → IsTakenIn items client n
+HasTakenAll items client = (n : ℕ) → n < asked_count client items → IsTakenIn items client n

@@ -5,7 +5,7 @@ ghost use Rattle.std.specs.Prelude.{◌↔◌};
 ghost use Rattle.std.specs.Prelude.{length, IsTrue, Some, ◌^◌};
 ghost use Rattle.std.specs.Vec.{vec_len, vec_capacity};
 ghost use Rattle.transaction_codec.specs.Answer.{reply_room};
-ghost use Rattle.lane_record.specs.Items.{asked, found, is_sealed, plan_in, planned};
+ghost use Rattle.lane_record.specs.Items.{asked_count, told_by_first, is_sealed, plan_in, planned_count};
 ghost use Rattle.lane_record.specs.NextEntry.{ask_of, plan_of, the_seal, took_of};
 ghost use Rattle.lane_record.specs.Coding.{entry_of};
 ghost use Rattle.lane_tables.specs.Planned.{IsFull};
@@ -100,7 +100,7 @@ impl Book {
 
     /// How many bodies a client planned.
     pub fn planned(&self, client: u32) -> u64
-        ensures { result ≡ planned client self.now.items }
+        ensures { result ≡ planned_count client self.now.items }
     {
         match row_at(&self.rows, client) {
             Some(at) => self.rows[at].planned() as u64,
@@ -110,7 +110,7 @@ impl Book {
 
     /// How many bodies a client asked.
     pub fn asked(&self, client: u32) -> u64
-        ensures { result ≡ asked client self.now.items }
+        ensures { result ≡ asked_count client self.now.items }
     {
         match row_at(&self.rows, client) {
             Some(at) => self.rows[at].asked() as u64,
@@ -120,9 +120,9 @@ impl Book {
 
     /// The client's next body that was planned and not asked.
     pub fn next(&self, client: u32) -> Option<&Words>
-        ensures some { IfSome result (λ body. found plan_in client (asked client self.now.items) self.now.items
+        ensures some { IfSome result (λ body. told_by_first plan_in client (asked_count client self.now.items) self.now.items
             ≡ Some body.now) }
-        ensures none { IfNone result (asked client self.now.items ≡ planned client self.now.items) }
+        ensures none { IfNone result (asked_count client self.now.items ≡ planned_count client self.now.items) }
     {
         let place = next_place(&self.rows, client)?;
         let item = &self.items[place];
@@ -146,7 +146,7 @@ impl Book {
     /// The number of the Ask of a client's body, where it was asked.
     pub fn ask_of(&self, client: u32, seq: u64) -> Option<usize>
         ensures some { IfSome result (IsAskAt self.now.items client seq) }
-        ensures none { IfNone result (asked client self.now.items ≤ seq) }
+        ensures none { IfNone result (asked_count client self.now.items ≤ seq) }
     {
         match row_at(&self.rows, client) {
             Some(at) => self.rows[at].ask_of(seq),
@@ -169,9 +169,9 @@ impl Book {
         requires room { 2 ≤ self.old.room }
         requires reply { reply ≡ reply_room body }
         requires few { ¬ IsFull self.old.items (length body) (reply_room body) }
-        ensures number { IfOk result (λ seq. seq ≡ planned client self.old.items) }
+        ensures number { IfOk result (λ seq. seq ≡ planned_count client self.old.items) }
         ensures entry { OnOk result (self.new.items
-            ≡ self.old.items ++ plan_of client (planned client self.old.items) body ∷ []) }
+            ≡ self.old.items ++ plan_of client (planned_count client self.old.items) body ∷ []) }
         ensures unchanged { OnErr result (self.new.items ≡ self.old.items) }
     {
         let seq = self.planned(client);
@@ -212,7 +212,7 @@ impl Book {
     pub fn ask(&mut self, client: u32, seq: u64, give_ups: u64)
         requires room { 2 ≤ self.old.room }
         requires next { HasMorePlans client self.old.items }
-        requires number { seq ≡ asked client self.old.items }
+        requires number { seq ≡ asked_count client self.old.items }
         ensures { self.new.items ≡ self.old.items ++ ask_of client seq give_ups ∷ [] }
     {
         add_ask(&mut self.rows, client, self.asks);
@@ -231,7 +231,7 @@ impl Book {
     /// Adds a Took of a body that was asked.
     pub fn take(&mut self, client: u32, seq: u64, outcome: Outcome, give_ups: u64)
         requires room { 2 ≤ self.old.room }
-        requires asked { seq < asked client self.old.items }
+        requires asked { seq < asked_count client self.old.items }
         ensures { self.new.items ≡ self.old.items ++ took_of client seq outcome give_ups ∷ [] }
     {
         add_took(&mut self.rows, client, seq);

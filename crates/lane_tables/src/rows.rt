@@ -2,7 +2,7 @@
 //! looked through.
 
 ghost use Rattle.std.specs.Prelude.{◌≡◌, ◌≤◌, ◌<◌, ℕ, length, true, false, OnOk, OnErr};
-ghost use Rattle.lane_tables.specs.Books.{HasAsked, HasNext, as_asked, as_taken, is_marked, next_of, replaced};
+ghost use Rattle.lane_tables.specs.Books.{HasAsked, HasNext, as_asked, as_taken, is_marked, next_of, with_changed_body};
 ghost use Rattle.lane_tables.specs.Books.{row_at, row_of, with_ask, with_plan, with_took};
 
 use ipb_base::NoMemory;
@@ -161,7 +161,7 @@ impl ClientRow {
 /// A body was asked under this number.
 fn set_asked(bodies: &mut Vec<PlannedBody>, at: usize, ask: usize)
     requires { at < length bodies.old.items }
-    ensures { bodies.new.items ≡ replaced at (as_asked ask) bodies.old.items }
+    ensures { bodies.new.items ≡ with_changed_body at (as_asked ask) bodies.old.items }
 {
     let body = &mut bodies[at];
     body.ask = Some(ask);
@@ -170,7 +170,7 @@ fn set_asked(bodies: &mut Vec<PlannedBody>, at: usize, ask: usize)
 /// What became of a body was taken.
 fn set_taken(bodies: &mut Vec<PlannedBody>, at: usize)
     requires { at < length bodies.old.items }
-    ensures { bodies.new.items ≡ replaced at as_taken bodies.old.items }
+    ensures { bodies.new.items ≡ with_changed_body at as_taken bodies.old.items }
 {
     let body = &mut bodies[at];
     body.is_taken = true;

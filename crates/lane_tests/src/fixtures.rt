@@ -4,7 +4,7 @@ ghost use Rattle.std.specs.Prelude.{◌≡◌, ◌≤◌, [], ◌∷◌, IfOk, s
 ghost use Rattle.transaction_codec.specs.Answer.{reply_room};
 ghost use Rattle.transaction_codec.specs.Request.{op_count};
 ghost use Rattle.script_steps.specs.Packing.{CanBePacked, operations};
-ghost use Rattle.world_model.specs.Board.{executed};
+ghost use Rattle.world_model.specs.Board.{bodies_executed};
 
 use crate::links::ready;
 use board_node::{Board, Bus, Fates, Range, RangeKind};
@@ -49,7 +49,7 @@ fn bus(alloc: Global) -> Result<Bus, Fail> {
 pub(crate) fn board(alloc: Global, mtu: u32, buffers: u32, first: u16) -> Result<Board, Fail>
     requires mtu { (92 ≤ mtu) × (mtu ≤ 1500) }
     requires buffers { (1 ≤ buffers) × (buffers ≤ 64) }
-    ensures fresh { IfOk result (λ board. executed board ≡ []) }
+    ensures fresh { IfOk result (λ board. bodies_executed board ≡ []) }
     ensures log { IfOk result (λ board. board.log ≡ []) }
 {
     let first = Id::new(first).ok_or("0 is no identifier")?;

@@ -4,7 +4,7 @@ ghost use Rattle.std.specs.Prelude.{◌≡◌, ◌<◌, [], ◌∷◌, length, m
 ghost use Rattle.std.specs.Thread.{IsSync};
 ghost use Rattle.turn_pass.specs.Pass.{first_knowledge};
 ghost use Rattle.hub_multiplexer.specs.Ends.{HasTakenIn};
-ghost use Rattle.hub_multiplexer.specs.Lanes.{shown};
+ghost use Rattle.hub_multiplexer.specs.Lanes.{shown_record};
 ghost use Rattle.hub_multiplexer.specs.Seats.{IsMasterOf, IsSeatOf};
 
 use crate::fixtures::{digit, kinds, lane, place_of, planned, planned_for_each, read_four};
@@ -38,7 +38,7 @@ pub(crate) fn hub_of<L: Link + Send + Drop>(
     ensures no_seats { IfOk result (λ made. (made.1.seats ≡ 0) × HasTakenIn 1 made.1) }
     ensures board { IfOk result (λ made. length made.0.turns ≡ 1) }
     ensures knows { IfOk result (λ made.
-        made.1.knows ≡ map first_knowledge (map (shown L.telling) (lane ∷ []))) }
+        made.1.knows ≡ map first_knowledge (map (shown_record L.telling) (lane ∷ []))) }
 {
     match Hub::new(alloc, list_of(alloc, lane)?) {
         Ok(made) => Ok(made),

@@ -7,7 +7,7 @@ use Rattle.std.proofs.lemmas.List.Elements.{filter-append}
 use Rattle.world_model.specs.declared.datagram.Datagram.{Datagram}
 use Rattle.world_model.specs.declared.datagram.Direction.TheVariants.{ToBoard}
 use Rattle.capture_reader.specs.declared.capture.Caught.{Caught}
-use Rattle.link_tap.specs.Traffic.{sent_in, received_in, for_board, is_sent, is_received, bytes_of, carried}
+use Rattle.link_tap.specs.Traffic.{sent_in, received_in, for_board, is_sent, is_received, bytes_of, bytes_for_board}
 use Rattle.world_model.specs.Air.{is_for_board}
 use Rattle.link_tap.specs.Traffic.{sent_item, received_item, IsForHubAt, AreForHubAt}
 
@@ -48,8 +48,8 @@ none_sent items bytes = sent_in-append items (received_item bytes ∷ []) ∙ ap
 
 pub for_board-append : (air more : List Datagram) → for_board (air ++ more) ≡ for_board air ++ for_board more
 for_board-append air more =
-    ap (map carried) (filter-append is_for_board air more)
-    ∙ map-append carried (filter is_for_board air) (filter is_for_board more)
+    ap (map bytes_for_board) (filter-append is_for_board air more)
+    ∙ map-append bytes_for_board (filter is_for_board air) (filter is_for_board more)
 
 pub one_more_for_board : (air : List Datagram) (bytes : List ℕ) (birth : ℕ)
     → for_board (air ++ record { direction = ToBoard; bytes = bytes; birth = birth } ∷ []) ≡ for_board air ++ bytes ∷ []

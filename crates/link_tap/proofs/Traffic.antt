@@ -11,7 +11,7 @@ use Rattle.world_model.specs.declared.datagram.Direction.{Direction}
 use Rattle.world_model.specs.declared.datagram.Direction.TheVariants.{ToBoard, ToHub}
 use Rattle.world_model.specs.Board.{Board, hear}
 use Rattle.world_model.specs.Air.{goes_to, is_alive}
-use Rattle.world_model.specs.World.{answered}
+use Rattle.world_model.specs.World.{air_after_answer}
 use Rattle.world_model.specs.Links.{Told, IsHeard, IsHandedAt, first_sends, first_sends_from, sent_on}
 use Rattle.world_model.specs.Links.{heard_by, heard_on, hears_all, then_told}
 use Rattle.world_core.specs.declared.link.LinkFault.{LinkFault}
@@ -23,7 +23,7 @@ use Rattle.world_core.specs.Telling.{IfTelling, IsCarried, IsSent, Receives, Tel
 use Rattle.packet_codec.specs.Packet.{AreBytes}
 use Rattle.capture_reader.specs.declared.capture.Caught.{Caught}
 use Rattle.capture_reader.specs.CaptureText.{AreItems, IsItem}
-use Rattle.link_tap.specs.Traffic.{sent_in, received_in, for_board, carried, sent_item, received_item, caught_after}
+use Rattle.link_tap.specs.Traffic.{sent_in, received_in, for_board, bytes_for_board, sent_item, received_item, caught_after}
 use Rattle.link_tap.specs.Traffic.{ByKind, WereAlive, IsNextAlive, behind_next, IsTrafficOf, IsUnused, HasCaught}
 use Rattle.link_tap.proofs.Lists.{for_board-append, one_more_for_board, one_more_sent, none_received}
 use Rattle.link_tap.proofs.Lists.{one_more_received, none_sent, there_in_more, one_more_there}
@@ -68,7 +68,7 @@ alive_sent first sent heard (item ∷ items) bytes is = by_kind item.sent
 -- one more that was received, where all that were handed out before it were received
 abbrev pub ReceivesMore : ℕ → ℕ → List Datagram → Datagram → List Caught → List ℕ → Type 0
 ReceivesMore first sent heard datagram items bytes =
-    received_in items ≡ map carried heard → is_alive (counted first sent (sent_in items)) datagram ≡ true
+    received_in items ≡ map bytes_for_board heard → is_alive (counted first sent (sent_in items)) datagram ≡ true
     → WereAlive first sent heard items
     → WereAlive first sent (heard ++ datagram ∷ []) (items ++ received_item bytes ∷ [])
 
@@ -84,7 +84,7 @@ received_one first sent (other ∷ heard) datagram item items bytes false e more
     let s = rw e at same in
     let a = rw e at alive in
     let h = rw e at is in
-    let later : received_in items ≡ map carried heard = cc in
+    let later : received_in items ≡ map bytes_for_board heard = cc in
     rw e (h.0, more sent heard later a h.1)
 
 alive_received : (first sent : ℕ) (heard : List Datagram) (datagram : Datagram) (items : List Caught)
@@ -103,7 +103,7 @@ found_both true true x y e = cc
 found_both true false x y e = absurd (cc)
 found_both false other x y e = absurd (cc)
 
-pub answer_for_hub : (birth : ℕ) (answer : Option (List ℕ)) → for_board (answered birth answer) ≡ []
+pub answer_for_hub : (birth : ℕ) (answer : Option (List ℕ)) → for_board (air_after_answer birth answer) ≡ []
 answer_for_hub birth None = refl
 answer_for_hub birth (Some bytes) = refl
 
@@ -112,7 +112,7 @@ one_heard : (old new : Told) (datagram : Option Datagram) → heard_by old datag
 one_heard old new None e = absurd (cc)
 one_heard old new (Some datagram) e =
     let after = heard_on old datagram.bytes in
-    let answer = answered (first_sends old) (hear old.board datagram.bytes).answer in
+    let answer = air_after_answer (first_sends old) (hear old.board datagram.bytes).answer in
     let same : after ≡ new = found_both (goes_to ToBoard datagram.direction) (is_alive (first_sends old) datagram)
     after new e in
     ap (λ (t : Told). for_board t.air) (sym same)
@@ -212,7 +212,7 @@ traffic_got t items bytes place before handed at is =
       handed = rw handed (one_more_there t.told.air before is.heard place one is.handed
           (record { there = at.there; for_hub = refl }));
       received = one_more_received items bytes
-          ∙ (ap (λ front. front ++ bytes ∷ []) is.received ∙ sym (map-append carried is.heard (one ∷ [])));
+          ∙ (ap (λ front. front ++ bytes ∷ []) is.received ∙ sym (map-append bytes_for_board is.heard (one ∷ [])));
       alive = alive_received first 0 is.heard one items bytes is.received
           (subst (λ (n : ℕ). is_alive n one ≡ true) count at.alive) is.alive;
     }

@@ -3,8 +3,8 @@ use Rattle.std.specs.Prelude.{◌≡◌, ℕ, Bool, true, false, not, List, [], 
 use Rattle.std.specs.Prelude.{Result, Ok, Err}
 use Rattle.std.specs.List.{filter, slice_get}
 use Rattle.world_model.specs.declared.datagram.Datagram.{Datagram}
-use Rattle.world_model.specs.declared.datagram.Direction.TheVariants.{ToBoard, ToHub}
-use Rattle.world_model.specs.Air.{goes_to, is_alive, is_for_board}
+use Rattle.world_model.specs.declared.datagram.Direction.TheVariants.{ToHub}
+use Rattle.world_model.specs.Air.{is_alive, is_for_board}
 use Rattle.world_core.specs.declared.link.LinkFault.{LinkFault}
 use Rattle.world_core.specs.declared.link.Received.{Received}
 use Rattle.world_core.specs.declared.link.Received.TheVariants.{Got, Quiet}
@@ -42,11 +42,11 @@ abbrev pub received_in : List Caught → List (List ℕ)
 received_in items = map bytes_of (filter is_received items)
 
 -- the bytes of the datagrams of an air that are for the board, in order
-abbrev pub carried : Datagram → List ℕ
-carried datagram = datagram.bytes
+abbrev pub bytes_for_board : Datagram → List ℕ
+bytes_for_board datagram = datagram.bytes
 
 abbrev pub for_board : List Datagram → List (List ℕ)
-for_board air = map carried (filter is_for_board air)
+for_board air = map bytes_for_board (filter is_for_board air)
 
 -- these datagrams stand at these places of an air, and each is for the hub
 pub record IsForHubAt (air : List Datagram) (place : ℕ) (datagram : Datagram) : Type 0 where
@@ -89,7 +89,7 @@ pub record IsTrafficOf (telling : Telling) (items : List Caught) : Type 0 where
   pub sent : sent_in items ≡ for_board telling.told.air
   pub heard : List Datagram
   pub handed : AreForHubAt telling.told.air telling.handed heard
-  pub received : received_in items ≡ map carried heard
+  pub received : received_in items ≡ map bytes_for_board heard
   pub alive : WereAlive telling.told.board.first 0 heard items
 
 -- nothing was sent on the link yet, and nothing was handed out

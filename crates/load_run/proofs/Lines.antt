@@ -9,7 +9,7 @@ use Rattle.transaction_codec.specs.Request.{request_at}
 use Rattle.transaction_codec.specs.Reply.{reply_at}
 use Rattle.lane_record.specs.declared.outcome.Outcome.{Outcome}
 use Rattle.lane_record.specs.declared.outcome.Outcome.TheVariants.{Replied, TimedOut, Unsent, LinkLost}
-use Rattle.script_steps.specs.Rulings.{Asked, allowed}
+use Rattle.script_steps.specs.Rulings.{Asked, allowed_operations}
 use Rattle.script_steps.specs.declared.operation.RegOp.{RegOp}
 use Rattle.script_steps.specs.declared.operation.Verb.TheVariants.{RmwSum}
 use Rattle.script_plans.specs.declared.greeting.Greeting.TheVariants.{Live, Silent, Down}
@@ -19,7 +19,7 @@ use Rattle.transcript.specs.declared.line.OpResult.{OpResult}
 use Rattle.script_plans.specs.declared.board_run.ClientPart.{ClientPart}
 use Rattle.script_plans.specs.declared.board_run.BoardRun.{BoardRun}
 use Rattle.transcript.specs.Ends.{end_of, ends_of, told_of, told_at, told_by, result_in}
-use Rattle.transcript.specs.Results.{combined}
+use Rattle.transcript.specs.Results.{combined_result}
 use Rattle.transcript.specs.Lines.{showing, in_part, by_pieces, line_of, lines_behind, lines_from}
 use Rattle.script_plans.specs.Plan.{count_on}
 use Rattle.transcript.specs.Lines.{client_lines}
@@ -36,7 +36,7 @@ use Rattle.load_run.proofs.Replies.{reply}
 
 -- what is told of an operation whose body has this outcome and this late answer
 abbrev pub result_of : Outcome → Option (List ℕ) → OpResult
-result_of o late = combined RmwSum 0xffffffff (told_at (told_of body o late) 0 ∷ [])
+result_of o late = combined_result RmwSum 0xffffffff (told_at (told_of body o late) 0 ∷ [])
 
 abbrev pub words_of : Outcome → List ℕ
 words_of o = word_before (result_of o None)
@@ -56,7 +56,7 @@ answered word = refl
 pub word-replied : (place word : ℕ) (words : List ℕ) → words ≡ reply word → words_of (Replied place words) ≡ word ∷ []
 word-replied place word words same =
     ap (λ (ws : List ℕ). words_of (Replied place ws)) same
-    ∙ ap (λ a. word_before (combined RmwSum 0xffffffff (told_at (told_by a) 0 ∷ []))) (answered word)
+    ∙ ap (λ a. word_before (combined_result RmwSum 0xffffffff (told_at (told_by a) 0 ∷ []))) (answered word)
 
 -- ---- the bodies of a client
 
@@ -95,8 +95,8 @@ shows part n before k o is within at =
     let «end» : slice_get (ends_of part) k ≡ Some (end_of body o (get_or part.lates k None)) =
     ends_at part.planned.bodies part.outcomes part.lates k body o asked at in
     ap (λ (ps : Option (List PieceAt)). (by_pieces part (operation before) ps).0) pieces
-    ∙ (ap (λ (b : ℕ). combined RmwSum 0xffffffff (result_in (slice_get (ends_of part) b) 0 ∷ [])) same
-    ∙ ap (λ (e : Option BodyEnd). combined RmwSum 0xffffffff (result_in e 0 ∷ [])) «end»)
+    ∙ (ap (λ (b : ℕ). combined_result RmwSum 0xffffffff (result_in (slice_get (ends_of part) b) 0 ∷ [])) same
+    ∙ ap (λ (e : Option BodyEnd). combined_result RmwSum 0xffffffff (result_in e 0 ∷ [])) «end»)
 
 -- ---- the lines of a client
 
@@ -105,34 +105,34 @@ live-shows : (run : BoardRun) (client k : ℕ) (op : RegOp) → run.greeting ≡
 live-shows run client k op live = rw live refl
 
 -- one more operation on the board
-one-more : (before : List Asked) (b : ℕ) → count_on 0 (allowed (before ++ ask b ∷ [])) ≡ count_on 0 (allowed before) + 1
+one-more : (before : List Asked) (b : ℕ) → count_on 0 (allowed_operations (before ++ ask b ∷ [])) ≡ count_on 0 (allowed_operations before) + 1
 one-more before b =
     ap (count_on 0) (allowed-append before (ask b ∷ []))
-    ∙ sum_by-append (λ (o : RegOp). cond (o.board == 0) 1 0) (allowed before) (operation b ∷ [])
+    ∙ sum_by-append (λ (o : RegOp). cond (o.board == 0) 1 0) (allowed_operations before) (operation b ∷ [])
 
 module _ (run : BoardRun) (client : ℕ) (part : ClientPart) (n : ℕ) (live : run.greeting ≡ Live payload)
     (there : slice_get run.parts client ≡ Some part) (is : IsPart part n) where
   line-word : (before : List Asked) (b : ℕ) (front : List Outcome) (o : Outcome) (rest : List Outcome)
-      → part.outcomes ≡ front ++ o ∷ rest → count_on 0 (allowed before) ≡ length front
+      → part.outcomes ≡ front ++ o ∷ rest → count_on 0 (allowed_operations before) ≡ length front
       → word_before (line_of client before (ask b) run).result ≡ words_of o
   line-word before b front o rest all count =
       let at : slice_get part.outcomes (length front) ≡ Some o =
       ap (λ (os : List Outcome). slice_get os (length front)) all ∙ in-middle front o rest in
       let size : length part.outcomes ≡ length (front ++ o ∷ rest) = ap length all in
       let within : length front < n = omega (arith, size, length-append front (o ∷ rest), is.outcomes') in
-      ap (λ s. word_before s.0) (live-shows run client (count_on 0 (allowed before)) (operation b) live)
-      ∙ (ap (λ (p : Option ClientPart). word_before (in_part p (count_on 0 (allowed before)) (operation b)).0) there
+      ap (λ s. word_before s.0) (live-shows run client (count_on 0 (allowed_operations before)) (operation b) live)
+      ∙ (ap (λ (p : Option ClientPart). word_before (in_part p (count_on 0 (allowed_operations before)) (operation b)).0) there
       ∙ (ap (λ (k : ℕ). word_before (in_part (Some part) k (operation b)).0) count
       ∙ (ap word_before (shows part n b (length front) o is within at)
       ∙ late-adds-none o (get_or part.lates (length front) None))))
 
   lines-words : (before : List Asked) (b : ℕ) (front rest : List Outcome) → part.outcomes ≡ front ++ rest
-      → count_on 0 (allowed before) ≡ length front
+      → count_on 0 (allowed_operations before) ≡ length front
       → words_of_client (lines_behind (run ∷ []) client before (asks_behind b (length rest))) ≡ flat_map words_of rest
   lines-words before b front [] all count = refl
   lines-words before b front (o ∷ rest) all count =
       let next : part.outcomes ≡ (front ++ o ∷ []) ++ rest = all ∙ sym (append_assoc front (o ∷ []) rest) in
-      let more : count_on 0 (allowed (before ++ ask b ∷ [])) ≡ length (front ++ o ∷ []) =
+      let more : count_on 0 (allowed_operations (before ++ ask b ∷ [])) ≡ length (front ++ o ∷ []) =
       omega (arith, one-more before b, count, length-append front (o ∷ [])) in
       ap (λ (ws : List ℕ). ws ++ words_of_client (lines_behind (run ∷ []) client (before ++ ask b ∷ [])
       (asks_behind (b + 1) (length rest)))) (line-word before b front o rest all count)
@@ -195,7 +195,7 @@ no-client-words run none client before b zero = refl
 no-client-words run none client before b (suc n) =
     ap (λ (ws : List ℕ). ws ++ words_of_client (lines_behind (run ∷ []) client (before ++ ask b ∷ [])
     (asks_behind (b + 1) n)))
-    (none client (count_on 0 (allowed before)) (operation b))
+    (none client (count_on 0 (allowed_operations before)) (operation b))
     ∙ no-client-words run none client (before ++ ask b ∷ []) (b + 1) n
 
 pub no-words : (run : BoardRun) → NoWords run → (client : ℕ) (ns : List ℕ)

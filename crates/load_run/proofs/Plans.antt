@@ -3,7 +3,7 @@ use Rattle.std.proofs.Common.{◌≡◌, ℕ, zero, suc, ◌+◌, List, [], ◌�
 use Rattle.std.proofs.Common.{length-append, None}
 use Rattle.std.specs.List.{fold}
 use Rattle.mtu_packer.specs.Packed.{Contents}
-use Rattle.script_steps.specs.Rulings.{Asked, asked}
+use Rattle.script_steps.specs.Rulings.{Asked, asked_operations}
 use Rattle.script_plans.specs.declared.planned.PieceAt.{PieceAt}
 use Rattle.script_plans.specs.Plan.{ClientBodies, with_dispatch, plan}
 use Rattle.load_run.specs.Generated.{operation, steps_behind}
@@ -70,7 +70,7 @@ abbrev pub asks_behind : ℕ → ℕ → List Asked
 asks_behind before zero = []
 asks_behind before (suc n) = ask before ∷ asks_behind (before + 1) n
 
-pub asks-are : (before n : ℕ) → asked (steps_behind before n) ≡ asks_behind before n
+pub asks-are : (before n : ℕ) → asked_operations (steps_behind before n) ≡ asks_behind before n
 asks-are before zero = refl
 asks-are before (suc n) = ap (λ (asks : List Asked). ask before ∷ asks) (asks-are (before + 1) n)
 

@@ -25,7 +25,7 @@ use Rattle.board_history.specs.Order as orders
 use Rattle.board_history.specs.Parts.{IsReplyOf}
 use Rattle.board_history.specs.History.{bodies_by_client, outcomes_by_client}
 use Rattle.board_bus.specs.Bodies.{replay}
-use Rattle.board_history.specs.Runs.{opening_of}
+use Rattle.board_history.specs.Runs.{opens_with}
 use Rattle.lane_history.specs.Links.{LinkReport, IsBoardOf, board_there}
 use Rattle.lane_history.specs.Runs.{AreRunsOver, IsAsTold, IsRunOver, IsTrueRun}
 use Rattle.load_run.specs.Claims.{HasEachBelow, is_done, order_on, sum_below, TellsRuns, word_at_place}
@@ -78,7 +78,7 @@ all-parts (part ∷ parts) (n ∷ ns) planned size =
 
 -- what a bus with a single thread answers to the bodies of the order
 abbrev pub single_thread : ℕ → BoardRun → List (List ℕ)
-single_thread count run = (replay (opening_of (link count)) (orders.bodies_of (order_on run))).replies
+single_thread count run = (replay (opens_with (link count)) (orders.bodies_in (order_on run))).replies
 
 -- what carries the numbers of a summary
 pub record HasWords (count : ℕ) (run : BoardRun) (words : List ℕ) (sent : ℕ) : Type 0 where
@@ -111,7 +111,7 @@ module _ (sends : SendsLaw) where
     sent : count_by is_sent (outcomes_on run) ≡ length (order_on run)
     sent = sends run sized
 
-    few-sent : length (orders.bodies_of (order_on run)) < 2 ^ 32
+    few-sent : length (orders.bodies_in (order_on run)) < 2 ^ 32
     few-sent =
         let placed = length-map (order_on run) (λ (p : orders.Placed). p.body) in
         omega (arith, placed, sent, count_by-le-length is_sent (outcomes_on run), size)
@@ -121,7 +121,7 @@ module _ (sends : SendsLaw) where
 
     told : AllByRecursion IsTold (outcomes_on run)
     told =
-        told-all (orders.bodies_of (order_on run)) (order-alike run.parts (shares count) is) few-sent (outcomes_on run)
+        told-all (orders.bodies_in (order_on run)) (order-alike run.parts (shares count) is) few-sent (outcomes_on run)
         each
 
     pub live-words : HasWords count run (words_in (outcomes_on run)) (count_by is_sent (outcomes_on run))
@@ -206,7 +206,7 @@ module _ (sends : SendsLaw) where
       → count ≤ most_operations
       → run.greeting ≡ Live payload → AreParts run.parts (shares count) → AreSized run.parts
       → CountsFrom 1 (places_of (order_on run)) → IsBoardOf (link count) o
-      → IfSome o (IsTrueRun settings (opening_of (link count)) run report.held) → IsSummed count run
+      → IfSome o (IsTrueRun settings (opens_with (link count)) run report.held) → IsSummed count run
   by-board count run report None at small live is sized counts of true-run = absurd of
   by-board count run report (Some there) at small live is sized counts of true-run =
       as-summed count run (words_in (outcomes_on run)) (count_by is_sent (outcomes_on run))

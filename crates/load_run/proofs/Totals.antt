@@ -13,7 +13,7 @@ use Rattle.lane_record.specs.Lists.{CountsFrom}
 use Rattle.lane_record.specs.Outcomes.{place_of, is_sent}
 use Rattle.script_plans.specs.declared.board_run.ClientPart.{ClientPart}
 use Rattle.script_plans.specs.Runs.{outcomes_in}
-use Rattle.board_history.specs.Order.{Placed, with_place, placed, all_placed, insert, by_place, places_of}
+use Rattle.board_history.specs.Order.{Placed, with_place, bodies_with_places, all_placed, insert, by_place, places_of}
 use Rattle.board_history.specs.Order as orders
 use Rattle.board_history.specs.Parts.{IsReplied, IsReplyOf}
 use Rattle.board_history.proofs.Sorting.{all_sorted}
@@ -36,11 +36,11 @@ with-alike b None same = tt
 with-alike b (Some place) same = (same, tt)
 
 placed-alike : (bodies : List (List ℕ)) (outcomes : List Outcome) → AreAlike bodies
-    → AllByRecursion HasBody (placed bodies outcomes)
+    → AllByRecursion HasBody (bodies_with_places bodies outcomes)
 placed-alike [] outcomes alike = tt
 placed-alike (b ∷ bodies) [] alike = tt
 placed-alike (b ∷ bodies) (o ∷ outcomes) alike =
-    AllByRecursion-append HasBody (with_place b (place_of o)) (placed bodies outcomes)
+    AllByRecursion-append HasBody (with_place b (place_of o)) (bodies_with_places bodies outcomes)
     (with-alike b (place_of o) alike.0) (placed-alike bodies outcomes alike.1)
 
 abbrev pub bodies_by : List ClientPart → List (List (List ℕ))
@@ -54,12 +54,12 @@ parts-alike : (parts : List ClientPart) (ns : List ℕ) → AreParts parts ns
 parts-alike [] ns is = tt
 parts-alike (part ∷ parts) [] is = absurd is
 parts-alike (part ∷ parts) (n ∷ ns) is =
-    AllByRecursion-append HasBody (placed part.planned.bodies part.outcomes)
+    AllByRecursion-append HasBody (bodies_with_places part.planned.bodies part.outcomes)
     (all_placed (bodies_by parts) (outcomes_by parts))
     (placed-alike part.planned.bodies part.outcomes (subst AreAlike (sym is.0.bodies') (all_alike n)))
     (parts-alike parts ns is.1)
 
-alike-bodies : (ps : List Placed) → AllByRecursion HasBody ps → AreAlike (orders.bodies_of ps)
+alike-bodies : (ps : List Placed) → AllByRecursion HasBody ps → AreAlike (orders.bodies_in ps)
 alike-bodies [] all = tt
 alike-bodies (p ∷ ps) all = (all.0, alike-bodies ps all.1)
 
@@ -67,7 +67,7 @@ abbrev pub order_of : List ClientPart → List Placed
 order_of parts = by_place (all_placed (bodies_by parts) (outcomes_by parts))
 
 pub order-alike : (parts : List ClientPart) (ns : List ℕ) → AreParts parts ns
-    → AreAlike (orders.bodies_of (order_of parts))
+    → AreAlike (orders.bodies_in (order_of parts))
 order-alike parts ns is =
     alike-bodies (order_of parts)
     (all_sorted HasBody (all_placed (bodies_by parts) (outcomes_by parts)) (parts-alike parts ns is))
@@ -259,14 +259,14 @@ with-sum b None = refl
 with-sum b (Some place) = omega arith
 
 placed-sum : (bodies : List (List ℕ)) (outcomes : List Outcome) → length outcomes ≡ length bodies
-    → sum_by before (placed bodies outcomes) ≡ sum_by before_in outcomes
+    → sum_by before (bodies_with_places bodies outcomes) ≡ sum_by before_in outcomes
 placed-sum [] [] same = refl
 placed-sum [] (o ∷ os) same = let bad : ⊥ = omega arith in absurd bad
 placed-sum (b ∷ bodies) [] same = let bad : ⊥ = omega arith in absurd bad
 placed-sum (b ∷ bodies) (o ∷ os) same =
     omega (
       arith,
-      sum_by-append before (with_place b (place_of o)) (placed bodies os),
+      sum_by-append before (with_place b (place_of o)) (bodies_with_places bodies os),
       with-sum b (place_of o),
       placed-sum bodies os (omega arith),
       sum_by-cons before_in o os,
@@ -282,7 +282,7 @@ all-placed-sum (part ∷ parts) [] is = absurd is
 all-placed-sum (part ∷ parts) (n ∷ ns) is =
     omega (
       arith,
-      sum_by-append before (placed part.planned.bodies part.outcomes)
+      sum_by-append before (bodies_with_places part.planned.bodies part.outcomes)
           (all_placed (bodies_by parts) (outcomes_by parts)),
       placed-sum part.planned.bodies part.outcomes (part-size part n is.0),
       all-placed-sum parts ns is.1,

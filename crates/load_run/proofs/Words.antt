@@ -9,7 +9,7 @@ use Rattle.lane_record.specs.declared.outcome.Outcome.TheVariants.{Replied, Time
 use Rattle.lane_record.specs.Lists.{CountsFrom}
 use Rattle.script_plans.specs.declared.board_run.ClientPart.{ClientPart}
 use Rattle.script_plans.specs.Runs.{outcomes_in}
-use Rattle.board_history.specs.Order.{Placed, all_placed, placed, places_of}
+use Rattle.board_history.specs.Order.{Placed, all_placed, bodies_with_places, places_of}
 use Rattle.board_history.specs.Parts.{IsReplied}
 use Rattle.board_history.proofs.Sorting.{all_sorted}
 use Rattle.load_run.specs.Claims.{HasEachBelow}
@@ -34,7 +34,7 @@ more-right more words (p ∷ ps) all =
     (Contains-append_right more words (before p) all.0, more-right more words ps all.1)
 
 client-among : (bodies : List (List ℕ)) (outcomes : List Outcome) → AllByRecursion IsTold outcomes
-    → AllByRecursion IsReplied outcomes → AreAmong (words_in outcomes) (placed bodies outcomes)
+    → AllByRecursion IsReplied outcomes → AreAmong (words_in outcomes) (bodies_with_places bodies outcomes)
 client-among [] outcomes told all = tt
 client-among (b ∷ bodies) [] told all = tt
 client-among (b ∷ bodies) (Replied place words ∷ os) told all =
@@ -42,7 +42,7 @@ client-among (b ∷ bodies) (Replied place words ∷ os) told all =
     let here : Contains (words_of (Replied place words)) (place - 1) =
     subst (λ (ws : List ℕ). Contains ws (place - 1)) (sym one) (Contains-push [] (place - 1)) in (
       Contains-append_left (words_of (Replied place words)) (words_in os) (place - 1) here,
-      more-right (words_of (Replied place words)) (words_in os) (placed bodies os)
+      more-right (words_of (Replied place words)) (words_in os) (bodies_with_places bodies os)
           (client-among bodies os told.1 all.1),
     )
 client-among (b ∷ bodies) (TimedOut place rounds ∷ os) told all = absurd all.0
@@ -55,7 +55,7 @@ parts-among : (parts : List ClientPart) → AllByRecursion IsTold (outcomes_in p
 parts-among [] told all = tt
 parts-among (part ∷ parts) told all =
     let rest = outcomes_in parts in
-    let own = placed part.planned.bodies part.outcomes in
+    let own = bodies_with_places part.planned.bodies part.outcomes in
     let others = all_placed (bodies_by parts) (outcomes_by parts) in
     subst (λ (ws : List ℕ). AreAmong ws (own ++ others)) (sym (flat_map-append words_of part.outcomes rest))
     (AllByRecursion-append (IsAmong (words_in part.outcomes ++ words_in rest)) own others

@@ -10,9 +10,9 @@ use Rattle.lane_record.specs.declared.outcome.Outcome.TheVariants.{Replied, Time
 use Rattle.world_model.specs.Places.{at_place}
 use Rattle.script_plans.specs.declared.board_run.BoardRun.{BoardRun}
 use Rattle.script_plans.specs.Runs.{outcomes_on}
-use Rattle.board_history.specs.Order.{Placed, order, bodies_of}
+use Rattle.board_history.specs.Order.{Placed, order, bodies_in}
 use Rattle.board_history.specs.History.{bodies_by_client, outcomes_by_client}
-use Rattle.board_history.specs.Runs.{opening_of}
+use Rattle.board_history.specs.Runs.{opens_with}
 use Rattle.load_run.specs.declared.summary.Summary.{Summary}
 use Rattle.load_run.specs.Generated.{link}
 
@@ -56,7 +56,7 @@ pub record TellsRuns (count : ℕ) (runs : List BoardRun) (summary : Summary) : 
   pub done : summary.done ≡ count_by is_done (outcomes_on run)
   -- the sum of the words that a bus with a single thread answers to these bodies at their places
   pub total : summary.total
-      ≡ sum_by (word_at_place (replay (opening_of (link count)) (bodies_of (order_on run))).replies) (outcomes_on run)
+      ≡ sum_by (word_at_place (replay (opens_with (link count)) (bodies_in (order_on run))).replies) (outcomes_on run)
   -- how many bodies the order of the board has
   pub places : summary.places ≡ length (order_on run)
 

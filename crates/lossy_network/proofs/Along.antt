@@ -13,12 +13,12 @@ use Rattle.lossy_network.specs.Fates.{fate_at}
 use Rattle.lossy_network.specs.Traffic.{Traffic, put_on}
 use Rattle.lossy_network.specs.Network.{ByBoard, ByHub, Dropped, ForHub, Front, Network, Nothing, Receipt, Taken}
 use Rattle.lossy_network.specs.Network.{Taking}
-use Rattle.lossy_network.specs.Network.{all_taken, called, failed, fails, front, front_of, front_with, hub_bytes}
-use Rattle.lossy_network.specs.Network.{most_takings, put_at, received, takes, with_queue}
+use Rattle.lossy_network.specs.Network.{all_taken, with_call_counted, with_fault, fails, front, front_of, front_with, hub_bytes}
+use Rattle.lossy_network.specs.Network.{most_takings, put_at, network_receipt, takes, with_queue}
 use Rattle.lossy_network.specs.Receipts.{GotReceipt, QuietReceipt}
 use Rattle.lossy_network.specs.Calls.{Call, Receive, RefusedReceive, RefusedSend, Send, after_call, after_calls}
 use Rattle.lossy_network.specs.Calls.{all_takings}
-use Rattle.lossy_network.specs.Calls.{done, handing_out, taken_by, taken_in, takings}
+use Rattle.lossy_network.specs.Calls.{network_after, handing_out, taken_by, taken_in, takings}
 use Rattle.lossy_network.proofs.Hearing.{air_grows, air_longer, hub_bytes_some}
 use Rattle.lossy_network.proofs.Calls.{taken_keeps, takes_keep}
 use Rattle.lossy_network.proofs.Receipts.{receipt_cases}
@@ -145,13 +145,13 @@ pub record IsKept (fates : Fates) (P : Told → Traffic → List Taking → Type
 abbrev pub AtLink : (Told → Traffic → List Taking → Type 0) → Network → List Taking → Type 0
 AtLink P net ts = P net.told net.traffic ts
 
-front_is_nothing : (net : Network) → QuietReceipt net → front (all_taken (called net)) ≡ Nothing
-front_is_nothing net quiet = ap (front_of (all_taken (called net))) quiet.none
+front_is_nothing : (net : Network) → QuietReceipt net → front (all_taken (with_call_counted net)) ≡ Nothing
+front_is_nothing net quiet = ap (front_of (all_taken (with_call_counted net))) quiet.none
 
 front_is_for_hub : (net : Network) → (got : GotReceipt net)
-    → front (all_taken (called net)) ≡ ForHub got.place got.bytes
+    → front (all_taken (with_call_counted net)) ≡ ForHub got.place got.bytes
 front_is_for_hub net got =
-    let mid = all_taken (called net) in
+    let mid = all_taken (with_call_counted net) in
     let told = heard_by mid.told (slice_get mid.told.air got.place) in
     ap (front_of mid) got.queue
     ∙ ap (λ (bytes : Option (List ℕ)). front_with (with_queue mid got.rest) got.place bytes told)
@@ -162,19 +162,19 @@ front_is_for_hub net got =
 abbrev pub constants : Network → Fates × List ℕ
 constants net = (net.fates, net.fail)
 
-done_constants : (net : Network) (call : Call) → constants (done net call) ≡ constants net
+done_constants : (net : Network) (call : Call) → constants (network_after net call) ≡ constants net
 done_constants net (Send bytes) = refl
 done_constants net Receive = elim (receipt_cases net) [
   | inl quiet ↦ ap (λ (r : Receipt). constants r.after) quiet.is
-      ∙ ap constants (takes_keep (most_takings (called net)) (called net))
+      ∙ ap constants (takes_keep (most_takings (with_call_counted net)) (with_call_counted net))
   | inr got ↦ ap (λ (r : Receipt). constants r.after) got.is
-      ∙ ap constants (takes_keep (most_takings (called net)) (called net))
+      ∙ ap constants (takes_keep (most_takings (with_call_counted net)) (with_call_counted net))
 ]
 done_constants net RefusedSend = refl
-done_constants net (RefusedReceive taken) = ap constants (takes_keep taken (called net))
+done_constants net (RefusedReceive taken) = ap constants (takes_keep taken (with_call_counted net))
 
 constants_by : (net : Network) (call : Call) (b : Bool)
-    → constants (cond b (failed net) (done net call)) ≡ constants net
+    → constants (cond b (with_fault net) (network_after net call)) ≡ constants net
 constants_by net call true = refl
 constants_by net call false = done_constants net call
 
@@ -218,27 +218,27 @@ module _ (fates : Fates) (P : Told → Traffic → List Taking → Type 0) (kept
 
   -- a receive, where it was quiet and where it handed out one
   quiet_kept : (net : Network) (ts : List Taking) → net.fates ≡ fates → AtLink P net ts → QuietReceipt net
-      → AtLink P (received net).after (ts ++ taken_by net Receive)
+      → AtLink P (network_receipt net).after (ts ++ taken_by net Receive)
   quiet_kept net ts same here quiet =
-      let mid = all_taken (called net) in
-      let some = takings (most_takings (called net)) (called net) in
-      let moved = takes_kept (most_takings (called net)) (called net) ts same here in
+      let mid = all_taken (with_call_counted net) in
+      let some = takings (most_takings (with_call_counted net)) (with_call_counted net) in
+      let moved = takes_kept (most_takings (with_call_counted net)) (with_call_counted net) ts same here in
       let none : handing_out (front mid) ≡ [] = ap handing_out (front_is_nothing net quiet) in
       rw (quiet.is, none, append-nil some) moved
 
   got_kept : (net : Network) (ts : List Taking) → net.fates ≡ fates → AtLink P net ts → GotReceipt net
-      → AtLink P (received net).after (ts ++ taken_by net Receive)
+      → AtLink P (network_receipt net).after (ts ++ taken_by net Receive)
   got_kept net ts same here got =
-      let mid = all_taken (called net) in
-      let some = takings (most_takings (called net)) (called net) in
-      let moved = takes_kept (most_takings (called net)) (called net) ts same here in
+      let mid = all_taken (with_call_counted net) in
+      let some = takings (most_takings (with_call_counted net)) (with_call_counted net) in
+      let moved = takes_kept (most_takings (with_call_counted net)) (with_call_counted net) ts same here in
       let last = kept.hands mid.told mid.traffic (ts ++ some) got.place got.rest got.queue moved in
       let one : handing_out (front mid) ≡ ByHub got.place ∷ [] = ap handing_out (front_is_for_hub net got) in
       rw (got.is, one) (subst (P mid.told (record mid.traffic { queue = got.rest }))
       (append_assoc ts some (ByHub got.place ∷ [])) last)
 
   done_kept : (net : Network) (call : Call) (ts : List Taking) → net.fates ≡ fates → AtLink P net ts
-      → AtLink P (done net call) (ts ++ taken_by net call)
+      → AtLink P (network_after net call) (ts ++ taken_by net call)
   done_kept net (Send bytes) ts same here =
       rw (append-nil ts) (rw same (kept.sends net.told net.traffic ts bytes here))
   done_kept net Receive ts same here = elim (receipt_cases net) [
@@ -246,10 +246,10 @@ module _ (fates : Fates) (P : Told → Traffic → List Taking → Type 0) (kept
     | inr got ↦ got_kept net ts same here got
   ]
   done_kept net RefusedSend ts same here = rw (append-nil ts) here
-  done_kept net (RefusedReceive taken) ts same here = takes_kept taken (called net) ts same here
+  done_kept net (RefusedReceive taken) ts same here = takes_kept taken (with_call_counted net) ts same here
 
   call_by : (net : Network) (call : Call) (ts : List Taking) (b : Bool) → net.fates ≡ fates → AtLink P net ts
-      → AtLink P (cond b (failed net) (done net call)) (ts ++ cond b [] (taken_by net call))
+      → AtLink P (cond b (with_fault net) (network_after net call)) (ts ++ cond b [] (taken_by net call))
   call_by net call ts true same here = rw (append-nil ts) here
   call_by net call ts false same here = done_kept net call ts same here
 

@@ -12,7 +12,7 @@ use Rattle.world_model.specs.declared.datagram.Direction.{Direction}
 use Rattle.world_model.specs.declared.datagram.Direction.TheVariants.{ToBoard, ToHub}
 use Rattle.world_model.specs.Air.{LIFETIME, is_alive}
 use Rattle.world_model.specs.Board.{Board, hear}
-use Rattle.world_model.specs.World.{answered}
+use Rattle.world_model.specs.World.{air_after_answer}
 use Rattle.world_model.specs.Links.{IsHeard, Told, first_sends, first_sends_from, heard_by, is_first_send}
 use Rattle.world_model.specs.Links.{sent_on, then_told}
 use Rattle.lossy_network.specs.declared.fates.DatagramFate.{DatagramFate}
@@ -57,7 +57,7 @@ heard_sends : (keeps : KeepsFirst) (told new : Told) (place : ℕ) → heard_by 
     → first_sends told ≤ first_sends new
 heard_sends keeps told new place is =
     let on = heard_on_is told new (slice_get told.air place) is in
-    let more = answered (first_sends told) (hear told.board on.datagram.bytes).answer in
+    let more = air_after_answer (first_sends told) (hear told.board on.datagram.bytes).answer in
     let one : IsHeard told new = record {
       places = place ∷ [];
       heard = ap (λ (r : Option Told). then_told r (λ after. Some after)) is;

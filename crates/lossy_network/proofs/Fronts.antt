@@ -9,8 +9,8 @@ use Rattle.lossy_network.specs.Fates.{fate_at}
 use Rattle.lossy_network.specs.Traffic.{Traffic, put_on}
 use Rattle.std.specs.List.{slice_get}
 use Rattle.world_model.specs.Links.{Told, heard_by}
-use Rattle.lossy_network.specs.Network.{ByBoard, Dropped, Network, Taken, Taking, dropped, front, front_of, front_with}
-use Rattle.lossy_network.specs.Network.{heard, hub_bytes, put_at, with_queue}
+use Rattle.lossy_network.specs.Network.{ByBoard, Dropped, Network, Taken, Taking, without_too_old, front, front_of, front_with}
+use Rattle.lossy_network.specs.Network.{after_hearing, hub_bytes, put_at, with_queue}
 use Rattle.lossy_network.specs.Inside.{stands}
 
 none_stands : (rest : Network) (place : ℕ) (r : Option Told) → stands (front_with rest place None r) ≡ true → ⊥
@@ -27,11 +27,11 @@ nothing_left net place rest is none st =
 
 -- with an answer and without
 heard_answered : (net : Network) (told : Told) → nat_lt (length net.told.air) (length told.air) ≡ true
-    → heard net told ≡ put_at (length net.told.air) (record net { told = told })
+    → after_hearing net told ≡ put_at (length net.told.air) (record net { told = told })
 heard_answered net told is = rw is refl
 
 heard_unanswered : (net : Network) (told : Told) → nat_lt (length net.told.air) (length told.air) ≡ false
-    → heard net told ≡ record net { told = told }
+    → after_hearing net told ≡ record net { told = told }
 heard_unanswered net told is = rw is refl
 
 ge-ltb : (a b : ℕ) → b ≤ a → nat_lt a b ≡ false
@@ -41,7 +41,7 @@ ge-ltb a b is = grind (arith, nat_tests)
 taken_by_board : (net : Network) (place : ℕ) (rest : List ℕ) (told : Told) → net.traffic.queue ≡ place ∷ rest
     → hub_bytes net.told (slice_get net.told.air place) ≡ None
     → heard_by net.told (slice_get net.told.air place) ≡ Some told
-    → front net ≡ Taken (ByBoard place) (heard (with_queue net rest) told)
+    → front net ≡ Taken (ByBoard place) (after_hearing (with_queue net rest) told)
 taken_by_board net place rest told is none by_board =
     let r = heard_by net.told (slice_get net.told.air place) in
     ap (front_of net) is
@@ -52,7 +52,7 @@ taken_by_board net place rest told is none by_board =
 taken_too_old : (net : Network) (place : ℕ) (rest : List ℕ) → net.traffic.queue ≡ place ∷ rest
     → hub_bytes net.told (slice_get net.told.air place) ≡ None
     → heard_by net.told (slice_get net.told.air place) ≡ None
-    → front net ≡ Taken (Dropped place) (dropped (with_queue net rest))
+    → front net ≡ Taken (Dropped place) (without_too_old (with_queue net rest))
 taken_too_old net place rest is none by_board =
     let r = heard_by net.told (slice_get net.told.air place) in
     ap (front_of net) is

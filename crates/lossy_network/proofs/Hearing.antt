@@ -10,7 +10,7 @@ use Rattle.world_model.specs.declared.datagram.Direction.{Direction}
 use Rattle.world_model.specs.declared.datagram.Direction.TheVariants.{ToBoard, ToHub}
 use Rattle.world_model.specs.Air.{goes_to, is_alive}
 use Rattle.world_model.specs.Board.{hear}
-use Rattle.world_model.specs.World.{answered}
+use Rattle.world_model.specs.World.{air_after_answer}
 use Rattle.world_model.specs.Links.{IsHandedAt, Told, first_sends, heard_by, heard_on}
 use Rattle.world_core.specs.declared.link.TheConstants.{MAX_DATAGRAM}
 use Rattle.lossy_network.specs.Network.{hub_bytes}
@@ -78,12 +78,12 @@ heard_on_is told new (Some d) e =
     let two = some_if (is_alive (first_sends told) d) (Some (heard_on told d.bytes)) new one.1 in
     record { datagram = d; there = refl; for_board = one.0; alive = two.0; heard = (let same = two.1 in cc) }
 
-answer_grows : (birth : ℕ) (r : Option (List ℕ)) → length (answered birth r) ≤ 1
+answer_grows : (birth : ℕ) (r : Option (List ℕ)) → length (air_after_answer birth r) ≤ 1
 answer_grows birth None = omega arith
 answer_grows birth (Some bytes) = omega arith
 
 answer_short : (birth : ℕ) (r : Option (List ℕ)) → length (answer_bytes r) ≤ MAX_DATAGRAM
-    → AllByRecursion IsShort (answered birth r)
+    → AllByRecursion IsShort (air_after_answer birth r)
 answer_short birth None short = tt
 answer_short birth (Some bytes) short = (short, tt)
 
@@ -91,7 +91,7 @@ pub air_grows : (told new : Told) (r : Option Datagram) → heard_by told r ≡ 
     → length new.air ≤ length told.air + 1
 air_grows told new r e =
     let on = heard_on_is told new r e in
-    let more = answered (first_sends told) (hear told.board on.datagram.bytes).answer in
+    let more = air_after_answer (first_sends told) (hear told.board on.datagram.bytes).answer in
     let size = ap (λ (t : Told). length t.air) on.heard in
     omega (
       arith,
@@ -104,7 +104,7 @@ pub air_longer : (told new : Told) (r : Option Datagram) → heard_by told r ≡
     → length told.air ≤ length new.air
 air_longer told new r e =
     let on = heard_on_is told new r e in
-    let more = answered (first_sends told) (hear told.board on.datagram.bytes).answer in
+    let more = air_after_answer (first_sends told) (hear told.board on.datagram.bytes).answer in
     let size = ap (λ (t : Told). length t.air) on.heard in
     omega (arith, size, length-append told.air more)
 
@@ -115,5 +115,5 @@ air_short told new r fits short e =
     let on = heard_on_is told new r e in
     let answer = (hear told.board on.datagram.bytes).answer in
     subst (λ (t : Told). AllByRecursion IsShort t.air) (sym on.heard)
-    (AllByRecursion-append IsShort told.air (answered (first_sends told) answer) short
+    (AllByRecursion-append IsShort told.air (air_after_answer (first_sends told) answer) short
     (answer_short (first_sends told) answer (fits on.datagram.bytes)))

@@ -5,8 +5,8 @@ use Rattle.std.specs.List.{list_any}
 use Rattle.ipb_base.specs.Faults.{one_more}
 use Rattle.board_node.specs.declared.spec.Fates.{Fates}
 use Rattle.world_model.specs.Board.{Board}
-use Rattle.lossy_network.specs.Network.{Network, Receipt, called, failed, fails, most_takings, new_network}
-use Rattle.lossy_network.specs.Calls.{Call, Receive, RefusedReceive, RefusedSend, Send, after_call, after_calls, done}
+use Rattle.lossy_network.specs.Network.{Network, Receipt, with_call_counted, with_fault, fails, most_takings, new_network}
+use Rattle.lossy_network.specs.Calls.{Call, Receive, RefusedReceive, RefusedSend, Send, after_call, after_calls, network_after}
 use Rattle.lossy_network.specs.Calls.{failures}
 use Rattle.lossy_network.proofs.Calls.{takes_keep}
 use Rattle.lossy_network.proofs.Receipts.{receipt_cases}
@@ -14,11 +14,11 @@ use Rattle.lossy_network.proofs.Along.{constants_stay}
 
 -- ---- counts
 
-done_counts : (net : Network) (call : Call) → ((done net call).calls ≡ one_more net.calls)
-    × ((done net call).faults ≡ net.faults)
+done_counts : (net : Network) (call : Call) → ((network_after net call).calls ≡ one_more net.calls)
+    × ((network_after net call).faults ≡ net.faults)
 done_counts net (Send bytes) = (refl, refl)
 done_counts net Receive =
-    let keep = takes_keep (most_takings (called net)) (called net) in
+    let keep = takes_keep (most_takings (with_call_counted net)) (with_call_counted net) in
     elim (receipt_cases net) [
       | inl quiet ↦ (
         ap (λ (r : Receipt). r.after.calls) quiet.is ∙ ap (λ (n : Network). n.calls) keep,
@@ -31,12 +31,12 @@ done_counts net Receive =
     ]
 done_counts net RefusedSend = (refl, refl)
 done_counts net (RefusedReceive taken) =
-    let keep = takes_keep taken (called net) in
+    let keep = takes_keep taken (with_call_counted net) in
     (ap (λ (n : Network). n.calls) keep, ap (λ (n : Network). n.faults) keep)
 
 counts_by : (net : Network) (call : Call) (b : Bool)
-    → ((cond b (failed net) (done net call)).calls ≡ one_more net.calls)
-    × ((cond b (failed net) (done net call)).faults ≡ cond b (one_more net.faults) net.faults)
+    → ((cond b (with_fault net) (network_after net call)).calls ≡ one_more net.calls)
+    × ((cond b (with_fault net) (network_after net call)).faults ≡ cond b (one_more net.faults) net.faults)
 counts_by net call true = (refl, refl)
 counts_by net call false = done_counts net call
 

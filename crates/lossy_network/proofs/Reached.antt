@@ -5,7 +5,7 @@ use Rattle.std.specs.Prelude.{◌&&◌}
 use Rattle.std.specs.List.{AllByRecursion}
 use Rattle.world_model.specs.declared.offered.Offered.{Offered}
 use Rattle.world_model.specs.Facts.{IsSendable}
-use Rattle.world_model.specs.Hub.{Hub, HandedOut, IsDrained, drained, hands_out}
+use Rattle.world_model.specs.Hub.{Hub, HandedOut, IsDrained, after_handing_out, hands_out}
 use Rattle.world_model.specs.Hub.{hear_quiet, is_waiting, offer, take_message}
 use Rattle.world_model.specs.Links.{IsHanded, IsHeard, Told, hears_all, sent_on, then_told}
 use Rattle.world_model.specs.Messages.{to_hub}
@@ -14,9 +14,9 @@ use Rattle.world_model.specs.World.{World}
 use Rattle.world_core.specs.States.{IsReached}
 use Rattle.world_core.specs.declared.link.Received.{Received}
 use Rattle.world_core.specs.declared.link.Received.TheVariants.{Got, Quiet}
-use Rattle.lossy_network.specs.Network.{ForHub, Front, Network, Nothing, Receipt, Taken, Taking, all_taken, called}
+use Rattle.lossy_network.specs.Network.{ForHub, Front, Network, Nothing, Receipt, Taken, Taking, all_taken, with_call_counted}
 use Rattle.lossy_network.specs.Network.{fails}
-use Rattle.lossy_network.specs.Network.{front, most_takings, received, takes}
+use Rattle.lossy_network.specs.Network.{front, most_takings, network_receipt, takes}
 use Rattle.lossy_network.specs.HubSteps.{CannotReceive, HandsOut, HubAndLink, HubStep, IsHubStep, Offers, Receives}
 use Rattle.lossy_network.specs.HubSteps.{Sends, after_step}
 use Rattle.lossy_network.specs.HubSteps.{after_steps, steps_on, hears_answer, is_drained, is_none, is_silent}
@@ -41,7 +41,7 @@ pub record RunEvents (begin : World) : Type 0 where
   pub quiet : (so_far : HandedOut) (hub : Hub) (told : Told) → IsReached begin so_far hub told
       → next_send hub ≡ None → IsDrained hub → is_waiting hub ≡ true → IsReached begin so_far (hear_quiet hub) told
   pub out : (so_far : HandedOut) (hub : Hub) (told : Told) → IsReached begin so_far hub told
-      → IsReached begin (hands_out so_far hub) (drained hub) told
+      → IsReached begin (hands_out so_far hub) (after_handing_out hub) told
 
 -- ---- takings are hearings
 
@@ -120,26 +120,26 @@ module _ (begin : World) (events : RunEvents begin) where
       let same = some_is _ after (if_none (fails both.net) _ after done) in
       subst (IsThere begin) (sym same) (events.one_sent both.so_far both.hub both.net.told next here is)
 
-  received_there : (both after : HubAndLink) (answer : Received) → answer ≡ (received both.net).answer
+  received_there : (both after : HubAndLink) (answer : Received) → answer ≡ (network_receipt both.net).answer
       → IsThere begin both → next_send both.hub ≡ None → IsDrained both.hub
-      → hears_answer both (received both.net) answer ≡ Some after → IsThere begin after
+      → hears_answer both (network_receipt both.net) answer ≡ Some after → IsThere begin after
   received_there both after Got is here silent told done =
       let got = the_got both.net is in
-      let heard = takes_heard (most_takings (called both.net)) (called both.net) in
-      let mid = events.some_heard both.so_far both.hub both.net.told (all_taken (called both.net)).told here silent told
+      let heard = takes_heard (most_takings (with_call_counted both.net)) (with_call_counted both.net) in
+      let mid = events.some_heard both.so_far both.hub both.net.told (all_taken (with_call_counted both.net)).told here silent told
       heard in
-      let handed = events.handed both.so_far both.hub (all_taken (called both.net)).told got.bytes mid silent told
+      let handed = events.handed both.so_far both.hub (all_taken (with_call_counted both.net)).told got.bytes mid silent told
       (record { place = got.place; at = got.there }) in
       subst (IsThere begin) (sym (some_is _ after done))
       (subst (λ (r : Receipt). IsReached begin both.so_far (take_message both.hub (to_hub r.bytes)) r.after.told)
       (sym got.is) handed)
   received_there both after Quiet is here silent told done =
       let quiet = the_quiet both.net is in
-      let heard = takes_heard (most_takings (called both.net)) (called both.net) in
-      let mid = events.some_heard both.so_far both.hub both.net.told (all_taken (called both.net)).told here silent told
+      let heard = takes_heard (most_takings (with_call_counted both.net)) (with_call_counted both.net) in
+      let mid = events.some_heard both.so_far both.hub both.net.told (all_taken (with_call_counted both.net)).told here silent told
       heard in
       let waits = if_some (is_waiting both.hub) _ after done in
-      let noticed = events.quiet both.so_far both.hub (all_taken (called both.net)).told mid silent told waits.0 in
+      let noticed = events.quiet both.so_far both.hub (all_taken (with_call_counted both.net)).told mid silent told waits.0 in
       subst (IsThere begin) (sym (some_is _ after waits.1))
       (subst (λ (r : Receipt). IsReached begin both.so_far (hear_quiet both.hub) r.after.told) (sym quiet.is) noticed)
 
@@ -158,13 +158,13 @@ module _ (begin : World) (events : RunEvents begin) where
   step_there both after Sends is here done = sends_there both after (next_send both.hub) refl here done
   step_there both after Receives is here done =
       let may = if_some (may_receive both) _ after done in
-      received_there both after (received both.net).answer refl here (silent_of_may both may.0) (told_of_may both may.0)
+      received_there both after (network_receipt both.net).answer refl here (silent_of_may both may.0) (told_of_may both may.0)
       may.1
   step_there both after (CannotReceive taken) is here done =
       let may = if_some (may_receive both) _ after done in
       subst (IsThere begin) (sym (some_is _ after may.1))
-      (events.some_heard both.so_far both.hub both.net.told (takes taken (called both.net)).told here
-      (silent_of_may both may.0) (told_of_may both may.0) (takes_heard taken (called both.net)))
+      (events.some_heard both.so_far both.hub both.net.told (takes taken (with_call_counted both.net)).told here
+      (silent_of_may both may.0) (told_of_may both may.0) (takes_heard taken (with_call_counted both.net)))
   step_there both after HandsOut is here done = subst (IsThere begin) (sym (some_is _ after done))
       (events.out both.so_far both.hub both.net.told here)
 

@@ -8,16 +8,16 @@ use Rattle.world_model.specs.declared.datagram.Direction.TheVariants.{ToBoard, T
 use Rattle.world_model.specs.Air.{is_alive}
 use Rattle.world_model.specs.Links.{IsHandedAt, Told, first_sends, heard_by}
 use Rattle.world_core.specs.declared.link.Received.TheVariants.{Got, Quiet}
-use Rattle.lossy_network.specs.Network.{ForHub, Front, Network, Nothing, Receipt, Taken, all_taken, called, front}
-use Rattle.lossy_network.specs.Network.{front_of, front_with, handed_out, hub_bytes, receipt_at, received}
+use Rattle.lossy_network.specs.Network.{ForHub, Front, Network, Nothing, Receipt, Taken, all_taken, with_call_counted, front}
+use Rattle.lossy_network.specs.Network.{front_of, front_with, handed_out, hub_bytes, receipt_at, network_receipt}
 use Rattle.lossy_network.specs.Network.{with_queue, without_front}
 use Rattle.lossy_network.specs.Receipts.{GotReceipt, QuietReceipt}
 use Rattle.lossy_network.specs.Inside.{stands}
 use Rattle.lossy_network.proofs.Hearing.{some_if}
 use Rattle.lossy_network.proofs.Takings.{all_stands}
 
-pub received_is : (old mid : Network) → mid ≡ all_taken (called old) → receipt_at mid (front mid) ≡ received old
-unfolding received
+pub received_is : (old mid : Network) → mid ≡ all_taken (with_call_counted old) → receipt_at mid (front mid) ≡ network_receipt old
+unfolding network_receipt
 received_is old mid is = ap (λ (net : Network). receipt_at net (front net)) is
 
 -- ---- what stands in front
@@ -62,9 +62,9 @@ handed_for told place bytes (Some d) there is = handed_by told place bytes d.byt
 
 -- ---- the two receipts
 
-got_receipt : (old mid : Network) (place : ℕ) (bytes rest : List ℕ) → mid ≡ all_taken (called old)
+got_receipt : (old mid : Network) (place : ℕ) (bytes rest : List ℕ) → mid ≡ all_taken (with_call_counted old)
     → front mid ≡ ForHub place bytes → mid.traffic.queue ≡ place ∷ rest
-    → received old ≡ record { answer = Got; bytes = bytes; after = handed_out (with_queue mid rest) place bytes }
+    → network_receipt old ≡ record { answer = Got; bytes = bytes; after = handed_out (with_queue mid rest) place bytes }
 got_receipt old mid place bytes rest is front_is queue = sym (received_is old mid is)
     ∙ (ap (receipt_at mid) front_is ∙ ap (λ (xs : List ℕ). record {
       answer = Got;
@@ -72,10 +72,10 @@ got_receipt old mid place bytes rest is front_is queue = sym (received_is old mi
       after = handed_out (with_queue mid (without_front xs)) place bytes;
     }) queue)
 
-cases_by : (old : Network) (f : Front) → front (all_taken (called old)) ≡ f → stands f ≡ true
-    → IsFrontHub (all_taken (called old)) (all_taken (called old)).traffic.queue f → QuietReceipt old ⊎ GotReceipt old
+cases_by : (old : Network) (f : Front) → front (all_taken (with_call_counted old)) ≡ f → stands f ≡ true
+    → IsFrontHub (all_taken (with_call_counted old)) (all_taken (with_call_counted old)).traffic.queue f → QuietReceipt old ⊎ GotReceipt old
 cases_by old Nothing is st none = inl (record {
-  is = sym (received_is old (all_taken (called old)) refl) ∙ ap (receipt_at (all_taken (called old))) is;
+  is = sym (received_is old (all_taken (with_call_counted old)) refl) ∙ ap (receipt_at (all_taken (with_call_counted old))) is;
   none = none;
 })
 cases_by old (ForHub place bytes) is st hub = inr (record {
@@ -83,29 +83,29 @@ cases_by old (ForHub place bytes) is st hub = inr (record {
   bytes = bytes;
   rest = hub.0;
   queue = hub.1;
-  there = handed_for (all_taken (called old)).told place bytes _ refl hub.2;
-  is = got_receipt old (all_taken (called old)) place bytes hub.0 refl is hub.1;
+  there = handed_for (all_taken (with_call_counted old)).told place bytes _ refl hub.2;
+  is = got_receipt old (all_taken (with_call_counted old)) place bytes hub.0 refl is hub.1;
 })
 cases_by old (Taken taking after) is st hub = absurd cc
 
 pub receipt_cases : (old : Network) → QuietReceipt old ⊎ GotReceipt old
-receipt_cases old = cases_by old (front (all_taken (called old))) refl (all_stands (called old))
-    (hub_of (all_taken (called old)) (all_taken (called old)).traffic.queue)
+receipt_cases old = cases_by old (front (all_taken (with_call_counted old))) refl (all_stands (with_call_counted old))
+    (hub_of (all_taken (with_call_counted old)) (all_taken (with_call_counted old)).traffic.queue)
 
 -- the two cannot be taken for one another
-quiet_is_not_got : (old : Network) → QuietReceipt old → Got ≡ (received old).answer → ⊥
+quiet_is_not_got : (old : Network) → QuietReceipt old → Got ≡ (network_receipt old).answer → ⊥
 quiet_is_not_got old quiet is = let e = is ∙ ap (λ (r : Receipt). r.answer) quiet.is in absurd cc
 
-got_is_not_quiet : (old : Network) → GotReceipt old → Quiet ≡ (received old).answer → ⊥
+got_is_not_quiet : (old : Network) → GotReceipt old → Quiet ≡ (network_receipt old).answer → ⊥
 got_is_not_quiet old got is = let e = is ∙ ap (λ (r : Receipt). r.answer) got.is in absurd cc
 
-pub the_got : (old : Network) → Got ≡ (received old).answer → GotReceipt old
+pub the_got : (old : Network) → Got ≡ (network_receipt old).answer → GotReceipt old
 the_got old is = elim (receipt_cases old) [
   | inl quiet ↦ absurd (quiet_is_not_got old quiet is)
   | inr got ↦ got
 ]
 
-pub the_quiet : (old : Network) → Quiet ≡ (received old).answer → QuietReceipt old
+pub the_quiet : (old : Network) → Quiet ≡ (network_receipt old).answer → QuietReceipt old
 the_quiet old is = elim (receipt_cases old) [
   | inl quiet ↦ quiet
   | inr got ↦ absurd (got_is_not_quiet old got is)

@@ -6,7 +6,7 @@ use Rattle.world_model.specs.declared.datagram.Datagram.{Datagram}
 use Rattle.world_model.specs.declared.datagram.Direction.TheVariants.{ToBoard}
 use Rattle.world_model.specs.Air.{goes_to}
 use Rattle.world_model.specs.Board.{hear}
-use Rattle.world_model.specs.World.{answered}
+use Rattle.world_model.specs.World.{air_after_answer}
 use Rattle.world_model.specs.Links.{Told, first_sends, heard_by}
 use Rattle.lossy_network.specs.declared.fates.DatagramFate.{DatagramFate}
 use Rattle.lossy_network.specs.declared.fates.DatagramFate.TheVariants.{Delivered, Lost, Repeated, Delayed}
@@ -26,19 +26,19 @@ weight-append air [] ys = omega arith
 weight-append air (x ∷ xs) ys = omega (arith, weight-append air xs ys)
 
 -- an answer adds no weight
-no_weight : (birth : ℕ) (r : Option (List ℕ)) (place : ℕ) → weight_of (slice_get (answered birth r) place) ≡ 1
+no_weight : (birth : ℕ) (r : Option (List ℕ)) (place : ℕ) → weight_of (slice_get (air_after_answer birth r) place) ≡ 1
 no_weight birth None place = refl
 no_weight birth (Some bytes) zero = refl
 no_weight birth (Some bytes) (suc place) = refl
 
 same_weight_at : (air : List Datagram) (birth : ℕ) (r : Option (List ℕ)) (place : ℕ)
-    → weight_of (slice_get (air ++ answered birth r) place) ≡ weight_of (slice_get air place)
+    → weight_of (slice_get (air ++ air_after_answer birth r) place) ≡ weight_of (slice_get air place)
 same_weight_at [] birth r place = no_weight birth r place
 same_weight_at (d ∷ air) birth r zero = refl
 same_weight_at (d ∷ air) birth r (suc place) = same_weight_at air birth r place
 
 same_weight : (air : List Datagram) (birth : ℕ) (r : Option (List ℕ)) (places : List ℕ)
-    → weight (air ++ answered birth r) places ≡ weight air places
+    → weight (air ++ air_after_answer birth r) places ≡ weight air places
 same_weight air birth r [] = refl
 same_weight air birth r (place ∷ places) =
     omega (arith, same_weight_at air birth r place, same_weight air birth r places)
@@ -110,7 +110,7 @@ past_end [] = refl
 past_end (x ∷ xs) = past_end xs
 
 heard_load : (net : Network) (birth : ℕ) (r : Option (List ℕ)) (told : Told) (b : Bool)
-    → told.air ≡ net.told.air ++ answered birth r
+    → told.air ≡ net.told.air ++ air_after_answer birth r
     → most_takings (after_put net told b) ≤ most_takings net + 2
 heard_load net birth r told false air =
     rw air (omega (

@@ -21,10 +21,10 @@ use Rattle.lossy_network.specs.declared.fates.DatagramFate.{DatagramFate}
 use Rattle.lossy_network.specs.declared.fates.DatagramFate.TheVariants.{Delivered, Lost, Repeated, Delayed}
 use Rattle.lossy_network.specs.Fates.{fate_at}
 use Rattle.lossy_network.specs.Traffic.{Traffic, due_at, meets, put_on}
-use Rattle.lossy_network.specs.Network.{ForHub, Front, Network, Nothing, Taken, Taking, all_taken, called, dropped}
-use Rattle.lossy_network.specs.Network.{failed}
-use Rattle.lossy_network.specs.Network.{front, front_of, front_with, handed_out, hub_bytes, put_at, received}
-use Rattle.lossy_network.specs.Network.{Receipt, most_takings, sent, takes, telling_of, with_queue}
+use Rattle.lossy_network.specs.Network.{ForHub, Front, Network, Nothing, Taken, Taking, all_taken, with_call_counted, without_too_old}
+use Rattle.lossy_network.specs.Network.{with_fault}
+use Rattle.lossy_network.specs.Network.{front, front_of, front_with, handed_out, hub_bytes, put_at, network_receipt}
+use Rattle.lossy_network.specs.Network.{Receipt, most_takings, network_with_send, takes, telling_of, with_queue}
 use Rattle.lossy_network.proofs.Takings.{still, takes_one}
 use Rattle.lossy_network.proofs.Calls.{takes_keep, with_carried}
 use Rattle.lossy_network.specs.Receipts.{GotReceipt, QuietReceipt}
@@ -203,7 +203,7 @@ step_with steps net place queue None (Some told) is small = heard_step steps net
     (nat_lt (length net.told.air) (length told.air)) is small refl
 step_with steps net place queue None None is small = record {
   receives = steps.given_up net.traffic.held (one_more net.traffic.held) place
-      (telling_of (with_queue net (place ∷ queue))) (telling_of (dropped (with_queue net queue))) refl refl
+      (telling_of (with_queue net (place ∷ queue))) (telling_of (without_too_old (with_queue net queue))) refl refl
       (λ other inside. front_cases place queue other inside) (omega arith);
   rises = omega arith;
   count = omega arith;
@@ -255,16 +255,16 @@ takes_step steps (suc k) net small = steps_by steps k net (front net) refl small
 -- ---- a receive
 
 pub received_step : (steps : ReceiveSteps) (old : Network) → IsCount old.traffic.held
-    → IsStep old (all_taken (called old))
+    → IsStep old (all_taken (with_call_counted old))
 received_step steps old small =
-    let one = takes_step steps (most_takings (called old)) (called old) small in
+    let one = takes_step steps (most_takings (with_call_counted old)) (with_call_counted old) small in
     record { receives = one.receives; rises = one.rises; count = one.count }
 
 is_got : (steps : ReceiveSteps) (old new : Network) (bytes : List ℕ) → IsCount old.traffic.held
-    → new ≡ (received old).after → bytes ≡ (received old).bytes → GotReceipt old
+    → new ≡ (network_receipt old).after → bytes ≡ (network_receipt old).bytes → GotReceipt old
     → IsGot bytes old.traffic.held new.traffic.held (telling_of old) (telling_of new)
 is_got steps old new bytes small after_is bytes_is got =
-    let mid = all_taken (called old) in
+    let mid = all_taken (with_call_counted old) in
     let one = received_step steps old small in
     let end = handed_out (with_queue mid got.rest) got.place got.bytes in
     let there : IsHandedAt mid.told bytes got.place =
@@ -282,7 +282,7 @@ is_got steps old new bytes small after_is bytes_is got =
           (telling_of mid) (telling_of end) one.rises (omega arith) one.receives last.received;
     })
 
-is_quiet : (steps : ReceiveSteps) (old new : Network) → IsCount old.traffic.held → new ≡ (received old).after
+is_quiet : (steps : ReceiveSteps) (old new : Network) → IsCount old.traffic.held → new ≡ (network_receipt old).after
     → QuietReceipt old → IsQuiet old.traffic.held new.traffic.held (telling_of old) (telling_of new)
 is_quiet steps old new small after_is quiet =
     let one = received_step steps old small in
@@ -292,11 +292,11 @@ is_quiet steps old new small after_is quiet =
 
 -- what a receive of the code says
 pub record IsReceipt (result : Result Received LinkFault) (bytes : List ℕ) (old new : Network) : Type 0 where
-  pub after : OnOk result (new ≡ (received old).after)
-  pub answer : IfOk result (λ answer. answer ≡ (received old).answer)
-  pub bytes_are : OnOk result (bytes ≡ (received old).bytes)
-  pub fault : result ≡ Err Failed → new ≡ failed old
-  pub no_memory : result ≡ Err NoMemory → (taken : ℕ) × (new ≡ takes taken (called old))
+  pub after : OnOk result (new ≡ (network_receipt old).after)
+  pub answer : IfOk result (λ answer. answer ≡ (network_receipt old).answer)
+  pub bytes_are : OnOk result (bytes ≡ (network_receipt old).bytes)
+  pub fault : result ≡ Err Failed → new ≡ with_fault old
+  pub no_memory : result ≡ Err NoMemory → (taken : ℕ) × (new ≡ takes taken (with_call_counted old))
 
 pub receives : (steps : ReceiveSteps) (result : Result Received LinkFault) (bytes : List ℕ) (old new : Network)
     → IsCount old.traffic.held → IsReceipt result bytes old new
@@ -307,7 +307,7 @@ receives steps (Ok Quiet) bytes old new small is = is_quiet steps old new small 
 receives steps (Err Failed) bytes old new small is = ap telling_of (is.fault refl)
 receives steps (Err NoMemory) bytes old new small is =
     let some = is.no_memory refl in
-    let one = takes_step steps some.0 (called old) small in
+    let one = takes_step steps some.0 (with_call_counted old) small in
     subst (λ (n : Network). IsReceived [] old.traffic.held n.traffic.held (telling_of old) (telling_of n))
     (sym some.1) one.receives
 
@@ -329,10 +329,10 @@ pub record AreCounts (result : Result Received LinkFault) (bytes : List ℕ) (ol
   pub faults : (new.faults ≡ old.faults) ⊎ (new.faults ≡ one_more old.faults)
   pub unfaulted : result ≢ Err Failed → new.faults ≡ old.faults
 
-counts_after : (old : Network) → with_carried (called old) (all_taken (called old)) ≡ all_taken (called old)
-counts_after old = sym (takes_keep (most_takings (called old)) (called old))
+counts_after : (old : Network) → with_carried (with_call_counted old) (all_taken (with_call_counted old)) ≡ all_taken (with_call_counted old)
+counts_after old = sym (takes_keep (most_takings (with_call_counted old)) (with_call_counted old))
 
-counts_quiet : (old new : Network) (bytes : List ℕ) → new ≡ (received old).after → QuietReceipt old
+counts_quiet : (old new : Network) (bytes : List ℕ) → new ≡ (network_receipt old).after → QuietReceipt old
     → AreCounts (Ok Quiet) bytes old new
 counts_quiet old new bytes after_is quiet =
     let same = counts_after old in
@@ -346,7 +346,7 @@ counts_quiet old new bytes after_is quiet =
       unfaulted = λ _. ap (λ (n : Network). n.faults) end ∙ sym (ap (λ (n : Network). n.faults) same);
     }
 
-counts_got : (old new : Network) (bytes : List ℕ) → new ≡ (received old).after → bytes ≡ (received old).bytes
+counts_got : (old new : Network) (bytes : List ℕ) → new ≡ (network_receipt old).after → bytes ≡ (network_receipt old).bytes
     → GotReceipt old → AreCounts (Ok Got) bytes old new
 counts_got old new bytes after_is bytes_is got =
     let same = counts_after old in
@@ -378,7 +378,7 @@ counts (Err Failed) bytes old new is =
     }
 counts (Err NoMemory) bytes old new is =
     let some = is.no_memory refl in
-    let same = some.1 ∙ takes_keep some.0 (called old) in
+    let same = some.1 ∙ takes_keep some.0 (with_call_counted old) in
     record {
       quiets = ap (λ (n : Network). n.quiets) same;
       gots = ap (λ (n : Network). n.gots) same;
@@ -400,12 +400,12 @@ held_rises steps (Err Failed) bytes old new small is =
 held_rises steps (Err NoMemory) bytes old new small is =
     let some = is.no_memory refl in
     subst (λ (n : Network). old.traffic.held ≤ n.traffic.held) (sym some.1)
-    (takes_step steps some.0 (called old) small).rises
+    (takes_step steps some.0 (with_call_counted old) small).rises
 
 -- ---- a send
 
 is_sent : (old : Network) (bytes : List ℕ)
-    → IsSent bytes old.traffic.held (sent old bytes).traffic.held (telling_of old) (telling_of (sent old bytes))
+    → IsSent bytes old.traffic.held (network_with_send old bytes).traffic.held (telling_of old) (telling_of (network_with_send old bytes))
 is_sent old bytes =
     let place = length old.told.air in
     let fate = fate_at old.fates place in
@@ -420,7 +420,7 @@ is_sent old bytes =
     }
 
 sent_holds : (old : Network) (bytes : List ℕ) → IsCount old.traffic.held
-    → old.traffic.held ≤ (sent old bytes).traffic.held
+    → old.traffic.held ≤ (network_with_send old bytes).traffic.held
 sent_holds old bytes small = put_holds (fate_at old.fates (length old.told.air)) (length old.told.air) old.traffic small
 
 -- ---- counts of 64 bits rise
@@ -440,7 +440,7 @@ gots_rise (Ok Quiet) count small = omega arith
 gots_rise (Err fault) count small = omega arith
 
 pub sends : (result : Result (Unit {0}) LinkFault) (bytes : List ℕ) (old new : Network)
-    → OnOk result (new ≡ sent old bytes)
+    → OnOk result (new ≡ network_with_send old bytes)
     → OnOk result (IsSent bytes old.traffic.held new.traffic.held (telling_of old) (telling_of new))
 sends (Ok unit) bytes old new is = subst
     (λ (n : Network). IsSent bytes old.traffic.held n.traffic.held (telling_of old) (telling_of n)) (sym is)
@@ -449,9 +449,9 @@ sends (Err fault) bytes old new is = tt
 
 -- what a send of the code says
 pub record IsSending (result : Result (Unit {0}) LinkFault) (bytes : List ℕ) (old new : Network) : Type 0 where
-  pub after : OnOk result (new ≡ sent old bytes)
-  pub fault : result ≡ Err Failed → new ≡ failed old
-  pub no_memory : result ≡ Err NoMemory → new ≡ called old
+  pub after : OnOk result (new ≡ network_with_send old bytes)
+  pub fault : result ≡ Err Failed → new ≡ with_fault old
+  pub no_memory : result ≡ Err NoMemory → new ≡ with_call_counted old
 
 pub send_faults : (result : Result (Unit {0}) LinkFault) (bytes : List ℕ) (old new : Network)
     → IsSending result bytes old new → (new.faults ≡ old.faults) ⊎ (new.faults ≡ one_more old.faults)

@@ -8,8 +8,8 @@ use Rattle.lossy_network.specs.declared.fates.DatagramFate.TheVariants.{Delivere
 use Rattle.lossy_network.specs.Fates.{fate_at}
 use Rattle.lossy_network.specs.Traffic.{place_of}
 use Rattle.lossy_network.specs.Network.{Network, Taking, ByBoard, Dropped, ByHub, Front, Nothing, ForHub, Taken}
-use Rattle.lossy_network.specs.Network.{all_taken, called, failed, fails, front, most_takings, received}
-use Rattle.lossy_network.specs.Network.{sent, takes}
+use Rattle.lossy_network.specs.Network.{all_taken, with_call_counted, with_fault, fails, front, most_takings, network_receipt}
+use Rattle.lossy_network.specs.Network.{network_with_send, takes}
 
 -- A call: a send of these bytes, a receive, and those for which memory ran out: a send, and a receive that had taken so
 -- many datagrams.
@@ -19,14 +19,14 @@ pub data Call : Type 0 where
   RefusedSend : Call
   RefusedReceive : ℕ → Call
 
-abbrev pub done : Network → Call → Network
-done net (Send bytes) = sent net bytes
-done net Receive = (received net).after
-done net RefusedSend = called net
-done net (RefusedReceive taken) = takes taken (called net)
+abbrev pub network_after : Network → Call → Network
+network_after net (Send bytes) = network_with_send net bytes
+network_after net Receive = (network_receipt net).after
+network_after net RefusedSend = with_call_counted net
+network_after net (RefusedReceive taken) = takes taken (with_call_counted net)
 
 abbrev pub after_call : Network → Call → Network
-after_call net call = if fails net then failed net else done net call
+after_call net call = if fails net then with_fault net else network_after net call
 
 abbrev pub after_calls : Network → List Call → Network
 after_calls net [] = net
@@ -55,9 +55,9 @@ handing_out (Taken taking after) = []
 
 abbrev pub taken_by : Network → Call → List Taking
 taken_by net (Send bytes) = []
-taken_by net Receive = takings (most_takings (called net)) (called net) ++ handing_out (front (all_taken (called net)))
+taken_by net Receive = takings (most_takings (with_call_counted net)) (with_call_counted net) ++ handing_out (front (all_taken (with_call_counted net)))
 taken_by net RefusedSend = []
-taken_by net (RefusedReceive taken) = takings taken (called net)
+taken_by net (RefusedReceive taken) = takings taken (with_call_counted net)
 
 abbrev pub taken_in : Network → Call → List Taking
 taken_in net call = if fails net then [] else taken_by net call

@@ -2,7 +2,7 @@
 use Rattle.std.specs.Prelude.{ℕ, List, [], ◌∷◌, length, map}
 use Rattle.std.specs.List.{range_with_len}
 use Rattle.ipb_base.specs.Word.{big_endian}
-use Rattle.world_model.specs.Board.{executed}
+use Rattle.world_model.specs.Board.{bodies_executed}
 use Rattle.world_model.specs.Examples.{board_with}
 use Rattle.board_node.specs.declared.spec.Fates.{Fates}
 use Rattle.board_node.specs.declared.spec.Fates.TheVariants.{Text}
@@ -39,7 +39,7 @@ standing net = record {
   handed = net.handed;
   held = net.traffic.held;
   quiets = net.quiets;
-  executed_count = length (executed net.told.board);
+  executed_count = length (bodies_executed net.told.board);
 }
 
 -- how a link stands after each of some calls

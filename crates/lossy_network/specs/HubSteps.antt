@@ -3,13 +3,13 @@ use Rattle.std.specs.Prelude.{ℕ, ◌&&◌, Bool, true, false, not, if◌then�
 use Rattle.std.specs.Prelude.{Some, None}
 use Rattle.world_model.specs.declared.offered.Offered.{Offered}
 use Rattle.world_model.specs.Facts.{IsSendable}
-use Rattle.world_model.specs.Hub.{Hub, HandedOut, drained, hands_out, none_handed_out}
+use Rattle.world_model.specs.Hub.{Hub, HandedOut, after_handing_out, hands_out, none_handed_out}
 use Rattle.world_model.specs.Hub.{hear_quiet, is_waiting, new_hub, offer, take_message}
 use Rattle.world_model.specs.Messages.{to_hub}
 use Rattle.world_model.specs.Sends.{Next, bytes_to_send, next_send}
 use Rattle.world_core.specs.declared.link.Received.{Received}
 use Rattle.world_core.specs.declared.link.Received.TheVariants.{Got, Quiet}
-use Rattle.lossy_network.specs.Network.{Network, Receipt, called, fails, received, sent, takes}
+use Rattle.lossy_network.specs.Network.{Network, Receipt, with_call_counted, fails, network_receipt, network_with_send, takes}
 
 -- the hub, the link, and what was handed out
 pub record HubAndLink : Type 0 where
@@ -63,7 +63,7 @@ abbrev pub sends_on : HubAndLink → Option Next → Option HubAndLink
 sends_on both None = None
 sends_on both (Some next) =
     if fails both.net then None
-    else Some (record both { hub = next.hub; net = sent both.net (bytes_to_send next.hub next.send) })
+    else Some (record both { hub = next.hub; net = network_with_send both.net (bytes_to_send next.hub next.send) })
 
 abbrev pub hears_answer : HubAndLink → Receipt → Received → Option HubAndLink
 hears_answer both receipt Got =
@@ -80,11 +80,11 @@ abbrev pub after_step : HubAndLink → HubStep → Option HubAndLink
 after_step both (Offers offered) =
     if is_drained both.hub then Some (record both { hub = offer both.hub offered }) else None
 after_step both Sends = sends_on both (next_send both.hub)
-after_step both Receives = if may_receive both then hears both (received both.net) else None
+after_step both Receives = if may_receive both then hears both (network_receipt both.net) else None
 after_step both (CannotReceive taken) =
-    if may_receive both then Some (record both { net = takes taken (called both.net) }) else None
+    if may_receive both then Some (record both { net = takes taken (with_call_counted both.net) }) else None
 after_step both HandsOut =
-    Some (record both { hub = drained both.hub; so_far = hands_out both.so_far both.hub })
+    Some (record both { hub = after_handing_out both.hub; so_far = hands_out both.so_far both.hub })
 
 abbrev pub steps_on : Option HubAndLink → (HubAndLink → Option HubAndLink) → Option HubAndLink
 steps_on None more = None

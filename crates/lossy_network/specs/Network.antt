@@ -57,18 +57,18 @@ put_at place net = record net { traffic = put_on (fate_at net.fates place) place
 -- ---- calls
 
 -- each call is counted, and those whose numbers are named fail
-abbrev pub called : Network → Network
-called net = record net { calls = one_more net.calls }
+abbrev pub with_call_counted : Network → Network
+with_call_counted net = record net { calls = one_more net.calls }
 
 abbrev pub fails : Network → Bool
 fails net = list_any (λ number. number == one_more net.calls) net.fail
 
-abbrev pub failed : Network → Network
-failed net = record (called net) { faults = one_more net.faults }
+abbrev pub with_fault : Network → Network
+with_fault net = record (with_call_counted net) { faults = one_more net.faults }
 
 -- a send: the datagram joins the air, and meets its fate
-abbrev pub sent : Network → List ℕ → Network
-sent net bytes = put_at (length net.told.air) (record (called net) { told = sent_on net.told bytes })
+abbrev pub network_with_send : Network → List ℕ → Network
+network_with_send net bytes = put_at (length net.told.air) (record (with_call_counted net) { told = sent_on net.told bytes })
 
 -- ---- the front of the queue
 
@@ -90,12 +90,12 @@ abbrev pub with_queue : Network → List ℕ → Network
 with_queue net queue = record net { traffic = record net.traffic { queue = queue } }
 
 -- one that is too old is dropped
-abbrev pub dropped : Network → Network
-dropped net = record net { traffic = record net.traffic { held = one_more net.traffic.held } }
+abbrev pub without_too_old : Network → Network
+without_too_old net = record net { traffic = record net.traffic { held = one_more net.traffic.held } }
 
 -- the board heard one, and this is the link's board and air after it: an answer, if there is one, is sent at once
-abbrev pub heard : Network → Told → Network
-heard net told =
+abbrev pub after_hearing : Network → Told → Network
+after_hearing net told =
     if nat_lt (length net.told.air) (length told.air)
     then put_at (length net.told.air) (record net { told = told })
     else record net { told = told }
@@ -110,8 +110,8 @@ hub_bytes told (Some datagram) =
 
 abbrev pub front_with : Network → ℕ → Option (List ℕ) → Option Told → Front
 front_with rest place (Some bytes) told = ForHub place bytes
-front_with rest place None (Some told) = Taken (ByBoard place) (heard rest told)
-front_with rest place None None = Taken (Dropped place) (dropped rest)
+front_with rest place None (Some told) = Taken (ByBoard place) (after_hearing rest told)
+front_with rest place None None = Taken (Dropped place) (without_too_old rest)
 
 abbrev pub front_of : Network → List ℕ → Front
 front_of net [] = Nothing
@@ -186,5 +186,5 @@ receipt_at net (Taken taking after) = quiet_receipt net
 abbrev pub all_taken : Network → Network
 all_taken net = takes (most_takings net) net
 
-unfoldable pub received : Network → Receipt
-received net = receipt_at (all_taken (called net)) (front (all_taken (called net)))
+unfoldable pub network_receipt : Network → Receipt
+network_receipt net = receipt_at (all_taken (with_call_counted net)) (front (all_taken (with_call_counted net)))

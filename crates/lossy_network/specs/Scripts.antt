@@ -44,14 +44,14 @@ new_script answers fail =
     record { handed = []; left = answers; fail = fail; calls = 0; faults = 0; quiets = 0; gots = 0; receives = [] }
 
 -- each call is counted, and those whose numbers are named fail
-abbrev pub called : ScriptState → ScriptState
-called link = record link { calls = one_more link.calls }
+abbrev pub script_call_counted : ScriptState → ScriptState
+script_call_counted link = record link { calls = one_more link.calls }
 
 abbrev pub fails : ScriptState → Bool
 fails link = list_any (λ number. number == one_more link.calls) link.fail
 
-abbrev pub failed : ScriptState → ScriptState
-failed link = record (called link) { faults = one_more link.faults }
+abbrev pub script_with_fault : ScriptState → ScriptState
+script_with_fault link = record (script_call_counted link) { faults = one_more link.faults }
 
 -- what a receive answers, what it leaves in its buffer, and the link after it
 pub record ScriptReceipt : Type 0 where
@@ -77,8 +77,8 @@ receipt_of link (bytes ∷ left) = record {
 }
 
 -- a receive takes the first of the answers that are left, and is quiet behind the last
-abbrev pub received : ScriptState → ScriptReceipt
-received link = receipt_of (called link) link.left
+abbrev pub script_receipt : ScriptState → ScriptReceipt
+script_receipt link = receipt_of (script_call_counted link) link.left
 
 -- ---- a rack
 

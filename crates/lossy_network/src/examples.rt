@@ -11,7 +11,7 @@ ghost use Rattle.lossy_network.specs.Calls.{Receive};
 ghost use Rattle.lossy_network.specs.Examples.{fates_to, four_asked, resend_asked, stands, status_asked, stood};
 
 /// `ddr`: the control packet is repeated. Its second copy is not executed, and not answered.
-#[tactic(auto, unfolding(crate::specs::Network::received, world_model::specs::Messages::to_board, packet_codec::specs::Reading::packet_of, packet_codec::specs::Reading::start_of, transaction_codec::specs::Request::request_at))]
+#[tactic(auto, unfolding(crate::specs::Network::network_receipt, world_model::specs::Messages::to_board, packet_codec::specs::Reading::packet_of, packet_codec::specs::Reading::start_of, transaction_codec::specs::Request::request_at))]
 pub fn a_repeated_packet_is_executed_once()
     ensures { stands (codes "ddr")
         (status_asked ∷ Receive ∷ four_asked ∷ Receive ∷ Receive ∷ [])
@@ -24,7 +24,7 @@ pub fn a_repeated_packet_is_executed_once()
 {}
 
 /// `r`: the status request is repeated, and answered twice.
-#[tactic(auto, unfolding(crate::specs::Network::received, world_model::specs::Messages::to_board, packet_codec::specs::Reading::packet_of, packet_codec::specs::Reading::start_of, transaction_codec::specs::Request::request_at))]
+#[tactic(auto, unfolding(crate::specs::Network::network_receipt, world_model::specs::Messages::to_board, packet_codec::specs::Reading::packet_of, packet_codec::specs::Reading::start_of, transaction_codec::specs::Request::request_at))]
 pub fn a_repeated_status_request_is_answered_twice()
     ensures { stands (codes "r")
         (status_asked ∷ Receive ∷ Receive ∷ Receive ∷ [])
@@ -36,7 +36,7 @@ pub fn a_repeated_status_request_is_answered_twice()
 {}
 
 /// `dddl`: the reply is lost. It is sent again where that is asked for, and nothing is executed again.
-#[tactic(auto, unfolding(crate::specs::Network::received, world_model::specs::Messages::to_board, packet_codec::specs::Reading::packet_of, packet_codec::specs::Reading::start_of, transaction_codec::specs::Request::request_at))]
+#[tactic(auto, unfolding(crate::specs::Network::network_receipt, world_model::specs::Messages::to_board, packet_codec::specs::Reading::packet_of, packet_codec::specs::Reading::start_of, transaction_codec::specs::Request::request_at))]
 pub fn a_lost_reply_is_sent_again()
     ensures { stands (codes "dddl")
         (status_asked ∷ Receive ∷ four_asked ∷ Receive ∷ resend_asked ∷ Receive ∷ [])
@@ -50,7 +50,7 @@ pub fn a_lost_reply_is_sent_again()
 {}
 
 /// `ddl`: the control packet is lost. It is executed when it is sent again.
-#[tactic(auto, unfolding(crate::specs::Network::received, world_model::specs::Messages::to_board, packet_codec::specs::Reading::packet_of, packet_codec::specs::Reading::start_of, transaction_codec::specs::Request::request_at))]
+#[tactic(auto, unfolding(crate::specs::Network::network_receipt, world_model::specs::Messages::to_board, packet_codec::specs::Reading::packet_of, packet_codec::specs::Reading::start_of, transaction_codec::specs::Request::request_at))]
 pub fn a_lost_packet_is_sent_again()
     ensures { stands (codes "ddl")
         (status_asked ∷ Receive ∷ four_asked ∷ Receive ∷ four_asked ∷ Receive ∷ [])
@@ -65,7 +65,7 @@ pub fn a_lost_packet_is_sent_again()
 
 /// `dd2`: the control packet comes two datagrams late, behind the reply to a status request. Sent again meanwhile, it
 /// is executed once.
-#[tactic(auto, unfolding(crate::specs::Network::received, world_model::specs::Messages::to_board, packet_codec::specs::Reading::packet_of, packet_codec::specs::Reading::start_of, transaction_codec::specs::Request::request_at))]
+#[tactic(auto, unfolding(crate::specs::Network::network_receipt, world_model::specs::Messages::to_board, packet_codec::specs::Reading::packet_of, packet_codec::specs::Reading::start_of, transaction_codec::specs::Request::request_at))]
 pub fn a_late_packet_is_executed_once()
     ensures { stands (codes "dd2")
         (status_asked ∷ Receive ∷ four_asked ∷ Receive ∷ status_asked ∷ Receive ∷ four_asked ∷ Receive ∷ [])
@@ -81,7 +81,7 @@ pub fn a_late_packet_is_executed_once()
 {}
 
 /// `ll`: both status requests are lost, and the board is never heard.
-#[tactic(auto, unfolding(crate::specs::Network::received, world_model::specs::Messages::to_board, packet_codec::specs::Reading::packet_of, packet_codec::specs::Reading::start_of, transaction_codec::specs::Request::request_at))]
+#[tactic(auto, unfolding(crate::specs::Network::network_receipt, world_model::specs::Messages::to_board, packet_codec::specs::Reading::packet_of, packet_codec::specs::Reading::start_of, transaction_codec::specs::Request::request_at))]
 pub fn a_board_is_silent_where_all_is_lost()
     ensures { stands (codes "ll")
         (status_asked ∷ Receive ∷ status_asked ∷ Receive ∷ [])
@@ -93,7 +93,7 @@ pub fn a_board_is_silent_where_all_is_lost()
 {}
 
 /// `1`: what is delayed waits through a quiet receive, and comes right behind the next datagram.
-#[tactic(auto, unfolding(crate::specs::Network::received, world_model::specs::Messages::to_board, packet_codec::specs::Reading::packet_of, packet_codec::specs::Reading::start_of, transaction_codec::specs::Request::request_at))]
+#[tactic(auto, unfolding(crate::specs::Network::network_receipt, world_model::specs::Messages::to_board, packet_codec::specs::Reading::packet_of, packet_codec::specs::Reading::start_of, transaction_codec::specs::Request::request_at))]
 pub fn a_delayed_datagram_waits_for_others()
     ensures { stands (codes "1")
         (status_asked ∷ Receive ∷ status_asked ∷ [])

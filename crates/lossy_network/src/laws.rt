@@ -15,7 +15,7 @@ ghost use Rattle.world_core.specs.States.{IsReached};
 ghost use Rattle.world_core.specs.declared.link.Received.TheVariants.{Got, Quiet};
 ghost use Rattle.lossy_network.specs.declared.fates.DatagramFate.TheVariants.{Delivered};
 ghost use Rattle.lossy_network.specs.Fates.{fate_at};
-ghost use Rattle.lossy_network.specs.Network.{Network, fails, new_network, received};
+ghost use Rattle.lossy_network.specs.Network.{Network, fails, new_network, network_receipt};
 ghost use Rattle.lossy_network.specs.Receipts.{GotReceipt, QuietReceipt};
 ghost use Rattle.lossy_network.specs.Calls.{Call, after_calls, all_takings, copies, drops, held_of, place_taken};
 ghost use Rattle.lossy_network.specs.Calls.{failures, times_of};
@@ -27,8 +27,8 @@ use world_model::laws::links::a_link_forgets_nothing;
 /// A receive takes datagrams from the front of the queue until one for the hub stands there, which it hands out, or
 /// until the queue is at its end, and then it is quiet.
 pub fn a_receive_hands_out_the_first_for_the_hub()
-    ensures got { (link : Network) → Got ≡ (received link).answer → GotReceipt link }
-    ensures quiet { (link : Network) → Quiet ≡ (received link).answer → QuietReceipt link }
+    ensures got { (link : Network) → Got ≡ (network_receipt link).answer → GotReceipt link }
+    ensures quiet { (link : Network) → Quiet ≡ (network_receipt link).answer → QuietReceipt link }
 {}
 
 /// After any calls, those among them for which memory ran out, each datagram was taken from the queue, waits in it or

@@ -1,12 +1,12 @@
 //! A simulated link, which loses, repeats and delays datagrams as it is told, and tells all that it carries.
 
 ghost use Rattle.std.specs.Prelude.{◌≡◌, ◌↔◌, ◌≤◌, ◌<◌, ◌^◌, ℕ, [], length, true, false, Err, Ok, IfOk, OnOk, OnErr};
-ghost use Rattle.world_model.specs.Board.{executed};
+ghost use Rattle.world_model.specs.Board.{bodies_executed};
 ghost use Rattle.world_model.specs.Links.{sent_on};
 ghost use Rattle.world_core.specs.declared.link.TheConstants.{MAX_DATAGRAM};
 ghost use Rattle.world_core.specs.declared.link.LinkFault.TheVariants.{Failed, NoMemory as no_memory};
-ghost use Rattle.lossy_network.specs.Network.{Network, all_taken, called, failed, fails, front, new_network, put_at};
-ghost use Rattle.lossy_network.specs.Network.{receipt_at, received, sent, takes};
+ghost use Rattle.lossy_network.specs.Network.{Network, all_taken, with_call_counted, with_fault, fails, front, new_network, put_at};
+ghost use Rattle.lossy_network.specs.Network.{receipt_at, network_receipt, network_with_send, takes};
 ghost use Rattle.lossy_network.specs.Inside.{IsTaken, stands};
 
 use crate::fates::{next_fate, noise_generator};
@@ -57,7 +57,7 @@ impl SimLink {
         fates: Fates,
         fail: Vec<u64>,
     ) -> Result<SimLink, NoMemory>
-        requires { executed board ≡ [] }
+        requires { bodies_executed board ≡ [] }
         ensures { IfOk result (λ link. link ≡ new_network board fates fail.items) }
     {
         let noise = noise_generator(&fates);
@@ -126,10 +126,10 @@ impl SimLink {
     /// datagram.
     pub fn send(&mut self, bytes: &[u8]) -> Result<(), LinkFault>
         requires { length bytes.now ≤ MAX_DATAGRAM }
-        ensures sent { OnOk result (self.new ≡ sent self.old bytes.now) }
+        ensures sent { OnOk result (self.new ≡ network_with_send self.old bytes.now) }
         ensures fails { (result ≡ Err Failed) ↔ (fails self.old ≡ true) }
-        ensures failed { result ≡ Err Failed → self.new ≡ failed self.old }
-        ensures no_memory { result ≡ Err no_memory → self.new ≡ called self.old }
+        ensures failed { result ≡ Err Failed → self.new ≡ with_fault self.old }
+        ensures no_memory { result ≡ Err no_memory → self.new ≡ with_call_counted self.old }
     {
         self.count_call()?;
         self.carry(bytes)?;
@@ -141,14 +141,14 @@ impl SimLink {
     /// Where memory ran out the board has heard some datagrams, each whole, and the others are still to be heard. It
     /// costs the datagrams that are heard and their answers.
     pub fn receive(&mut self, into: &mut Vec<u8>) -> Result<Received, LinkFault>
-        ensures received { OnOk result (self.new ≡ (received self.old).after) }
-        ensures answer { IfOk result (λ answer. answer ≡ (received self.old).answer) }
-        ensures bytes { OnOk result (into.new.items ≡ (received self.old).bytes) }
+        ensures received { OnOk result (self.new ≡ (network_receipt self.old).after) }
+        ensures answer { IfOk result (λ answer. answer ≡ (network_receipt self.old).answer) }
+        ensures bytes { OnOk result (into.new.items ≡ (network_receipt self.old).bytes) }
         ensures short { length into.new.items ≤ MAX_DATAGRAM }
         ensures empty { OnErr result (into.new.items ≡ []) }
         ensures fails { (result ≡ Err Failed) ↔ (fails self.old ≡ true) }
-        ensures failed { result ≡ Err Failed → self.new ≡ failed self.old }
-        ensures no_memory { result ≡ Err no_memory → (taken : ℕ) × (self.new ≡ takes taken (called self.old)) }
+        ensures failed { result ≡ Err Failed → self.new ≡ with_fault self.old }
+        ensures no_memory { result ≡ Err no_memory → (taken : ℕ) × (self.new ≡ takes taken (with_call_counted self.old)) }
     {
         into.clear();
         self.count_call()?;
@@ -160,8 +160,8 @@ impl SimLink {
 impl SimLink {
     /// Counts a call. It fails where its number was named.
     fn count_call(&mut self) -> Result<(), LinkFault>
-        ensures ok { OnOk result ((fails self.old ≡ false) × (self.new ≡ called self.old)) }
-        ensures failed { OnErr result ((fails self.old ≡ true) × (self.new ≡ failed self.old)) }
+        ensures ok { OnOk result ((fails self.old ≡ false) × (self.new ≡ with_call_counted self.old)) }
+        ensures failed { OnErr result ((fails self.old ≡ true) × (self.new ≡ with_fault self.old)) }
         ensures fault { OnErr result (result ≡ Err Failed) }
     {
         self.calls = self.calls.saturating_add(1);

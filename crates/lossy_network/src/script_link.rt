@@ -4,8 +4,8 @@ ghost use Rattle.std.specs.Prelude.{◌≡◌, ◌≢◌, ◌↔◌, ◌≤◌, 
 ghost use Rattle.std.specs.List.{slice_get};
 ghost use Rattle.world_core.specs.declared.link.TheConstants.{MAX_DATAGRAM};
 ghost use Rattle.world_core.specs.declared.link.LinkFault.TheVariants.{Failed, NoMemory as no_memory};
-ghost use Rattle.lossy_network.specs.Scripts.{AreDatagrams, bytes_of, called, failed, fails, new_script};
-ghost use Rattle.lossy_network.specs.Scripts.{receipt_of, received};
+ghost use Rattle.lossy_network.specs.Scripts.{AreDatagrams, bytes_of, script_call_counted, script_with_fault, fails, new_script};
+ghost use Rattle.lossy_network.specs.Scripts.{receipt_of, script_receipt};
 
 use crate::link::fits;
 use ipb_base::NoMemory;
@@ -95,9 +95,9 @@ impl ScriptLink {
     /// Takes a datagram and forgets it. `Failed` where the call's number was named, and no other fault. It takes no
     /// memory.
     pub fn send(&mut self, _bytes: &[u8]) -> Result<(), LinkFault>
-        ensures sent { OnOk result (self.new ≡ called self.old) }
+        ensures sent { OnOk result (self.new ≡ script_call_counted self.old) }
         ensures fails { (result ≡ Err Failed) ↔ (fails self.old ≡ true) }
-        ensures failed { result ≡ Err Failed → self.new ≡ failed self.old }
+        ensures failed { result ≡ Err Failed → self.new ≡ script_with_fault self.old }
         ensures no_other { result ≢ Err no_memory }
     {
         self.count_call()
@@ -106,14 +106,14 @@ impl ScriptLink {
     /// Puts the next answer into `into`, in place of what stood there. It is quiet where none is left; `into` is empty
     /// then. `Failed` where the call's number was named. Where memory ran out the answer is still the next one.
     pub fn receive(&mut self, into: &mut Vec<u8>) -> Result<Received, LinkFault>
-        ensures received { OnOk result (self.new ≡ (received self.old).after) }
-        ensures answer { IfOk result (λ answer. answer ≡ (received self.old).answer) }
-        ensures bytes { OnOk result (into.new.items ≡ (received self.old).bytes) }
+        ensures received { OnOk result (self.new ≡ (script_receipt self.old).after) }
+        ensures answer { IfOk result (λ answer. answer ≡ (script_receipt self.old).answer) }
+        ensures bytes { OnOk result (into.new.items ≡ (script_receipt self.old).bytes) }
         ensures short { length into.new.items ≤ MAX_DATAGRAM }
         ensures empty { OnErr result (into.new.items ≡ []) }
         ensures fails { (result ≡ Err Failed) ↔ (fails self.old ≡ true) }
-        ensures failed { result ≡ Err Failed → self.new ≡ failed self.old }
-        ensures no_memory { result ≡ Err no_memory → self.new ≡ called self.old }
+        ensures failed { result ≡ Err Failed → self.new ≡ script_with_fault self.old }
+        ensures no_memory { result ≡ Err no_memory → self.new ≡ script_call_counted self.old }
     {
         into.clear();
         self.count_call()?;
@@ -124,8 +124,8 @@ impl ScriptLink {
 impl ScriptLink {
     /// Counts a call. It fails where its number was named.
     fn count_call(&mut self) -> Result<(), LinkFault>
-        ensures ok { OnOk result ((fails self.old ≡ false) × (self.new ≡ called self.old)) }
-        ensures failed { OnErr result ((fails self.old ≡ true) × (self.new ≡ failed self.old)) }
+        ensures ok { OnOk result ((fails self.old ≡ false) × (self.new ≡ script_call_counted self.old)) }
+        ensures failed { OnErr result ((fails self.old ≡ true) × (self.new ≡ script_with_fault self.old)) }
         ensures fault { OnErr result (result ≡ Err Failed) }
     {
         self.calls = self.calls.saturating_add(1);

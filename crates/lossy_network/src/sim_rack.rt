@@ -3,7 +3,7 @@
 ghost use Rattle.std.specs.Prelude.{◌≡◌, ◌↔◌, ◌≤◌, ◌<◌, ◌^◌, [], length, true, Some, Err, IfOk, IfSome, IfNone};
 ghost use Rattle.std.specs.List.{slice_get};
 ghost use Rattle.ipb_base.specs.Faults.{one_more};
-ghost use Rattle.world_model.specs.Board.{executed};
+ghost use Rattle.world_model.specs.Board.{bodies_executed};
 ghost use Rattle.lossy_network.specs.declared.rack.RackFault.TheVariants.{Failed};
 ghost use Rattle.lossy_network.specs.Network.{new_network};
 ghost use Rattle.lossy_network.specs.Racks.{after_keep, after_make, fails_to_make, fresh_board, is_named, IsMakeable};
@@ -187,7 +187,7 @@ fn fresh_board(
 
 /// A link to a board with these fates, and with these numbers of calls that fail.
 fn new_link(alloc: Global, board: Board, fates: &Fates, fail: &[u64]) -> Result<SimLink, NoMemory>
-    requires { executed board ≡ [] }
+    requires { bodies_executed board ≡ [] }
     ensures { IfOk result (λ link. link ≡ new_network board fates.now fail.now) }
 {
     let fates = copy_fates(alloc, fates)?;

@@ -17,13 +17,13 @@ abbrev pub field : ℕ → ℕ → ℕ
 field word mask = bit_and word mask / 2 ^ shift mask
 
 -- the value at the place of the field, not cut to 32 bits
-abbrev pub shifted : ℕ → ℕ → ℕ
-shifted mask value = value * 2 ^ shift mask
+abbrev pub shifted_value : ℕ → ℕ → ℕ
+shifted_value mask value = value * 2 ^ shift mask
 
 -- the value has no bit outside the mask
 abbrev pub FitsMask : ℕ → ℕ → Type 0
-FitsMask mask value = bit_and (shifted mask value) mask ≡ shifted mask value
+FitsMask mask value = bit_and (shifted_value mask value) mask ≡ shifted_value mask value
 
 -- the word with the value put into the field, where it fits the mask
 abbrev pub put_field : ℕ → ℕ → ℕ → ℕ
-put_field word mask value = bit_and word (bit_not w32 mask) + shifted mask value
+put_field word mask value = bit_and word (bit_not w32 mask) + shifted_value mask value

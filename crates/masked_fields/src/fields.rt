@@ -1,6 +1,6 @@
 ghost use Rattle.std.specs.Prelude.{◌≡◌, ◌≢◌, ℕ, ◌*◌, ◌^◌, ◌<◌, IfOk, OnOk, OnErr, bit_and, bit_or};
 ghost use Rattle.std.specs.Int.{w32, bit_not};
-ghost use Rattle.masked_fields.specs.Field.{IsShift, shift, field, shifted, FitsMask, put_field};
+ghost use Rattle.masked_fields.specs.Field.{IsShift, shift, field, shifted_value, FitsMask, put_field};
 
 use std::error::Error;
 use std::fmt;
@@ -44,7 +44,7 @@ pub fn extract(word: u32, mask: u32) -> u32
 pub fn terms(mask: u32, value: u32) -> Result<(u32, u32), BitsOutside>
     requires { 0 < mask }
     ensures and_term { IfOk result (λ terms. terms.0 ≡ bit_not w32 mask) }
-    ensures or_term { IfOk result (λ terms. terms.1 ≡ shifted mask value) }
+    ensures or_term { IfOk result (λ terms. terms.1 ≡ shifted_value mask value) }
     ensures put { IfOk result (λ terms. (word : ℕ) → word < 2 ^ 32 →
         bit_or (bit_and word terms.0) terms.1 ≡ put_field word mask value) }
 

@@ -2,7 +2,7 @@
 
 ghost use Rattle.std.specs.Prelude.{◌≡◌, ◌↔◌, ℕ, ◌<◌, ◌^◌, bit_and};
 ghost use Rattle.std.specs.Int.{w32, bit_not};
-ghost use Rattle.masked_fields.specs.Field.{IsShift, shift, field, shifted, FitsMask, put_field};
+ghost use Rattle.masked_fields.specs.Field.{IsShift, shift, field, shifted_value, FitsMask, put_field};
 
 /// Each mask has one shift.
 pub fn a_mask_has_one_shift()
@@ -36,7 +36,7 @@ pub fn what_fits_is_a_field()
 /// The AND term and the OR term of a value that fits share no bit.
 pub fn the_terms_share_no_bit()
     ensures { (mask value : ℕ) → mask < 2 ^ 32 → FitsMask mask value →
-        bit_and (bit_not w32 mask) (shifted mask value) ≡ 0 }
+        bit_and (bit_not w32 mask) (shifted_value mask value) ≡ 0 }
 {}
 
 /// Under the mask of all 32 bits the field is the whole word.

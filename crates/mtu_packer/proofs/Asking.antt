@@ -14,7 +14,7 @@ use Rattle.transaction_codec.specs.declared.request.Op.{Op}
 use Rattle.transaction_codec.specs.declared.request.Op.TheVariants.{Read, ReadPort, Write, WritePort, RmwBits, RmwSum}
 use Rattle.transaction_codec.specs.Request.{op_count}
 use Rattle.mtu_packer.specs.Accesses.{Access, reads, writes, updates, masks, adds, accesses}
-use Rattle.mtu_packer.specs.Cutting.{cut, piece}
+use Rattle.mtu_packer.specs.Cutting.{cut_pieces, piece}
 
 -- so many reads, the first at this address, each next one `step` addresses on
 abbrev reads_from : ℕ → ℕ → ℕ → List Access
@@ -196,7 +196,7 @@ goes_on base n = omega arith
 stays : (base n : ℕ) → base ≡ base + n * 0
 stays base n = omega arith
 
-pieces_walk : (payload : ℕ) (op : Op) → 16 ≤ payload → flat_map walk (cut payload op) ≡ walk op
+pieces_walk : (payload : ℕ) (op : Op) → 16 ≤ payload → flat_map walk (cut_pieces payload op) ≡ walk op
 pieces_walk payload (Read base count) low =
     all_reads 1 base (min 255 (payload - 2)) count (piece payload (Read base count)) (omega arith)
     (λ k. ap (λ b. reads_from 1 b (min (min 255 (payload - 2)) (count - k * min 255 (payload - 2))))
@@ -218,8 +218,8 @@ pieces_walk payload (WritePort base words) low =
 pieces_walk payload (RmwBits base and_term or_term) low = refl
 pieces_walk payload (RmwSum base addend) low = refl
 
-pub pieces_ask : (payload : ℕ) (op : Op) → 16 ≤ payload → flat_map accesses (cut payload op) ≡ accesses op
-pieces_ask payload op low = all_accesses_are (cut payload op) ∙ pieces_walk payload op low ∙ sym (accesses_are op)
+pub pieces_ask : (payload : ℕ) (op : Op) → 16 ≤ payload → flat_map accesses (cut_pieces payload op) ≡ accesses op
+pieces_ask payload op low = all_accesses_are (cut_pieces payload op) ∙ pieces_walk payload op low ∙ sym (accesses_are op)
 
 -- ---- how many accesses there are
 
@@ -251,18 +251,18 @@ length_all (op ∷ ops) =
     )
 
 -- the pieces of an operation read and write as many words as the operation
-pub cut_count : (payload : ℕ) (op : Op) → 16 ≤ payload → sum_by op_count (cut payload op) ≡ op_count op
+pub cut_count : (payload : ℕ) (op : Op) → 16 ≤ payload → sum_by op_count (cut_pieces payload op) ≡ op_count op
 cut_count payload op low =
-    sym (length_all (cut payload op)) ∙ ap length (pieces_walk payload op low) ∙ length_walk op
+    sym (length_all (cut_pieces payload op)) ∙ ap length (pieces_walk payload op low) ∙ length_walk op
 
 pub all_counts : (payload : ℕ) (ops : List Op) → 16 ≤ payload
-    → sum_by op_count (flat_map (cut payload) ops) ≡ sum_by op_count ops
+    → sum_by op_count (flat_map (cut_pieces payload) ops) ≡ sum_by op_count ops
 all_counts payload [] low = refl
 all_counts payload (op ∷ ops) low =
     omega (
       arith,
       all_counts payload ops low,
       cut_count payload op low,
-      sum_by-append op_count (cut payload op) (flat_map (cut payload) ops),
+      sum_by-append op_count (cut_pieces payload op) (flat_map (cut_pieces payload) ops),
       sum_by-cons op_count op ops,
     )

@@ -5,9 +5,9 @@ use Rattle.std.proofs.Common.{length-append}
 use Rattle.std.specs.List.{AllByRecursion, Any, flat_map}
 use Rattle.std.proofs.lemmas.List.{length-map}
 use Rattle.transaction_codec.specs.declared.request.Op.{Op}
-use Rattle.mtu_packer.specs.Cutting.{cut}
+use Rattle.mtu_packer.specs.Cutting.{cut_pieces}
 use Rattle.mtu_packer.specs.Packing.{body_words, takes, parts_from, parts_in, parts_of}
-use Rattle.mtu_packer.specs.Packed.{Contents, IsPacked, packed, places_in, places_from, IsIn, HasPiece}
+use Rattle.mtu_packer.specs.Packed.{Contents, IsPacked, packed_contents, places_in, places_from, IsIn, HasPiece}
 use Rattle.mtu_packer.proofs.AnyLemmas.{any_front, any_back, any_in_one}
 use Rattle.mtu_packer.proofs.Finish.{all_places}
 
@@ -77,11 +77,11 @@ whole_in payload (op ∷ pieces) = whole_from payload (op ∷ []) pieces
 
 -- ---- each body
 
-pub piece_of_packed : (ops : List Op) (payload body : ℕ) → body < length (packed payload ops).bodies
-    → HasPiece body (packed payload ops).pieces
+pub piece_of_packed : (ops : List Op) (payload body : ℕ) → body < length (packed_contents payload ops).bodies
+    → HasPiece body (packed_contents payload ops).pieces
 piece_of_packed ops payload body within =
-    has_piece (parts_of payload ops) (packed payload ops) body (filled_in payload (flat_map (cut payload) ops)) refl
-    (all_places payload ops (parts_of payload ops) (whole_in payload (flat_map (cut payload) ops))) within
+    has_piece (parts_of payload ops) (packed_contents payload ops) body (filled_in payload (flat_map (cut_pieces payload) ops)) refl
+    (all_places payload ops (parts_of payload ops) (whole_in payload (flat_map (cut_pieces payload) ops))) within
 
 pub piece_of_packing : (ops : List Op) (payload : ℕ) (contents : Contents) (body : ℕ) → IsPacked ops payload contents
     → body < length contents.bodies → HasPiece body contents.pieces

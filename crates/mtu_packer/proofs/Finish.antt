@@ -13,7 +13,7 @@ use Rattle.transaction_codec.specs.Request.{AreRequests}
 use Rattle.transaction_codec.specs.Answer.{reply_room}
 use Rattle.transaction_codec.proofs.Longest.{longest_unique, reply_room_longest}
 use Rattle.mtu_packer.specs.declared.packed.Span.{Span}
-use Rattle.mtu_packer.specs.Cutting.{cut, piece_count}
+use Rattle.mtu_packer.specs.Cutting.{cut_pieces, piece_count}
 use Rattle.mtu_packer.specs.Packing.{requests_from, body_words, longest_reply, Fits, AreFull, AreReadable}
 use Rattle.mtu_packer.specs.Packed.{piece_at, pieces_at, places_in, places_from, Contents, IsPacked, FitsPackets}
 use Rattle.mtu_packer.specs.Progress.{Progress, FitsAlone, start, close, all_bodies, run}
@@ -32,10 +32,10 @@ use Rattle.mtu_packer.proofs.PlaceLemmas.{pieces_stand, length-places_from}
 -- ---- all pieces fit
 
 pub all_fit : (payload : ℕ) (ops : List Op) → 16 ≤ payload → AllByRecursion (FitsAlone payload)
-    (flat_map (cut payload) ops)
+    (flat_map (cut_pieces payload) ops)
 all_fit payload [] low = tt
-all_fit payload (op ∷ ops) low = AllByRecursion-append (FitsAlone payload) (cut payload op)
-    (flat_map (cut payload) ops) (cut_fits payload op low) (all_fit payload ops low)
+all_fit payload (op ∷ ops) low = AllByRecursion-append (FitsAlone payload) (cut_pieces payload op)
+    (flat_map (cut_pieces payload) ops) (cut_fits payload op low) (all_fit payload ops low)
 
 -- ---- the last body is closed
 
@@ -99,40 +99,40 @@ holds_finished progress taken holds = elim (cases_eq progress.requests 0) [
 ]
 
 run_finished : (payload : ℕ) (ops : List Op) → 16 ≤ payload
-    → Finished (run (start payload) (flat_map (cut payload) ops)) payload (flat_map (cut payload) ops)
+    → Finished (run (start payload) (flat_map (cut_pieces payload) ops)) payload (flat_map (cut_pieces payload) ops)
 run_finished payload ops low =
-    let pieces = flat_map (cut payload) ops in
+    let pieces = flat_map (cut_pieces payload) ops in
     subst (λ n. Finished (run (start payload) pieces) n pieces) (run-payload (start payload) pieces)
     (holds_finished (run (start payload) pieces) pieces (run_holds (start payload) [] pieces (all_fit payload ops low)
     (start_holds payload (omega arith))))
 
 -- ---- the places of each operation
 
-some_cut : (payload : ℕ) (ops : List Op) → map (λ op. Some op) (flat_map (cut payload) ops)
-    ≡ flat_map (λ op. map (λ piece. Some piece) (cut payload op)) ops
+some_cut : (payload : ℕ) (ops : List Op) → map (λ op. Some op) (flat_map (cut_pieces payload) ops)
+    ≡ flat_map (λ op. map (λ piece. Some piece) (cut_pieces payload op)) ops
 some_cut payload [] = refl
 some_cut payload (op ∷ ops) =
-    map-append (λ piece. Some piece) (cut payload op) (flat_map (cut payload) ops)
-    ∙ ap (λ rest. map (λ piece. Some piece) (cut payload op) ++ rest) (some_cut payload ops)
+    map-append (λ piece. Some piece) (cut_pieces payload op) (flat_map (cut_pieces payload) ops)
+    ∙ ap (λ rest. map (λ piece. Some piece) (cut_pieces payload op) ++ rest) (some_cut payload ops)
 
-length-some : (payload : ℕ) (op : Op) → length (map (λ piece. Some piece) (cut payload op)) ≡ piece_count payload op
-length-some payload op = length-map (cut payload op) (λ piece. Some piece) ∙ length-cut payload op
+length-some : (payload : ℕ) (op : Op) → length (map (λ piece. Some piece) (cut_pieces payload op)) ≡ piece_count payload op
+length-some payload op = length-map (cut_pieces payload op) (λ piece. Some piece) ∙ length-cut payload op
 
 pub own_pieces : (payload : ℕ) (ops : List Op) (parts : List (List Op)) → flat_map (λ part. part) parts
-    ≡ flat_map (cut payload) ops
+    ≡ flat_map (cut_pieces payload) ops
     → map (pieces_at parts) (deal (map (piece_count payload) ops) (places_from 0 parts))
-    ≡ map (λ op. map (λ piece. Some piece) (cut payload op)) ops
+    ≡ map (λ op. map (λ piece. Some piece) (cut_pieces payload op)) ops
 own_pieces payload ops parts whole =
     map-deal (piece_at parts) (map (piece_count payload) ops) (places_from 0 parts)
     ∙ ap (deal (map (piece_count payload) ops)) (pieces_stand parts ∙ ap (map (λ op. Some op)) whole
     ∙ some_cut payload ops)
-    ∙ deal_joined (λ op. map (λ piece. Some piece) (cut payload op)) (piece_count payload) ops (length-some payload)
+    ∙ deal_joined (λ op. map (λ piece. Some piece) (cut_pieces payload op)) (piece_count payload) ops (length-some payload)
 
 pub all_places : (payload : ℕ) (ops : List Op) (parts : List (List Op)) → flat_map (λ part. part) parts
-    ≡ flat_map (cut payload) ops
+    ≡ flat_map (cut_pieces payload) ops
     → flat_map (λ places. places) (deal (map (piece_count payload) ops) (places_from 0 parts)) ≡ places_from 0 parts
 all_places payload ops parts whole =
-    joined_deal (cut payload) (piece_count payload) ops (places_from 0 parts) (length-cut payload)
+    joined_deal (cut_pieces payload) (piece_count payload) ops (places_from 0 parts) (length-cut payload)
     (length-places_from parts ∙ ap length whole)
 
 -- ---- all in one
@@ -163,7 +163,7 @@ operations_of : (ops : List Op) (payload : ℕ) (contents : Contents) → IsPack
     → length contents.pieces ≡ length ops
 operations_of ops payload contents is =
     sym (length-map contents.pieces (pieces_at is.parts)) ∙ ap length is.pieces
-    ∙ length-map ops (λ op. map (λ piece. Some piece) (cut payload op))
+    ∙ length-map ops (λ op. map (λ piece. Some piece) (cut_pieces payload op))
 
 pub packed_operations : (ops : List Op) (payload : ℕ) (result : Result Contents NoMemory)
     → IfOk result (IsPacked ops payload) → IfOk result (λ packed. length packed.pieces ≡ length ops)

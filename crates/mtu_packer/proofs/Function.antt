@@ -6,11 +6,11 @@ use Rattle.std.proofs.lemmas.Bool.Decides.{nat_tests}
 use Rattle.transaction_codec.specs.declared.request.Op.{Op}
 use Rattle.transaction_codec.specs.Request.{op_words}
 use Rattle.ipb_base.proofs.AllLemmas.{all_of_each}
-use Rattle.mtu_packer.specs.Cutting.{CanBeCut, HasWords, cut}
+use Rattle.mtu_packer.specs.Cutting.{CanBeCut, HasWords, cut_pieces}
 use Rattle.mtu_packer.specs.Packing.{body_words, longest_reply, Fits, AreFull, AreReadable, IsPacking, takes}
 use Rattle.mtu_packer.specs.Packing.{parts_from}
 use Rattle.mtu_packer.specs.Packing.{parts_in, parts_of}
-use Rattle.mtu_packer.specs.Packed.{Contents, IsPacked, packed}
+use Rattle.mtu_packer.specs.Packed.{Contents, IsPacked, packed_contents}
 use Rattle.mtu_packer.specs.Progress.{FitsAlone}
 use Rattle.mtu_packer.proofs.Finish.{all_fit, own_pieces, all_places}
 use Rattle.mtu_packer.proofs.Readable.{all_readable, cut_has_words}
@@ -124,7 +124,7 @@ packing_in payload (op ∷ pieces) alone =
 
 packing_of : (ops : List Op) (payload : ℕ) → 16 ≤ payload → IsPacking ops payload (parts_of payload ops)
 packing_of ops payload low =
-    let all = packing_in payload (flat_map (cut payload) ops) (all_fit payload ops low) in
+    let all = packing_in payload (flat_map (cut_pieces payload) ops) (all_fit payload ops low) in
     record { whole = all.whole; filled = all.filled; fits = all.fits; full = all.full }
 
 pub packing_is : (ops : List Op) (payload : ℕ) (parts : List (List Op)) → 16 ≤ payload → IsPacking ops payload parts
@@ -137,7 +137,7 @@ pub is_packing : (ops : List Op) (payload : ℕ) (parts : List (List Op)) → 16
 is_packing ops payload parts low same = subst (IsPacking ops payload) (sym same) (packing_of ops payload low)
 
 packed_of : (ops : List Op) (payload : ℕ) → 16 ≤ payload → AreReadable (parts_of payload ops)
-    → IsPacked ops payload (packed payload ops)
+    → IsPacked ops payload (packed_contents payload ops)
 packed_of ops payload low readable =
     let packing = packing_of ops payload low in
     record {
@@ -150,13 +150,13 @@ packed_of ops payload low readable =
     }
 
 pub packed_is : (ops : List Op) (payload : ℕ) (contents : Contents) → 16 ≤ payload → IsPacked ops payload contents
-    → AreReadable (parts_of payload ops) × (contents ≡ packed payload ops)
+    → AreReadable (parts_of payload ops) × (contents ≡ packed_contents payload ops)
 packed_is ops payload contents low is =
     let readable = subst AreReadable (packing_is ops payload is.parts low is.packing) is.readable in
-    (readable, packed_unique ops payload contents (packed payload ops) is (packed_of ops payload low readable))
+    (readable, packed_unique ops payload contents (packed_contents payload ops) is (packed_of ops payload low readable))
 
 pub is_packed : (ops : List Op) (payload : ℕ) (contents : Contents) → 16 ≤ payload → AreReadable (parts_of payload ops)
-    → contents ≡ packed payload ops → IsPacked ops payload contents
+    → contents ≡ packed_contents payload ops → IsPacked ops payload contents
 is_packed ops payload contents low readable same = subst (IsPacked ops payload) (sym same)
     (packed_of ops payload low readable)
 
@@ -174,5 +174,5 @@ readable_of ops payload low high can words =
     packing.fits
 
 pub words_packed : (ops : List Op) (payload : ℕ) → 16 ≤ payload → payload ≤ 2243 → AllByRecursion CanBeCut ops
-    → AllByRecursion HasWords ops → IsPacked ops payload (packed payload ops)
+    → AllByRecursion HasWords ops → IsPacked ops payload (packed_contents payload ops)
 words_packed ops payload low high can words = packed_of ops payload low (readable_of ops payload low high can words)

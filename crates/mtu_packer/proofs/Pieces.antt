@@ -10,10 +10,10 @@ use Rattle.std.proofs.lemmas.List.FromFn.{length-map-range_with_len}
 use Rattle.transaction_codec.specs.declared.request.Op.{Op}
 use Rattle.transaction_codec.specs.declared.request.Op.TheVariants.{Read, ReadPort, Write, WritePort, RmwBits, RmwSum}
 use Rattle.transaction_codec.specs.Request.{op_count}
-use Rattle.mtu_packer.specs.Cutting.{cut, piece, piece_count, piece_length, piece_limit, piece_offset, part_of}
+use Rattle.mtu_packer.specs.Cutting.{cut_pieces, piece, piece_count, piece_length, piece_limit, piece_offset, part_of}
 use Rattle.mtu_packer.specs.Progress.{FitsAlone}
 
-pub length-cut : (payload : ℕ) (op : Op) → length (cut payload op) ≡ piece_count payload op
+pub length-cut : (payload : ℕ) (op : Op) → length (cut_pieces payload op) ≡ piece_count payload op
 length-cut payload op = length-map-range_with_len (piece payload op) 0 (piece_count payload op)
 
 -- a part of so few words fits an empty body
@@ -63,7 +63,7 @@ pieces_fit payload op from (suc count) low = (
       low,
 )
 
-pub cut_fits : (payload : ℕ) (op : Op) → 16 ≤ payload → AllByRecursion (FitsAlone payload) (cut payload op)
+pub cut_fits : (payload : ℕ) (op : Op) → 16 ≤ payload → AllByRecursion (FitsAlone payload) (cut_pieces payload op)
 cut_fits payload op low = pieces_fit payload op 0 (piece_count payload op) low
 
 div_ceil-le : (n k : ℕ) → 1 ≤ k → div_ceil n k ≤ n
@@ -81,7 +81,7 @@ piece_limit-some payload (RmwSum base addend) low = omega arith
 piece_count-le : (payload : ℕ) (op : Op) → 16 ≤ payload → piece_count payload op ≤ op_count op
 piece_count-le payload op low = div_ceil-le (op_count op) (piece_limit payload op) (piece_limit-some payload op low)
 
-pub pieces-le : (payload : ℕ) (ops : List Op) → 16 ≤ payload → length (flat_map (cut payload) ops) ≤ sum_by op_count ops
+pub pieces-le : (payload : ℕ) (ops : List Op) → 16 ≤ payload → length (flat_map (cut_pieces payload) ops) ≤ sum_by op_count ops
 pieces-le payload [] low = omega arith
 pieces-le payload (op ∷ ops) low =
     omega (
@@ -90,6 +90,6 @@ pieces-le payload (op ∷ ops) low =
       piece_count-le payload op low,
       length-cut payload op,
       length-append
-          (cut payload op) (flat_map (cut payload) ops),
+          (cut_pieces payload op) (flat_map (cut_pieces payload) ops),
       sum_by-append op_count (op ∷ []) ops,
     )

@@ -11,7 +11,7 @@ use Rattle.transaction_codec.specs.declared.request.Op.{Op}
 use Rattle.transaction_codec.specs.declared.request.Op.TheVariants.{Read, ReadPort, Write, WritePort, RmwBits, RmwSum}
 use Rattle.transaction_codec.specs.declared.request.Request.{Request}
 use Rattle.transaction_codec.specs.Request.{AreRequests, op_count, request_words, requests_words}
-use Rattle.mtu_packer.specs.Cutting.{CanBeCut, HasWords, cut, part_of, piece, piece_count, piece_length, piece_limit}
+use Rattle.mtu_packer.specs.Cutting.{CanBeCut, HasWords, cut_pieces, part_of, piece, piece_count, piece_length, piece_limit}
 use Rattle.mtu_packer.specs.Cutting.{piece_offset}
 use Rattle.mtu_packer.specs.Packing.{requests_from, body_words, Fits, AreReadable}
 use Rattle.mtu_packer.specs.Progress.{FitsAlone}
@@ -106,9 +106,9 @@ pieces_have_words payload op from (suc count) low can words few = (
 )
 
 pub cut_has_words : (payload : ℕ) (ops : List Op) → 16 ≤ payload → AllByRecursion CanBeCut ops
-    → AllByRecursion HasWords ops → AllByRecursion HasWords (flat_map (cut payload) ops)
+    → AllByRecursion HasWords ops → AllByRecursion HasWords (flat_map (cut_pieces payload) ops)
 cut_has_words payload [] low can words = tt
 cut_has_words payload (op ∷ ops) low can words =
-    AllByRecursion-append HasWords (cut payload op) (flat_map (cut payload) ops)
+    AllByRecursion-append HasWords (cut_pieces payload op) (flat_map (cut_pieces payload) ops)
     (pieces_have_words payload op 0 (piece_count payload op) low can.0 words.0 (omega arith))
     (cut_has_words payload ops low can.1 words.1)

@@ -16,7 +16,7 @@ use Rattle.transaction_codec.specs.Request.{AreRequests, IsRequest, op_count, op
 use Rattle.transaction_codec.specs.Request.{requests_words}
 use Rattle.transaction_codec.specs.Answer.{reply_room, values_done}
 use Rattle.transaction_codec.proofs.Longest.{longest_unique, reply_room_longest}
-use Rattle.mtu_packer.specs.Cutting.{cut, piece_count, piece_limit}
+use Rattle.mtu_packer.specs.Cutting.{cut_pieces, piece_count, piece_limit}
 use Rattle.mtu_packer.specs.Packing.{AreReadable, body_words, longest_reply, requests_from}
 use Rattle.mtu_packer.specs.Packed.{Contents, IsPacked, words_with_answer}
 use Rattle.mtu_packer.proofs.Asking.{all_counts}
@@ -41,7 +41,7 @@ few_in_one payload (RmwBits base and_term or_term) low = omega arith
 few_in_one payload (RmwSum base addend) low = omega arith
 
 few_pieces : (payload : ℕ) (ops : List Op) → 16 ≤ payload
-    → 13 * length (flat_map (cut payload) ops) ≤ sum_by op_count ops + 12 * length ops
+    → 13 * length (flat_map (cut_pieces payload) ops) ≤ sum_by op_count ops + 12 * length ops
 few_pieces payload [] low = omega arith
 few_pieces payload (op ∷ ops) low =
     omega (
@@ -49,7 +49,7 @@ few_pieces payload (op ∷ ops) low =
       few_pieces payload ops low,
       few_in_one payload op low,
       length-cut payload op,
-      length-append (cut payload op) (flat_map (cut payload) ops),
+      length-append (cut_pieces payload op) (flat_map (cut_pieces payload) ops),
       sum_by-cons op_count op ops,
     )
 

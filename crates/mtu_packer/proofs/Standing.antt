@@ -9,7 +9,7 @@ use Rattle.transaction_codec.specs.declared.request.Op.{Op}
 use Rattle.transaction_codec.specs.declared.request.Request.{Request}
 use Rattle.transaction_codec.specs.Request.{AreRequests, requests_words, SpellsRequests}
 use Rattle.mtu_packer.specs.declared.packed.Piece.{Piece}
-use Rattle.mtu_packer.specs.Cutting.{cut}
+use Rattle.mtu_packer.specs.Cutting.{cut_pieces}
 use Rattle.mtu_packer.specs.Packing.{requests_from, body_requests, body_words, AreReadable}
 use Rattle.mtu_packer.specs.Packed.{piece_at, pieces_at, Contents, IsPacked}
 
@@ -81,16 +81,16 @@ pub stands_there : ((left right : List Request) → AreRequests left → AreRequ
     → requests_words left ≡ requests_words right → left ≡ right) → (ops : List Op) (payload : ℕ) (contents : Contents)
     → (k j : ℕ) (op piece : Op) (places : List Piece) (place : Piece) (requests : List Request)
     → IsPacked ops payload contents → slice_get ops k ≡ Some op → slice_get contents.pieces k ≡ Some places
-    → slice_get (cut payload op) j ≡ Some piece → slice_get places j ≡ Some place → AreRequests requests
+    → slice_get (cut_pieces payload op) j ≡ Some piece → slice_get places j ≡ Some place → AreRequests requests
     → slice_get contents.bodies place.body ≡ Some (requests_words requests)
     → slice_get requests place.index ≡ Some (record { tid = place.index; op = piece })
 stands_there one_list ops payload contents k j op piece places place requests is own own_places cut_there here ranges
     body =
-    let seen : pieces_at is.parts places ≡ map Some (cut payload op) =
-    at_both (pieces_at is.parts) (λ x. map Some (cut payload x)) contents.pieces ops k places op is.pieces own_places
+    let seen : pieces_at is.parts places ≡ map Some (cut_pieces payload op) =
+    at_both (pieces_at is.parts) (λ x. map Some (cut_pieces payload x)) contents.pieces ops k places op is.pieces own_places
     own in
     let stood : piece_at is.parts place ≡ Some piece =
-    at_both (piece_at is.parts) Some places (cut payload op) j place piece seen here cut_there in
+    at_both (piece_at is.parts) Some places (cut_pieces payload op) j place piece seen here cut_there in
     let there = stands is.parts place piece stood in
     let words : requests_words requests ≡ body_words there.part =
     some_is (requests_words requests) (body_words there.part)

@@ -7,7 +7,7 @@ use Rattle.std.proofs.lemmas.List.Sums.{fold-append}
 use Rattle.transaction_codec.specs.declared.request.Op.{Op}
 use Rattle.mtu_packer.specs.declared.packed.Piece.{Piece}
 use Rattle.mtu_packer.specs.declared.packed.Span.{Span}
-use Rattle.mtu_packer.specs.Cutting.{cut, piece_count}
+use Rattle.mtu_packer.specs.Cutting.{cut_pieces, piece_count}
 use Rattle.mtu_packer.specs.Progress.{Progress, IsWithin, start, step, run}
 use Rattle.mtu_packer.specs.Span.{span_places, AreWithin, spans_from}
 use Rattle.mtu_packer.proofs.Steps.{run-payload, run-places}
@@ -16,11 +16,11 @@ use Rattle.mtu_packer.specs.Packed.{deal}
 
 -- ---- the spans of operations
 
-pub spans_within : (payload : ℕ) (ops : List Op) (from total : ℕ) → from + length (flat_map (cut payload) ops) ≤ total
+pub spans_within : (payload : ℕ) (ops : List Op) (from total : ℕ) → from + length (flat_map (cut_pieces payload) ops) ≤ total
     → AreWithin total (spans_from from (map (piece_count payload) ops))
 spans_within payload [] from total fits = tt
 spans_within payload (op ∷ ops) from total fits =
-    let parts = length-append (cut payload op) (flat_map (cut payload) ops) in
+    let parts = length-append (cut_pieces payload op) (flat_map (cut_pieces payload) ops) in
     let own = length-cut payload op in (
       (omega arith, omega (arith, parts, own)),
       spans_within payload ops (from + piece_count payload op) total
@@ -40,13 +40,13 @@ spans_places places from (count ∷ counts) =
 -- So many operations are packed, and what is packed and what is left are all.
 pub record Underway (ops : List Op) (payload done : ℕ) (progress : Progress) (spans : List Span) (next : ℕ) : Type 0
   where
-    pub taken : run progress (flat_map (cut payload) (drop done ops)) ≡ run (start payload) (flat_map (cut payload) ops)
+    pub taken : run progress (flat_map (cut_pieces payload) (drop done ops)) ≡ run (start payload) (flat_map (cut_pieces payload) ops)
     pub payload_same : progress.payload ≡ payload
     pub within : IsWithin progress
     pub places : length progress.places ≡ next
     pub spanned : spans ++ spans_from next (map (piece_count payload) (drop done ops))
         ≡ spans_from 0 (map (piece_count payload) ops)
-    pub count : next + length (flat_map (cut payload) (drop done ops)) ≡ length (flat_map (cut payload) ops)
+    pub count : next + length (flat_map (cut_pieces payload) (drop done ops)) ≡ length (flat_map (cut_pieces payload) ops)
 
 split_at : (ops : List Op) (done : ℕ) (op : Op) → done < length ops → op ≡ get_or ops done op → drop done ops
     ≡ op ∷ drop (done + 1) ops
@@ -56,19 +56,19 @@ split_at ops done op more here =
 
 pub underway_room : (ops : List Op) (payload done : ℕ) (progress : Progress) (spans : List Span) (next : ℕ) (op : Op)
     → Underway ops payload done progress spans next
-    → done < length ops → op ≡ get_or ops done op → next + piece_count payload op ≤ length (flat_map (cut payload) ops)
+    → done < length ops → op ≡ get_or ops done op → next + piece_count payload op ≤ length (flat_map (cut_pieces payload) ops)
 underway_room ops payload done progress spans next op is more here =
     omega (
       arith,
       is.count,
-      ap (λ xs. length (flat_map (cut payload) xs)) (split_at ops done op more here),
-      length-append (cut payload op) (flat_map (cut payload) (drop (done + 1) ops)),
+      ap (λ xs. length (flat_map (cut_pieces payload) xs)) (split_at ops done op more here),
+      length-append (cut_pieces payload op) (flat_map (cut_pieces payload) (drop (done + 1) ops)),
       length-cut payload op,
     )
 
 pub underway_next : (ops : List Op) (payload done : ℕ) (progress : Progress) (spans : List Span) (next : ℕ) (op : Op)
     (after : Progress) → Underway ops payload done progress spans next
-    → done < length ops → op ≡ get_or ops done op → after ≡ run progress (cut progress.payload op) → IsWithin after
+    → done < length ops → op ≡ get_or ops done op → after ≡ run progress (cut_pieces progress.payload op) → IsWithin after
     → Underway ops payload (done + 1) after (spans ++ record {
       start = next;
       end =
@@ -77,16 +77,16 @@ pub underway_next : (ops : List Op) (payload done : ℕ) (progress : Progress) (
 underway_next ops payload done progress spans next op after is more here packed within =
     let rest = drop (done + 1) ops in
     let split = split_at ops done op more here in
-    let same : after ≡ run progress (cut payload op) = packed ∙ ap (λ n. run progress (cut n op)) is.payload_same in
+    let same : after ≡ run progress (cut_pieces payload op) = packed ∙ ap (λ n. run progress (cut_pieces n op)) is.payload_same in
     record {
-      taken = ap (λ p. run p (flat_map (cut payload) rest)) same
-          ∙ sym (fold-append step progress (cut payload op) (flat_map (cut payload) rest))
-          ∙ ap (λ xs. run progress (flat_map (cut payload) xs)) (sym split) ∙ is.taken;
-      payload_same = ap (λ p. p.payload) same ∙ run-payload progress (cut payload op) ∙ is.payload_same;
+      taken = ap (λ p. run p (flat_map (cut_pieces payload) rest)) same
+          ∙ sym (fold-append step progress (cut_pieces payload op) (flat_map (cut_pieces payload) rest))
+          ∙ ap (λ xs. run progress (flat_map (cut_pieces payload) xs)) (sym split) ∙ is.taken;
+      payload_same = ap (λ p. p.payload) same ∙ run-payload progress (cut_pieces payload op) ∙ is.payload_same;
       within = within;
       places = ap (λ p. length p.places) same ∙ omega (
         arith,
-        run-places progress (cut payload op),
+        run-places progress (cut_pieces payload op),
         length-cut payload
             op,
         is.places,
@@ -97,28 +97,28 @@ underway_next ops payload done progress spans next op after is more here packed 
       count = omega (
         arith,
         is.count,
-        ap (λ xs. length (flat_map (cut payload) xs)) split,
+        ap (λ xs. length (flat_map (cut_pieces payload) xs)) split,
         length-append
-            (cut payload op) (flat_map (cut payload) rest),
+            (cut_pieces payload op) (flat_map (cut_pieces payload) rest),
         length-cut payload op,
       );
     }
 
 -- all are packed
 pub record Over (ops : List Op) (payload : ℕ) (progress : Progress) (spans : List Span) : Type 0 where
-  pub taken : progress ≡ run (start payload) (flat_map (cut payload) ops)
+  pub taken : progress ≡ run (start payload) (flat_map (cut_pieces payload) ops)
   pub spanned : spans ≡ spans_from 0 (map (piece_count payload) ops)
-  pub places : length progress.places ≡ length (flat_map (cut payload) ops)
+  pub places : length progress.places ≡ length (flat_map (cut_pieces payload) ops)
 
 pub underway_over : (ops : List Op) (payload done : ℕ) (progress : Progress) (spans : List Span) (next : ℕ)
     → Underway ops payload done progress spans next → length ops ≤ done → Over ops payload progress spans
 underway_over ops payload done progress spans next is past =
     let none = drop_all done ops past in
     record {
-      taken = ap (λ xs. run progress (flat_map (cut payload) xs)) (sym none) ∙ is.taken;
+      taken = ap (λ xs. run progress (flat_map (cut_pieces payload) xs)) (sym none) ∙ is.taken;
       spanned = sym (append-nil spans) ∙ ap (λ xs. spans ++ spans_from next (map (piece_count payload) xs)) (sym none)
           ∙ is.spanned;
-      places = omega (arith, is.places, is.count, ap (λ xs. length (flat_map (cut payload) xs)) none);
+      places = omega (arith, is.places, is.count, ap (λ xs. length (flat_map (cut_pieces payload) xs)) none);
     }
 
 pub over_within : (ops : List Op) (payload : ℕ) (progress : Progress) (spans : List Span) → Over ops payload progress

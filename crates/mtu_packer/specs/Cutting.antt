@@ -44,8 +44,8 @@ abbrev pub piece_count : ℕ → Op → ℕ
 piece_count payload op = div_ceil (op_count op) (piece_limit payload op)
 
 -- the pieces of an operation, in order
-abbrev pub cut : ℕ → Op → List Op
-cut payload op = map (piece payload op) (range_with_len 0 (piece_count payload op))
+abbrev pub cut_pieces : ℕ → Op → List Op
+cut_pieces payload op = map (piece payload op) (range_with_len 0 (piece_count payload op))
 
 -- a block has a word at least, and its addresses stay within 32 bits
 abbrev pub CanBeCut : Op → Type 0

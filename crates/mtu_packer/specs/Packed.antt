@@ -5,7 +5,7 @@ use Rattle.std.specs.List.{Any, flat_map, range_with_len}
 use Rattle.transaction_codec.specs.declared.request.Op.{Op}
 use Rattle.transaction_codec.specs.Answer.{reply_room}
 use Rattle.mtu_packer.specs.declared.packed.Piece.{Piece}
-use Rattle.mtu_packer.specs.Cutting.{cut, piece_count}
+use Rattle.mtu_packer.specs.Cutting.{cut_pieces, piece_count}
 use Rattle.mtu_packer.specs.Packing.{IsPacking, AreReadable, body_words, parts_of}
 
 -- the places in one body of so many pieces
@@ -36,7 +36,7 @@ pub record IsPacked (ops : List Op) (payload : ℕ) (contents : Contents) : Type
   pub packing : IsPacking ops payload parts
   pub readable : AreReadable parts
   pub bodies : contents.bodies ≡ map body_words parts
-  pub pieces : map (pieces_at parts) contents.pieces ≡ map (λ op. map Some (cut payload op)) ops
+  pub pieces : map (pieces_at parts) contents.pieces ≡ map (λ op. map Some (cut_pieces payload op)) ops
   pub places : flat_map (λ places. places) contents.pieces ≡ places_from 0 parts
 
 -- the next so many of a list for each count
@@ -46,8 +46,8 @@ deal (count ∷ counts) xs = take count xs ∷ deal counts (drop count xs)
 
 -- what packing operations answers, as a function of the payload and the operations: each operation has the places of as
 -- many pieces as it is cut into
-abbrev pub packed : ℕ → List Op → Contents
-packed payload ops = record {
+abbrev pub packed_contents : ℕ → List Op → Contents
+packed_contents payload ops = record {
   bodies = map body_words (parts_of payload ops);
   pieces = deal (map (piece_count payload) ops) (places_from 0 (parts_of payload ops));
 }

@@ -7,7 +7,7 @@ use Rattle.transaction_codec.specs.declared.request.Op.{Op}
 use Rattle.transaction_codec.specs.declared.request.Request.{Request}
 use Rattle.transaction_codec.specs.Request.{AreRequests, requests_words}
 use Rattle.transaction_codec.specs.Answer.{values_done}
-use Rattle.mtu_packer.specs.Cutting.{cut}
+use Rattle.mtu_packer.specs.Cutting.{cut_pieces}
 
 -- the requests of operations, with transaction identifiers that count on from a number
 abbrev pub requests_from : ℕ → List Op → List Request
@@ -38,7 +38,7 @@ AreFull payload (part ∷ (next ∷ parts)) = (¬ Fits payload (part ++ take 1 n
 
 -- The parts are the bodies, each as the list of its pieces, into which operations are packed.
 pub record IsPacking (ops : List Op) (payload : ℕ) (parts : List (List Op)) : Type 0 where
-  pub whole : flat_map (λ part. part) parts ≡ flat_map (cut payload) ops
+  pub whole : flat_map (λ part. part) parts ≡ flat_map (cut_pieces payload) ops
   pub filled : AllByRecursion (λ part. 0 < length part) parts
   pub fits : AllByRecursion (Fits payload) parts
   pub full : AreFull payload parts
@@ -61,7 +61,7 @@ parts_in payload (op ∷ ops) = parts_from payload (op ∷ []) ops
 
 -- the bodies, each as the list of its pieces, into which operations are packed
 abbrev pub parts_of : ℕ → List Op → List (List Op)
-parts_of payload ops = parts_in payload (flat_map (cut payload) ops)
+parts_of payload ops = parts_in payload (flat_map (cut_pieces payload) ops)
 
 -- every body has requests that a reader accepts: identifiers of 12 bits, counts of 8 and words of 32
 abbrev pub AreReadable : List (List Op) → Type 0

@@ -10,7 +10,7 @@ ghost use Rattle.transaction_codec.specs.declared.request.Request.{Request};
 ghost use Rattle.transaction_codec.specs.Request.{AreRequests, SpellsRequests, op_count, requests_words};
 ghost use Rattle.transaction_codec.specs.Answer.{IsLongestAnswer};
 ghost use Rattle.mtu_packer.specs.Accesses.{accesses};
-ghost use Rattle.mtu_packer.specs.Cutting.{CanBeCut, HasWords, cut};
+ghost use Rattle.mtu_packer.specs.Cutting.{CanBeCut, HasWords, cut_pieces};
 ghost use Rattle.mtu_packer.specs.Packing.{
   AreReadable,
   IsPacking,
@@ -19,7 +19,7 @@ ghost use Rattle.mtu_packer.specs.Packing.{
   longest_reply,
   parts_of,
 };
-ghost use Rattle.mtu_packer.specs.Packed.{Contents, HasPiece, IsPacked, packed, piece_at, places_from};
+ghost use Rattle.mtu_packer.specs.Packed.{Contents, HasPiece, IsPacked, packed_contents, piece_at, places_from};
 ghost use Rattle.mtu_packer.specs.Packed.{words_with_answer};
 ghost use Rattle.mtu_packer.specs.declared.packed.Piece.{Piece};
 
@@ -42,7 +42,7 @@ pub fn packing_is_a_function()
     ensures parts { (ops : List Op) (payload : ℕ) (parts : List (List Op)) → MIN_PAYLOAD ≤ payload →
         (IsPacking ops payload parts ↔ (parts ≡ parts_of payload ops)) }
     ensures contents { (ops : List Op) (payload : ℕ) (contents : Contents) → MIN_PAYLOAD ≤ payload →
-        (IsPacked ops payload contents ↔ (AreReadable (parts_of payload ops) × (contents ≡ packed payload ops))) }
+        (IsPacked ops payload contents ↔ (AreReadable (parts_of payload ops) × (contents ≡ packed_contents payload ops))) }
 {}
 
 /// The bodies are words of requests alone.
@@ -57,7 +57,7 @@ pub fn the_request_at_a_place_is_the_piece()
     ensures { (ops : List Op) (payload : ℕ) (contents : Contents) (k j : ℕ) (op piece : Op)
         (places : List Piece) (place : Piece) (requests : List Request) → IsPacked ops payload contents →
         slice_get ops k ≡ Some op → slice_get contents.pieces k ≡ Some places →
-        slice_get (cut payload op) j ≡ Some piece → slice_get places j ≡ Some place →
+        slice_get (cut_pieces payload op) j ≡ Some piece → slice_get places j ≡ Some place →
         AreRequests requests → slice_get contents.bodies place.body ≡ Some (requests_words requests) →
         slice_get requests place.index ≡ Some (record { tid = place.index; op = piece }) }
 {
@@ -68,15 +68,15 @@ pub fn the_request_at_a_place_is_the_piece()
 /// has requests that a reader accepts.
 pub fn operations_of_words_are_packed()
     ensures { (ops : List Op) (payload : ℕ) → MIN_PAYLOAD ≤ payload → payload ≤ MAX_PAYLOAD →
-        AllByRecursion CanBeCut ops → AllByRecursion HasWords ops → IsPacked ops payload (packed payload ops) }
+        AllByRecursion CanBeCut ops → AllByRecursion HasWords ops → IsPacked ops payload (packed_contents payload ops) }
 {}
 
 /// Each body has a piece, so none is sent for nothing.
 pub fn each_body_has_a_piece()
     ensures packing { (ops : List Op) (payload : ℕ) (contents : Contents) (body : ℕ) → IsPacked ops payload contents →
         body < length contents.bodies → HasPiece body contents.pieces }
-    ensures function { (ops : List Op) (payload body : ℕ) → body < length (packed payload ops).bodies →
-        HasPiece body (packed payload ops).pieces }
+    ensures function { (ops : List Op) (payload body : ℕ) → body < length (packed_contents payload ops).bodies →
+        HasPiece body (packed_contents payload ops).pieces }
 {}
 
 /// Operations have one packing, and so one list of bodies and of places.
@@ -102,7 +102,7 @@ pub fn the_longest_reply_is_the_longest_answer()
 /// There are no more pieces than words.
 pub fn pieces_are_no_more_than_words()
     ensures { (ops : List Op) (payload : ℕ) → MIN_PAYLOAD ≤ payload →
-        length (flat_map (cut payload) ops) ≤ sum_by op_count ops }
+        length (flat_map (cut_pieces payload) ops) ≤ sum_by op_count ops }
 {}
 
 /// A packing has few bodies, and they are short: a piece that is not the last one of its operation has 13 words at
@@ -130,8 +130,8 @@ pub fn a_long_write_is_cut()
 
 /// A block read of 600 words at a payload of 368 words, and the same of a port.
 pub fn a_block_read_is_cut_by_the_words_field()
-    ensures cut { cut 368 (Read 0x1000 600) ≡ Read 0x1000 255 ∷ Read 0x10ff 255 ∷ Read 0x11fe 90 ∷ [] }
-    ensures port { cut 368 (ReadPort 0x1000 600)
+    ensures cut { cut_pieces 368 (Read 0x1000 600) ≡ Read 0x1000 255 ∷ Read 0x10ff 255 ∷ Read 0x11fe 90 ∷ [] }
+    ensures port { cut_pieces 368 (ReadPort 0x1000 600)
         ≡ ReadPort 0x1000 255 ∷ ReadPort 0x1000 255 ∷ ReadPort 0x1000 90 ∷ [] }
     ensures packing { IsPacking (Read 0x1000 600 ∷ []) 368
         ((Read 0x1000 255 ∷ []) ∷ (Read 0x10ff 255 ∷ Read 0x11fe 90 ∷ []) ∷ []) }
@@ -142,5 +142,5 @@ pub fn a_block_read_is_cut_by_the_words_field()
 /// The pieces of an operation ask, one after the other, for the accesses of the operation.
 pub fn the_pieces_ask_for_the_accesses_of_the_operation()
     ensures { (op : Op) (payload : ℕ) → MIN_PAYLOAD ≤ payload →
-        flat_map accesses (cut payload op) ≡ accesses op }
+        flat_map accesses (cut_pieces payload op) ≡ accesses op }
 {}

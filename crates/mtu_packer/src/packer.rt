@@ -5,7 +5,7 @@ ghost use Rattle.transaction_codec.specs.declared.header_word.TheConstants.{MAX_
 ghost use Rattle.transaction_codec.specs.First.{op_of};
 ghost use Rattle.transaction_codec.specs.Request.{op_count};
 ghost use Rattle.mtu_packer.specs.Cutting as spec;
-ghost use Rattle.mtu_packer.specs.Cutting.{CanBeCut, cut};
+ghost use Rattle.mtu_packer.specs.Cutting.{CanBeCut, cut_pieces};
 ghost use Rattle.mtu_packer.specs.Span.{span_places, AreWithin};
 ghost use Rattle.mtu_packer.specs.Progress as progress;
 ghost use Rattle.mtu_packer.specs.Progress.{IsWithin, FitsAlone, step, run};
@@ -131,7 +131,7 @@ impl Packer {
         requires within { IsWithin self.old }
         requires few { length self.old.places + spec.piece_count self.old.payload op.now ≤ 2 ^ 31 }
         requires sound { CanBeCut op.now }
-        ensures taken { OnOk result (self.new ≡ run self.old (cut self.old.payload op.now)) }
+        ensures taken { OnOk result (self.new ≡ run self.old (cut_pieces self.old.payload op.now)) }
         ensures within { OnOk result (IsWithin self.new) }
         ensures places { IfOk result (λ count. count ≡ length self.new.places) }
     {

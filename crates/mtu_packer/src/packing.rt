@@ -1,6 +1,6 @@
 ghost use Rattle.std.specs.Prelude.{◌≡◌, ◌≤◌, ◌^◌, All, IfOk, length};
 ghost use Rattle.std.specs.List.{AllByRecursion, flat_map};
-ghost use Rattle.mtu_packer.specs.Cutting.{CanBeCut, cut};
+ghost use Rattle.mtu_packer.specs.Cutting.{CanBeCut, cut_pieces};
 ghost use Rattle.mtu_packer.specs.Packed.{FitsPackets, IsPacked};
 
 use crate::packed::{Packed, Span};
@@ -27,7 +27,7 @@ pub fn pack(alloc: Global, ops: &[Op], payload: u32) -> Result<Packed, NoMemory>
     requires payload_low { MIN_PAYLOAD ≤ payload }
     requires payload_high { payload ≤ MAX_PAYLOAD }
     requires sound { All CanBeCut ops.now }
-    requires few { length (flat_map (cut payload) ops.now) ≤ 2 ^ 31 }
+    requires few { length (flat_map (cut_pieces payload) ops.now) ≤ 2 ^ 31 }
     ensures packed { IfOk result (IsPacked ops.now payload) }
     ensures operations { IfOk result (λ packed. length packed.pieces ≡ length ops.now) }
     // Each body and the longest answer to it fit packets of that size.
@@ -47,7 +47,7 @@ pub fn pack_into(
     requires payload_low { MIN_PAYLOAD ≤ payload }
     requires payload_high { payload ≤ MAX_PAYLOAD }
     requires sound { All CanBeCut ops.now }
-    requires few { length (flat_map (cut payload) ops.now) ≤ 2 ^ 31 }
+    requires few { length (flat_map (cut_pieces payload) ops.now) ≤ 2 ^ 31 }
     ensures packed { IfOk result (IsPacked ops.now payload) }
     ensures operations { IfOk result (λ packed. length packed.pieces ≡ length ops.now) }
     // Each body and the longest answer to it fit packets of that size.

@@ -32,11 +32,11 @@ told_of Nothing = Ok Quiet
 told_of (Fault error) = Err Failed
 
 -- the link when what was heard is counted
-abbrev pub counted : Heard → UdpState → UdpState
-counted (Board count) link = record link { gots = one_more link.gots }
-counted Elsewhere link = record link { quiets = one_more link.quiets }
-counted Nothing link = record link { quiets = one_more link.quiets }
-counted (Fault error) link = record link { faults = one_more link.faults }
+abbrev pub with_heard_counted : Heard → UdpState → UdpState
+with_heard_counted (Board count) link = record link { gots = one_more link.gots }
+with_heard_counted Elsewhere link = record link { quiets = one_more link.quiets }
+with_heard_counted Nothing link = record link { quiets = one_more link.quiets }
+with_heard_counted (Fault error) link = record link { faults = one_more link.faults }
 
 -- the datagram of the board, where one was heard: the front of the buffer
 abbrev pub datagram_in : Heard → List ℕ → List ℕ

@@ -12,9 +12,9 @@ use Rattle.net_edges.specs.Numbers.{wait_nanos}
 use Rattle.net_edges.specs.declared.any_link.AnyLink.{AnyLink}
 use Rattle.net_edges.specs.declared.any_link.AnyLink.TheVariants.{Sim, Udp}
 
-abbrev pub telling_of : AnyLink → Option Telling
-telling_of (Sim link) = Some (network_telling link)
-telling_of (Udp link) = None
+abbrev pub telling_of_real : AnyLink → Option Telling
+telling_of_real (Sim link) = Some (network_telling link)
+telling_of_real (Udp link) = None
 
 abbrev pub faults_of : AnyLink → ℕ
 faults_of (Sim link) = link.faults

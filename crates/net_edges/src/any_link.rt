@@ -16,9 +16,9 @@ pub enum AnyLink {
 }
 
 impl Link for AnyLink {
-    ghost use Rattle.net_edges.specs.Links.{telling_of, faults_of, quiets_of, gots_of, held_of, receives_of};
+    ghost use Rattle.net_edges.specs.Links.{telling_of_real, faults_of, quiets_of, gots_of, held_of, receives_of};
 
-    ghost telling = { telling_of };
+    ghost telling = { telling_of_real };
 
     ghost faults = { faults_of };
 

@@ -4,7 +4,7 @@ ghost use Rattle.std.specs.Prelude.{◌≡◌, ◌≤◌, [], length, IfOk, IfSo
 ghost use Rattle.ipb_base.specs.Faults.{one_more};
 ghost use Rattle.world_core.specs.declared.link.TheConstants.{MAX_DATAGRAM};
 ghost use Rattle.world_core.specs.Receives.{receives_after};
-ghost use Rattle.net_edges.specs.Heard.{told_of, counted};
+ghost use Rattle.net_edges.specs.Heard.{told_of, with_heard_counted};
 ghost use Rattle.net_edges.specs.Numbers.{wait_nanos};
 
 use crate::bound::{BoundSocket, socket_that_waits};
@@ -165,7 +165,7 @@ impl UdpLink {
     // Counts what was heard, and answers what a receive does.
     fn count_heard(&mut self, heard: Heard) -> Result<Received, LinkFault>
         ensures told { result ≡ told_of heard }
-        ensures counted { self.new ≡ counted heard self.old }
+        ensures counted { self.new ≡ with_heard_counted heard self.old }
         ensures faults { self.old.faults ≤ self.new.faults }
         ensures quiets { self.old.quiets ≤ self.new.quiets }
         ensures gots { self.old.gots ≤ self.new.gots }

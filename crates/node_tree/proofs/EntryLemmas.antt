@@ -14,7 +14,7 @@ use Rattle.std.specs.FinMap.Entries.{below_all}
 use Rattle.std.specs.Option.{option_map_or}
 use Rattle.address_table.specs.declared.nodes.Table.{Table}
 use Rattle.node_tree.specs.Maps.{TableMap, nodes_of}
-use Rattle.node_tree.specs.Named.{Name, named}
+use Rattle.node_tree.specs.Named.{Name, named_entries}
 use Rattle.node_tree.proofs.NamedLemmas.{by_bytes}
 use Rattle.node_tree.proofs.SetLemmas.{equal_of}
 
@@ -106,19 +106,19 @@ module _ {V : Type 0} where
   -- the next entry, and those after it
   pub next_place : (m : FinMap by_bytes V) (done : List (Name × V)) (x : String Global × V)
       (left it : List (String Global × V))
-      → entries m ≡ done ++ named it → it ≡ x ∷ left → entries m ≡ done ++ (string_bytes x.0, x.1) ∷ named left
-  next_place m done x left it place steps = place ∙ ap (λ es. done ++ named es) steps
+      → entries m ≡ done ++ named_entries it → it ≡ x ∷ left → entries m ≡ done ++ (string_bytes x.0, x.1) ∷ named_entries left
+  next_place m done x left it place steps = place ∙ ap (λ es. done ++ named_entries es) steps
 
   pub past_place : (m : FinMap by_bytes V) (done : List (Name × V)) (x : String Global × V)
       (left : List (String Global × V))
-      → entries m ≡ done ++ (string_bytes x.0, x.1) ∷ named left
-      → entries m ≡ (done ++ (string_bytes x.0, x.1) ∷ []) ++ named left
-  past_place m done x left place = place ∙ sym (append_assoc done ((string_bytes x.0, x.1) ∷ []) (named left))
+      → entries m ≡ done ++ (string_bytes x.0, x.1) ∷ named_entries left
+      → entries m ≡ (done ++ (string_bytes x.0, x.1) ∷ []) ++ named_entries left
+  past_place m done x left place = place ∙ sym (append_assoc done ((string_bytes x.0, x.1) ∷ []) (named_entries left))
 
   -- all entries were visited
   pub no_more : (m : FinMap by_bytes V) (done : List (Name × V)) (it : List (String Global × V))
-      → entries m ≡ done ++ named it → it ≡ [] → entries m ≡ done
-  no_more m done it place is = place ∙ ap (λ es. done ++ named es) is ∙ append-nil done
+      → entries m ≡ done ++ named_entries it → it ≡ [] → entries m ≡ done
+  no_more m done it place is = place ∙ ap (λ es. done ++ named_entries es) is ∙ append-nil done
 
 -- the nodes of a table by its entry
 pub nodes-entry : (tables : TableMap) (k : Name) (t : Table) (done rest : List (Name × Table))

@@ -22,6 +22,7 @@ pub mod SettlingLemmas
 pub mod NameOrder
 pub mod TimelineLemmas
 pub mod IndexTexts
+mod RepeatNames
 pub mod RepeatLemmas
 pub mod SiblingLemmas
 pub mod Places

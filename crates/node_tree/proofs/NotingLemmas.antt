@@ -9,9 +9,9 @@ use Rattle.std.proofs.lemmas.List.{append-nil, take_more, take_all, drop_all, le
 use Rattle.std.proofs.lemmas.List.Elements.{Contains-push_cases}
 use Rattle.std.proofs.lemmas.Option.{slice_get_read, slice_get-map}
 use Rattle.node_tree.specs.declared.register.Register.{Register}
-use Rattle.node_tree.specs.Named.{Name, named}
+use Rattle.node_tree.specs.Named.{Name, named_entries}
 use Rattle.node_tree.specs.Overlaps.{overlap, overlap_at, passes}
-use Rattle.node_tree.specs.OverlapSearch.{AreFound, Lowers, IsSettled, IsNoted, lowered}
+use Rattle.node_tree.specs.OverlapSearch.{AreFound, Lowers, IsSettled, IsNoted, with_lowered}
 use Rattle.node_tree.proofs.OverlapLemmas.{Entry, plain}
 use Rattle.node_tree.proofs.CycleLemmas.{either}
 
@@ -20,7 +20,7 @@ Registers = List (Name × Register)
 
 -- the entry at a place, and whether two of them overlap
 pub get-plain : (es : List Entry) (i : ℕ) (e : Entry) → i < length es → e ≡ get_or es i e
-    → slice_get (named es) i ≡ Some (plain e)
+    → slice_get (named_entries es) i ≡ Some (plain e)
 get-plain es i e h here =
     slice_get-map plain es i ∙ ap (option_map plain) (slice_get_read es (length es) i e refl h here)
 
@@ -31,9 +31,9 @@ at-both xs i j a b p q =
 
 pub at-plain : (es : List Entry) (i j : ℕ) (a b : Entry) → i < length es → a ≡ get_or es i a → j < length es
     → b ≡ get_or es j b
-    → overlap_at (named es) i j ≡ overlap (plain a) (plain b)
+    → overlap_at (named_entries es) i j ≡ overlap (plain a) (plain b)
 at-plain es i j a b i_in a_is j_in b_is =
-    at-both (named es) i j (plain a) (plain b) (get-plain es i a i_in a_is) (get-plain es j b j_in b_is)
+    at-both (named_entries es) i j (plain a) (plain b) (get-plain es i a i_in a_is) (get-plain es j b j_in b_is)
 
 -- a list after one number was written
 get-set : (f : List ℕ) (b a k : ℕ)
@@ -81,26 +81,26 @@ lowers-write xs f at n better meets = record {
 
 -- lowering is a write, or nothing
 lowered-cases : (f : List ℕ) (at n : ℕ)
-    → ((n < slice_index f at) × (lowered f at n ≡ slice_set f at n)) ⊎ ((slice_index f at ≤ n) × (lowered f at n ≡ f))
+    → ((n < slice_index f at) × (with_lowered f at n ≡ slice_set f at n)) ⊎ ((slice_index f at ≤ n) × (with_lowered f at n ≡ f))
 lowered-cases f at n =
     either (cases_lt n (slice_index f at))
     (λ less. inl (less, ap (λ b. cond b (slice_set f at n) f) (lt-ltb n (slice_index f at) less)))
     (λ more. inr (more, ap (λ b. cond b (slice_set f at n) f) (le-ltb n (slice_index f at) more)))
 
 pub lowers-lowered : (xs : Registers) (f : List ℕ) (at n : ℕ) → (n < slice_index f at → overlap_at xs n at ≡ true)
-    → Lowers xs f (lowered f at n)
+    → Lowers xs f (with_lowered f at n)
 lowers-lowered xs f at n meets =
     either (lowered-cases f at n)
     (λ (less, is). subst (Lowers xs f) (sym is) (lowers-write xs f at n less (meets less)))
     (λ (more, is). subst (Lowers xs f) (sym is) (lowers-same xs f))
 
-pub lowered-value : (f : List ℕ) (at n : ℕ) → at < length f → slice_index (lowered f at n) at ≤ n
+pub lowered-value : (f : List ℕ) (at n : ℕ) → at < length f → slice_index (with_lowered f at n) at ≤ n
 lowered-value f at n within =
     either (lowered-cases f at n)
     (λ (less, is). let value = ap (λ g. slice_index g at) is ∙ get-set_same f at n within in omega (arith, value))
     (λ (more, is). let value = ap (λ g. slice_index g at) is in omega (arith, value))
 
-pub lowered-falls : (f : List ℕ) (at n k : ℕ) → slice_index (lowered f at n) k ≤ slice_index f k
+pub lowered-falls : (f : List ℕ) (at n k : ℕ) → slice_index (with_lowered f at n) k ≤ slice_index f k
 lowered-falls f at n k =
     either (lowered-cases f at n)
     (λ (less, is). either (get-set f at n k)
@@ -110,7 +110,7 @@ lowered-falls f at n k =
     (λ same. let whole = ap (λ g. slice_index g k) is in omega (arith, whole, same)))
     (λ (more, is). let whole = ap (λ g. slice_index g k) is in omega (arith, whole))
 
-pub length-lowered : (f : List ℕ) (at n : ℕ) → length (lowered f at n) ≡ length f
+pub length-lowered : (f : List ℕ) (at n : ℕ) → length (with_lowered f at n) ≡ length f
 length-lowered f at n =
     either (lowered-cases f at n) (λ (less, is). ap length is ∙ length-set f at n) (λ (more, is). ap length is)
 

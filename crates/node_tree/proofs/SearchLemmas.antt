@@ -9,7 +9,7 @@ use Rattle.std.proofs.lemmas.Bool.{cases_lt}
 use Rattle.std.proofs.lemmas.Cmp.{nat_list_cmp_total}
 use Rattle.std.specs.FinMap.{find, is_sorted}
 use Rattle.std.specs.FinMap.Entries.{below_all}
-use Rattle.node_tree.specs.Named.{Name, named}
+use Rattle.node_tree.specs.Named.{Name, named_entries}
 use Rattle.node_tree.proofs.NamedLemmas.{by_bytes}
 use Rattle.node_tree.proofs.EntryLemmas.{first, second, less_of}
 
@@ -50,7 +50,7 @@ module _ {V : Type 0} where
   find-none : (q : Name) (es : List (String Global × V))
       → ((k : ℕ) (d : String Global × V) → k < length es
       → (key_cmp q (get_or es k d) ≡ Less) ⊎ (key_cmp q (get_or es k d) ≡ Greater))
-      → find by_bytes q (named es) ≡ None
+      → find by_bytes q (named_entries es) ≡ None
   find-none q [] apart_all = refl
   find-none q (e ∷ es) apart_all =
       rw (no_tie (by_bytes q (string_bytes e.0)) (key_cmp q e) (nat_list_cmp_total.antisymm q (string_bytes e.0))
@@ -58,19 +58,19 @@ module _ {V : Type 0} where
       (find-none q es (λ k d h. apart_all (suc k) d (omega arith)))
 
   pub find-gap : (q : Name) (es : List (String Global × V)) (i : ℕ)
-      → IsPartitionPoint (λ e. key_cmp q e ≡ Less) (λ e. key_cmp q e ≡ Greater) es i → find by_bytes q (named es) ≡ None
+      → IsPartitionPoint (λ e. key_cmp q e ≡ Less) (λ e. key_cmp q e ≡ Greater) es i → find by_bytes q (named_entries es) ≡ None
   find-gap q es i parts =
       find-none q es (λ k d h. elim
       (cases_lt k i) [ inl low ↦ inl (parts.0 k d (omega arith) low) | inr high ↦ inr (parts.1 k d high h) ])
 
   -- a later name is above an earlier one
   head-below : (x : Name) (es : List (String Global × V)) (j : ℕ) (d : String Global × V)
-      → T (below_all by_bytes x (named es)) → j < length es → by_bytes x (string_bytes (get_or es j d).0) ≡ Less
+      → T (below_all by_bytes x (named_entries es)) → j < length es → by_bytes x (string_bytes (get_or es j d).0) ≡ Less
   head-below x [] j d h k = absurd (omega arith)
   head-below x (e ∷ es) zero d h k = less_of _ (first _ _ h)
   head-below x (e ∷ es) (suc j) d h k = head-below x es j d (second _ _ h) (omega arith)
 
-  rising : (es : List (String Global × V)) (i j : ℕ) (d : String Global × V) → T (is_sorted by_bytes (named es)) → i < j
+  rising : (es : List (String Global × V)) (i j : ℕ) (d : String Global × V) → T (is_sorted by_bytes (named_entries es)) → i < j
       → j < length es
       → by_bytes (string_bytes (get_or es i d).0) (string_bytes (get_or es j d).0) ≡ Less
   rising [] i j d h a b = absurd (omega arith)
@@ -79,7 +79,7 @@ module _ {V : Type 0} where
   rising (e ∷ es) (suc i) zero d h a b = absurd (omega arith)
   rising (e ∷ es) (suc i) (suc j) d h a b = rising es i j d (second _ _ h) (omega arith) (omega arith)
 
-  pub rises : (q : Name) (es : List (String Global × V)) → T (is_sorted by_bytes (named es))
+  pub rises : (q : Name) (es : List (String Global × V)) → T (is_sorted by_bytes (named_entries es))
       → IsNonDecreasingBy (λ e. ordering_index (key_cmp q e)) es
   rises q es h i j d le more =
       elim (eq-or-lt_of_le le) [
@@ -91,8 +91,8 @@ module _ {V : Type 0} where
 
   -- the entry at a place whose name is the one that is sought
   pub find-place : (q : Name) (es : List (String Global × V)) (i : ℕ) (e : String Global × V)
-      → T (is_sorted by_bytes (named es)) → i < length es → e ≡ get_or es i e → key_cmp q e ≡ Equal
-      → find by_bytes q (named es) ≡ Some e.1
+      → T (is_sorted by_bytes (named_entries es)) → i < length es → e ≡ get_or es i e → key_cmp q e ≡ Equal
+      → find by_bytes q (named_entries es) ≡ Some e.1
   find-place q [] i e h k here equal = absurd (omega arith)
   find-place q (x ∷ es) zero e h k here equal =
       let same : key_cmp q x ≡ Equal = subst (λ y. key_cmp q y ≡ Equal) here equal in

@@ -11,7 +11,7 @@ use Rattle.node_tree.specs.declared.overlapping.events.Event.{Event}
 use Rattle.node_tree.specs.declared.overlapping.settling.Test.{Test}
 use Rattle.node_tree.specs.declared.overlapping.settling.Test.TheVariants.{Each, Covers, HasBit}
 use Rattle.node_tree.specs.Overlaps.{overlap_at}
-use Rattle.node_tree.specs.OverlapSearch.{Lowers, lowered, lowered_to, lesser_of, Asks, Has, Meet, HasBits, AreEvents}
+use Rattle.node_tree.specs.OverlapSearch.{Lowers, with_lowered, lowered_to, lesser_of, Asks, Has, Meet, HasBits, AreEvents}
 use Rattle.node_tree.specs.OverlapSearch.{AreSettled, Settles, Passes, AsksWhere, SettlesWhere, GoesOn, IsPart}
 use Rattle.node_tree.specs.OverlapSearch.{HasNoneToSettle}
 use Rattle.node_tree.proofs.CycleLemmas.{either}
@@ -179,11 +179,11 @@ module _ (put asking : Test) (events : List Event) (i : ℕ) (e : Event) (within
           (λ before. let falls = falls_to f least y.place in omega (arith, falls, p.settles.settled x y before))
           (λ (there, same, put_x, passes_x, asking_y, passes_y).
           let (n, is, under) = p.least_put.below x there put_x passes_x in
-          let value : slice_index (lowered f e.place n) e.place ≤ n =
+          let value : slice_index (with_lowered f e.place n) e.place ≤ n =
           lowered-value f e.place n (omega (arith, p.each)) in
-          let now : slice_index (lowered_to f e.place least) y.place ≡ slice_index (lowered f e.place n) e.place =
+          let now : slice_index (lowered_to f e.place least) y.place ≡ slice_index (with_lowered f e.place n) e.place =
           ap (λ o. slice_index (lowered_to f e.place o) y.place) is
-          ∙ ap (λ z. slice_index (lowered f e.place n) z.place) (sym same) in
+          ∙ ap (λ z. slice_index (with_lowered f e.place n) z.place) (sym same) in
           omega (arith, value, now, under));
     };
     least_put = least_kept least (λ put_e _. false≢true (sym put_e ∙ own)) p.least_put;

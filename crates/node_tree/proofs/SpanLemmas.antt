@@ -8,7 +8,7 @@ use Rattle.std.proofs.lemmas.Bool.{lt-ltb, le-leb, ltb-true, leb-true, and_parts
 use Rattle.std.proofs.lemmas.List.Sums.{get_or-le-sum_by, sum_by-append, sum_by-cons, sum_by_more}
 use Rattle.std.proofs.lemmas.Option.{slice_get_within, get_or_from_slice_get}
 use Rattle.node_tree.specs.declared.register.Register.{Register}
-use Rattle.node_tree.specs.Named.{Name, named}
+use Rattle.node_tree.specs.Named.{Name, named_entries}
 use Rattle.node_tree.specs.Maps.{IsRegister}
 use Rattle.node_tree.specs.Overlaps.{overlap, overlapping, passes, takes_words, HasAddress, pair_with}
 use Rattle.node_tree.specs.OverlapSearch.{AreNamedRegisters}
@@ -137,16 +137,16 @@ none-from before (e ∷ es) all once =
 
 -- the entries by the bytes of their names
 sum-named : (f : Register → ℕ) (es : List (String Global × Register))
-    → sum_by (λ e. f e.1) (named es) ≡ sum_by (λ e. f e.1) es
+    → sum_by (λ e. f e.1) (named_entries es) ≡ sum_by (λ e. f e.1) es
 sum-named f [] = refl
 sum-named f (e ∷ es) =
-    let one = sum_by-cons (λ (x : Entry). f x.1) (string_bytes e.0, e.1) (named es) in
+    let one = sum_by-cons (λ (x : Entry). f x.1) (string_bytes e.0, e.1) (named_entries es) in
     let other = sum_by-cons (λ (x : String Global × Register). f x.1) e es in
     let rest = sum-named f es in
     omega (arith, one, other, rest)
 
-pub none-overlaps : (es : List (String Global × Register)) → AreNamedRegisters (named es) → AreApart es
-    → overlapping [] (named es) ≡ []
+pub none-overlaps : (es : List (String Global × Register)) → AreNamedRegisters (named_entries es) → AreApart es
+    → overlapping [] (named_entries es) ≡ []
 none-overlaps es all apart =
-    none-from [] (named es) all
+    none-from [] (named_entries es) all
     (λ address. let same = sum-named (register_takes address) es in let most = apart address in omega (arith, same, most))

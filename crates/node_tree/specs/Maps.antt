@@ -5,7 +5,7 @@ use Rattle.std.specs.Option.{option_map_or}
 use Rattle.std.specs.Ordering.{nat_cmp}
 use Rattle.std.specs.Cmp.Lexicographic.{slice_cmp}
 use Rattle.std.specs.FinMap.{FinMap, get, from_sorted}
-pub use Rattle.node_tree.specs.Named.{Name, named, AreInOrder}
+pub use Rattle.node_tree.specs.Named.{Name, named_entries, AreInOrder}
 use Rattle.address_table.specs.Valid.{FitsMode, IsValid}
 use Rattle.address_table.specs.declared.nodes.Table.{Table}
 use Rattle.address_table.specs.declared.nodes.Node.{Node}
@@ -41,4 +41,4 @@ AreRegisters registers = (name : Name) (r : Register) → get registers name ≡
 pub record AreEntries (es : List (String Global × Register)) : Type 0 where
   pub ordered : AreInOrder es
   pub few : length es ≤ most_nodes
-  pub registers : AreRegisters (from_sorted (named es))
+  pub registers : AreRegisters (from_sorted (named_entries es))

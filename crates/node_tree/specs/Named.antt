@@ -8,9 +8,9 @@ use Rattle.std.specs.declared.alloc.Global.{Global}
 abbrev pub Name : Type 0
 Name = List ℕ
 
-abbrev pub named : {V : Type 0} → List (String Global × V) → List (Name × V)
-named es = map (λ e. (string_bytes e.0, e.1)) es
+abbrev pub named_entries : {V : Type 0} → List (String Global × V) → List (Name × V)
+named_entries es = map (λ e. (string_bytes e.0, e.1)) es
 
 -- the names rise, and no two are equal
 abbrev pub AreInOrder : {V : Type 0} → List (String Global × V) → Type 0
-AreInOrder es = IsTrue (is_sorted (slice_cmp nat_cmp) (named es))
+AreInOrder es = IsTrue (is_sorted (slice_cmp nat_cmp) (named_entries es))

@@ -43,13 +43,13 @@ abbrev pub IsSettled : List (Name × Register) → List ℕ → ℕ → ℕ → 
 IsSettled es firsts a b = a < slice_index firsts b → overlap_at es a b ≡ false
 
 -- a list after the number at a place was lowered to another
-abbrev pub lowered : List ℕ → ℕ → ℕ → List ℕ
-lowered ns at n = if nat_lt n (slice_index ns at) then slice_set ns at n else ns
+abbrev pub with_lowered : List ℕ → ℕ → ℕ → List ℕ
+with_lowered ns at n = if nat_lt n (slice_index ns at) then slice_set ns at n else ns
 
 -- the same, where there is another
 abbrev pub lowered_to : List ℕ → ℕ → Option ℕ → List ℕ
 lowered_to ns at None = ns
-lowered_to ns at (Some n) = lowered ns at n
+lowered_to ns at (Some n) = with_lowered ns at n
 
 -- the lesser of two numbers, of which the first may be left out
 abbrev pub lesser_of : Option ℕ → ℕ → ℕ

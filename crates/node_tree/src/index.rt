@@ -4,7 +4,7 @@ ghost use Rattle.std.specs.Cmp.Lexicographic.{slice_cmp};
 ghost use Rattle.std.specs.FinMap as map;
 ghost use Rattle.node_tree.specs.Limits.{most_nodes};
 ghost use Rattle.node_tree.specs.Maps.{AreEntries, IsRegister};
-ghost use Rattle.node_tree.specs.Named.{named, AreInOrder};
+ghost use Rattle.node_tree.specs.Named.{named_entries, AreInOrder};
 ghost use Rattle.node_tree.specs.Overlaps.{overlapping};
 
 use crate::overlapping::overlapping_pairs;
@@ -23,14 +23,14 @@ pub struct Index {
 impl Model for Index {
     ghost use Rattle.std.specs.Coded.{coded_ℕ, coded_list};
     ghost use Rattle.std.specs.FinMap as map;
-    ghost use Rattle.node_tree.specs.Maps.{RegisterMap, AreEntries, named};
+    ghost use Rattle.node_tree.specs.Maps.{RegisterMap, AreEntries, named_entries};
     ghost use Rattle.node_tree.specs.contracts.register.Register as r;
 
     ghost Value = { RegisterMap };
 
     ghost coded = { map.code (coded_list coded_ℕ) r.the_row.coded };
 
-    ghost view = { λ index. map.from_sorted (named index.entries.items) };
+    ghost view = { λ index. map.from_sorted (named_entries index.entries.items) };
 
     ghost invariant = { λ index. AreEntries index.entries.items };
 }
@@ -39,7 +39,7 @@ impl Index {
     /// The index of entries in byte order.
     pub(crate) fn from_sorted(entries: Vec<(String, Register)>) -> Index
         requires { AreEntries entries.items }
-        ensures { result ≡ map.from_sorted (named entries.items) }
+        ensures { result ≡ map.from_sorted (named_entries entries.items) }
     {
         Index { entries }
     }
@@ -96,7 +96,7 @@ impl Index {
 /// The register of a name among entries in byte order.
 fn found_in(entries: &[(String, Register)], name: &str) -> Option<Register>
     requires { AreInOrder entries.now }
-    ensures { result ≡ map.find (slice_cmp nat_cmp) name.now (named entries.now) }
+    ensures { result ≡ map.find (slice_cmp nat_cmp) name.now (named_entries entries.now) }
 {
     match entries.binary_search_by(|entry| order(entry, name)) {
         Ok(i) => Some(entries[i].1),

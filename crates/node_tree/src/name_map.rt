@@ -1,6 +1,6 @@
 ghost use Rattle.std.specs.Prelude.{◌≡◌, OnOk, OnErr, option_copied};
 ghost use Rattle.std.specs.FinMap as map;
-ghost use Rattle.node_tree.specs.Named.{named};
+ghost use Rattle.node_tree.specs.Named.{named_entries};
 
 use address_table::NoMemory;
 use std::alloc::Global;
@@ -18,13 +18,13 @@ impl<V> Model for NameMap<V> {
     ghost use Rattle.std.specs.Cmp.Lexicographic.{slice_cmp};
     ghost use Rattle.std.specs.FinMap as map;
     ghost use Rattle.std.specs.Coded.{coded_ℕ, coded_list};
-    ghost use Rattle.node_tree.specs.Named.{named, AreInOrder};
+    ghost use Rattle.node_tree.specs.Named.{named_entries, AreInOrder};
 
     ghost Value = { map.FinMap (slice_cmp nat_cmp) V };
 
     ghost coded = { map.code (coded_list coded_ℕ) V.code };
 
-    ghost view = { λ m. map.from_sorted (named m.by_name.entries) };
+    ghost view = { λ m. map.from_sorted (named_entries m.by_name.entries) };
 
     ghost invariant = { λ m. AreInOrder m.by_name.entries };
 }
@@ -62,13 +62,13 @@ impl<V: Drop> NameMap<V> {
 
     /// The names and values, in byte order of the names.
     pub(crate) fn entries(&self) -> &BTreeMap<String, V>
-        ensures { named result.now.entries ≡ map.entries self.now }
+        ensures { named_entries result.now.entries ≡ map.entries self.now }
     {
         &self.by_name
     }
 
     pub(crate) fn into_entries(self) -> BTreeMap<String, V>
-        ensures { named result.entries ≡ map.entries self }
+        ensures { named_entries result.entries ≡ map.entries self }
     {
         let NameMap { by_name } = self;
         by_name

@@ -2,7 +2,7 @@
 ghost use Rattle.std.specs.Prelude.{◌≡◌, ◌<◌, ◌≤◌, ◌++◌, [], IfOk, length, option_to_list};
 ghost use Rattle.std.specs.List.{All};
 ghost use Rattle.node_tree.specs.Limits.{most_nodes};
-ghost use Rattle.node_tree.specs.Named.{named, AreInOrder};
+ghost use Rattle.node_tree.specs.Named.{named_entries, AreInOrder};
 ghost use Rattle.node_tree.specs.Overlaps as spec;
 ghost use Rattle.node_tree.specs.OverlapSearch.{pair_before, AreNamedRegisters, AreFirsts};
 
@@ -42,8 +42,8 @@ pub(crate) fn overlapping_pairs(
 ) -> Result<Vec<(u32, u32)>, NoMemory>
     requires few { length entries.now ≤ most_nodes }
     requires in_order { AreInOrder entries.now }
-    requires registers { AreNamedRegisters (named entries.now) }
-    ensures { IfOk result (λ pairs. pairs.items ≡ spec.overlapping [] (named entries.now)) }
+    requires registers { AreNamedRegisters (named_entries entries.now) }
+    ensures { IfOk result (λ pairs. pairs.items ≡ spec.overlapping [] (named_entries entries.now)) }
 {
     if are_apart(alloc, entries)? {
         return Ok(Vec::new(alloc));
@@ -60,8 +60,8 @@ pub(crate) fn overlapping_pairs(
 /// For each entry the place of the first that it overlaps; a place that is not before it where there is none.
 fn first_overlaps(alloc: Global, entries: &[Entry]) -> Result<Vec<usize>, NoMemory>
     requires in_order { AreInOrder entries.now }
-    requires registers { AreNamedRegisters (named entries.now) }
-    ensures { IfOk result (λ firsts. AreFirsts (named entries.now) firsts.items) }
+    requires registers { AreNamedRegisters (named_entries entries.now) }
+    ensures { IfOk result (λ firsts. AreFirsts (named_entries entries.now) firsts.items) }
 {
     let mut firsts = vec![in alloc; entries.len(); entries.len()]?;
     lower_firsts(alloc, entries, &mut firsts)?;
@@ -71,10 +71,10 @@ fn first_overlaps(alloc: Global, entries: &[Entry]) -> Result<Vec<usize>, NoMemo
 /// The same, in a list that has no place before an entry.
 fn lower_firsts(alloc: Global, entries: &[Entry], firsts: &mut [usize]) -> Result<(), NoMemory>
     requires in_order { AreInOrder entries.now }
-    requires registers { AreNamedRegisters (named entries.now) }
+    requires registers { AreNamedRegisters (named_entries entries.now) }
     requires lengths { length firsts.old ≡ length entries.now }
     requires none { All (λ place. place ≡ length entries.now) firsts.old }
-    ensures { IfOk result (λ _. AreFirsts (named entries.now) firsts.new) }
+    ensures { IfOk result (λ _. AreFirsts (named_entries entries.now) firsts.new) }
 {
     let events = events_of(alloc, entries, firsts)?;
     settle(alloc, events, 0, 32, firsts)

@@ -2,7 +2,7 @@ ghost use Rattle.std.specs.Prelude.{◌≡◌, OnOk, OnErr, option_copied};
 ghost use Rattle.std.specs.FinMap as map;
 ghost use Rattle.address_table.specs.Valid.{IsValid};
 ghost use Rattle.node_tree.specs.Maps.{AreValidTables};
-ghost use Rattle.node_tree.specs.Named.{named};
+ghost use Rattle.node_tree.specs.Named.{named_entries};
 
 use crate::name_map::NameMap;
 use address_table::{NoMemory, Table};
@@ -70,7 +70,7 @@ impl Tables {
 
     /// The names and tables, in byte order of the names.
     pub(crate) fn entries(&self) -> &BTreeMap<String, Table>
-        ensures { named result.now.entries ≡ map.entries self.now }
+        ensures { named_entries result.now.entries ≡ map.entries self.now }
     {
         self.by_name.entries()
     }

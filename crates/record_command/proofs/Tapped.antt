@@ -6,7 +6,7 @@ use Rattle.std.specs.Global.{Vec}
 use Rattle.ipb_base.specs.Lists.{IsPrefix}
 use Rattle.std.specs.List.{AllByRecursion}
 use Rattle.world_core.specs.Telling.{Telling}
-use Rattle.world_model.specs.Board.{executed}
+use Rattle.world_model.specs.Board.{bodies_executed}
 use Rattle.world_model.specs.Facts.{bodies_of}
 use Rattle.world_model.specs.Hub.{Hub}
 use Rattle.world_model.specs.Settings.{Limits}
@@ -119,14 +119,14 @@ abbrev pub ExecutedLaw : Type 0
 ExecutedLaw = (stopped : Bool) (limits : Limits) (hub : Hub) (outcomes : List (Option Outcome))
     (lates : List (Option (List ℕ))) (t : Telling) (items : List Caught)
     → IsStanding stopped limits hub outcomes lates t → IsTrafficOf t items
-    → IsPrefix (executed t.told.board) (bodies_in (record { first = t.told.board.first; items = items }))
+    → IsPrefix (bodies_executed t.told.board) (bodies_in (record { first = t.told.board.first; items = items }))
 
 abbrev pub ProvedLaw : Type 0
 ProvedLaw = (stopped : Bool) (limits : Limits) (hub : Hub) (outcomes : List (Option Outcome))
     (lates : List (Option (List ℕ))) (t : Telling) (items : List Caught) (proved : ℕ)
     → IsStanding stopped limits hub outcomes lates t → IsTrafficOf t items
     → AreItems items → IsProved (record { first = t.told.board.first; items = items }) proved
-    → proved ≤ length (executed t.told.board)
+    → proved ≤ length (bodies_executed t.told.board)
 
 module _ (sent : SentLaw) (executes : ExecutedLaw) (proves : ProvedLaw) (front : FirstLaw) where
   shows_traffic : (spec : BoardSpec) (steps : List (List Step)) (t : Telling) (first : ℕ) (items : List Caught)
@@ -140,7 +140,7 @@ module _ (sent : SentLaw) (executes : ExecutedLaw) (proves : ProvedLaw) (front :
             (front spec 0 steps (bodies_in (record { first = t.told.board.first; items = items }))
             (bodies_of stood.hub.sent)
             (sent stood.stopped stood.limits stood.hub stood.outcomes stood.lates t items stood.standing traffic) stood.sent);
-        executed_first = subst (λ (n : ℕ). IsPrefix (executed t.told.board)
+        executed_first = subst (λ (n : ℕ). IsPrefix (bodies_executed t.told.board)
             (bodies_in (record { first = n; items = items }))) from
             (executes stood.stopped stood.limits stood.hub stood.outcomes stood.lates t items stood.standing traffic);
         executed_proved = proves stood.stopped stood.limits stood.hub stood.outcomes stood.lates t items proved stood.standing

@@ -11,7 +11,7 @@
 --   what the scripts ask         IsMergeOfAsked                          lane_history/specs/Runs
 use Rattle.std.specs.Prelude.{◌≡◌, ℕ, ◌≤◌, ◌==◌, ◌&&◌, List, [], ◌∷◌, length, sum_by, Option, Some, None}
 use Rattle.ipb_base.specs.Lists.{IsPrefix}
-use Rattle.world_model.specs.Board.{executed}
+use Rattle.world_model.specs.Board.{bodies_executed}
 use Rattle.board_node.specs.declared.spec.BoardSpec.{BoardSpec}
 use Rattle.board_node.specs.declared.spec.LinkSpec.{LinkSpec}
 use Rattle.board_node.specs.declared.spec.LinkSpec.TheVariants.{Sim, Udp}
@@ -58,8 +58,8 @@ pub record ShowsTraffic (board : BoardSpec) (steps : List (List Step)) (capture 
   -- board, each client's in the order of its script
   pub sent : IsMergeOfAsked board 0 steps (bodies_in capture)
   -- the board executed the first of them, at least as many as are proved
-  pub executed_first : IsPrefix (executed telling.told.board) (bodies_in capture)
-  pub executed_proved : proved ≤ length (executed telling.told.board)
+  pub executed_first : IsPrefix (bodies_executed telling.told.board) (bodies_in capture)
+  pub executed_proved : proved ≤ length (bodies_executed telling.told.board)
 
 -- Of the bytes of the input, what the link that was given back shows, the status and the text:
 pub record IsRecordOf (bytes : List ℕ) (links : List LinkReport) (status : ℕ) (text : List ℕ) : Type 0 where

@@ -12,8 +12,8 @@ pub record TapsState (L : Type 0) : Type 0 where
   pub faults : ℕ
 
 -- what contracts see of a tap is what they see of its link
-abbrev pub tapped : {L : Type 0} → Ghosts L → Ghosts (Tapped L)
-tapped seen = record {
+abbrev pub tap_ghosts : {L : Type 0} → Ghosts L → Ghosts (Tapped L)
+tap_ghosts seen = record {
   telling = λ tap. seen.telling tap.link;
   faults = λ tap. seen.faults tap.link;
   quiets = λ tap. seen.quiets tap.link;

@@ -20,7 +20,7 @@ ghost use Rattle.command_terms.specs.Outside.{NoneCame, no_pairs};
 ghost use Rattle.capture_reader.specs.CaptureText.{AreItems};
 ghost use Rattle.record_command.specs.Headline as spec;
 ghost use Rattle.record_command.specs.Steps.{RecordLeaves, WritesOf};
-ghost use Rattle.record_command.specs.Taps.{tapped};
+ghost use Rattle.record_command.specs.Taps.{tap_ghosts};
 ghost use Rattle.record_command.specs.Terms.{record_terms};
 
 use crate::taps::Taps;
@@ -151,7 +151,7 @@ fn greet_tapped<R: Rack>(
 ) -> Result<Greeted<TapLink<R::L>>, RackFault>
     requires reached { CanBeReached spec.now }
     ensures reached { IfOk result (λ board. IsReached settings spec.now board
-        (shown_by (tapped R.L.Link) (link_of board))) }
+        (shown_by (tap_ghosts R.L.Link) (link_of board))) }
     ensures faults { RisesExactlyIf (result ≡ Err RackFault.Failed) (R.faults rack.old) (R.faults rack.new) }
     ensures kept { R.kept rack.new ≡ R.kept rack.old }
     ensures made { R.made rack.new ≡ made_after result spec.now.link (R.made rack.old) }
@@ -186,7 +186,7 @@ fn run_tapped<L: Link + Send + Drop, T: Threads + Wait + Sync, G: Gate>(
     requires one { length specs.now ≡ 1 }
     requires can { CanBeRun steps.now }
     requires reached { (spec : BoardSpec) → specs.now ≡ spec ∷ []
-        → IsReached settings spec greeted (shown_by (tapped L.Link) (link_of greeted)) }
+        → IsReached settings spec greeted (shown_by (tap_ghosts L.Link) (link_of greeted)) }
     requires empty { room.items ≡ [] }
     requires room { 1 ≤ vec_capacity room }
     requires none_kept { taps.kept ≡ [] }

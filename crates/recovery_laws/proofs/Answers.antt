@@ -18,13 +18,13 @@ use Rattle.packet_ids.specs.Identifier.{identifier_at}
 use Rattle.status_packet.specs.Range.{IsMtu}
 use Rattle.world_model.specs.declared.heard.LogEntry.{LogEntry}
 use Rattle.world_model.specs.Messages.{Reply as ReplyTo, control_packet, to_hub}
-use Rattle.world_model.specs.Board.{Board, body_of, executed, expected, held, numbered, numbered_replies}
+use Rattle.world_model.specs.Board.{Board, body_of, bodies_executed, expected_identifier, held_replies, numbered_count, numbered_replies}
 use Rattle.world_model.specs.Board.{present_bus, replies, with_id}
 use Rattle.world_model.specs.Facts.{IsBoard, IsLogged, IsSendable}
 use Rattle.world_model.proofs.Places.{id_fits}
 use Rattle.recovery_laws.specs.Below.{RecoveryLaws}
-use Rattle.recovery_laws.specs.UnderWay.{done}
-use Rattle.recovery_laws.proofs.Reading.{reply_read}
+use Rattle.recovery_laws.specs.UnderWay.{count_executed}
+use Rattle.world_model.proofs.Readings.{reply_read}
 
 -- ---- answers are words
 
@@ -64,13 +64,13 @@ logged_words : (mtu : ℕ) (log : List LogEntry) → AllByRecursion (IsLogged mt
 logged_words mtu [] all = tt
 logged_words mtu (e ∷ log) all = (all.0.words, logged_words mtu log all.1)
 
-pub numbered_all : (mtu : ℕ) (log : List LogEntry) → AllByRecursion (IsLogged mtu) log → numbered log ≡ length log
+pub numbered_all : (mtu : ℕ) (log : List LogEntry) → AllByRecursion (IsLogged mtu) log → numbered_count log ≡ length log
 numbered_all mtu [] all = refl
 numbered_all mtu (e ∷ es) all = rw all.0.numbered (let h = numbered_all mtu es all.1 in omega (arith, h))
 
-pub expects_next : (first : ℕ) (b : Board) → IsBoard first b → expected b ≡ identifier_at first (done b + 1)
+pub expects_next : (first : ℕ) (b : Board) → IsBoard first b → expected_identifier b ≡ identifier_at first (count_executed b + 1)
 expects_next first b is = ap (λ (k : ℕ). identifier_at b.first (k + 1)) (numbered_all b.mtu b.log is.log) ∙ ap (λ (f :
-    ℕ). identifier_at f (done b + 1)) (sym is.same_first)
+    ℕ). identifier_at f (count_executed b + 1)) (sym is.same_first)
 
 module _ (below : RecoveryLaws) where
   -- a reply can be sent where its body fits
@@ -85,7 +85,7 @@ module _ (below : RecoveryLaws) where
   pub new_reply_sendable : (first : ℕ) (b : Board) (body : List ℕ) → IsBoard first b → AreWords body
       → reply_room body + 1 ≤ payload_of b.mtu → IsSendable (run_body (present_bus b) body).reply
   new_reply_sendable first b body is words room =
-      let holds = below.words_stay b.opening (executed b) is.opening (logged_words b.mtu b.log is.log) in
+      let holds = below.words_stay b.opening (bodies_executed b) is.opening (logged_words b.mtu b.log is.log) in
       reply_sendable b.mtu body (run_body (present_bus b) body).reply (present_bus b) is.mtu (below.answer
       (present_bus b) body holds words) (below.room (present_bus b) body) room
 
@@ -112,7 +112,7 @@ module _ (below : RecoveryLaws) where
       elim e.numbered as (λ b. AllByRecursion IsReadable (cond b (control_packet e.order (identifier_at first place) r
       ∷ numbered_replies first (place + 1) log rs) (numbered_replies first place log rs))) [
         | true ↦ (
-          reply_read below e.order (identifier_at first place) r (id_fits first place) all.0,
+          reply_read below.back e.order (identifier_at first place) r (id_fits first place) all.0,
           numbered_readable first (place + 1) log rs all.1,
         )
         | false ↦ numbered_readable first place log rs all.1
@@ -137,11 +137,11 @@ module _ (below : RecoveryLaws) where
       ] refl e
 
   -- a held reply with an identifier is read as one with it
-  pub held_read : (first : ℕ) (b : Board) (id : ℕ) (p : Packet) → IsBoard first b → with_id id (held b) ≡ Some p
+  pub held_read : (first : ℕ) (b : Board) (id : ℕ) (p : Packet) → IsBoard first b → with_id id (held_replies b) ≡ Some p
       → to_hub (packet_bytes p) ≡ Some (ReplyTo id p.body)
   held_read first b id p is e =
       let packets = numbered_replies b.first 1 b.log (replies b) in
       let readable = all_drop IsReadable (length packets - b.buffers) packets (numbered_readable b.first 1 b.log
       (replies b) (replayed_sendable b.mtu b.opening b.log is.mtu is.opening is.log)) in
-      let found = with_id_is IsReadable id (held b) p readable e in
+      let found = with_id_is IsReadable id (held_replies b) p readable e in
       found.0 ∙ ap (λ (n : ℕ). Some (ReplyTo n p.body)) found.1

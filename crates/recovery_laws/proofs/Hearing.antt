@@ -19,26 +19,26 @@ use Rattle.world_model.specs.declared.heard.Heard.TheVariants.{Resent}
 use Rattle.world_model.specs.declared.heard.DropCause.TheVariants as causes
 use Rattle.world_model.specs.Messages.{ControlPacket, ResendRequest, StatusRequest, ToBoard}
 use Rattle.world_model.specs.Messages.{control_packet, to_board, to_hub}
-use Rattle.world_model.specs.Board.{Board, Hearing, dropped, execute, executed, expected, hear, hear_control}
-use Rattle.world_model.specs.Board.{hear_message, held, is_too_long, numbered, present_bus, send_again, tell_status}
+use Rattle.world_model.specs.Board.{Board, Hearing, hearing_dropped, execute, bodies_executed, expected_identifier, hear, hear_control}
+use Rattle.world_model.specs.Board.{hear_message, held_replies, is_too_long, numbered_count, present_bus, send_again, tell_status}
 use Rattle.world_model.specs.Board.{with_id}
 use Rattle.world_model.specs.Facts.{IsBoard, IsExecuted, IsLogged, IsWindow, has}
 use Rattle.world_model.proofs.Lists.{either, front_length}
 use Rattle.world_model.proofs.Places.{has_from, id_fits, is_identifier}
 use Rattle.recovery_laws.specs.Below.{RecoveryLaws}
-use Rattle.recovery_laws.specs.UnderWay.{AsksBoard, TellsHub, done}
+use Rattle.recovery_laws.specs.UnderWay.{AsksBoard, TellsHub, count_executed}
 use Rattle.recovery_laws.proofs.Answers.{expects_next, held_read, new_reply_sendable, numbered_all}
-use Rattle.recovery_laws.proofs.Reading.{reply_read, status_read}
+use Rattle.world_model.proofs.Readings.{reply_read, status_read}
 
 -- what is known of a board, beside the bodies that were sent to it
 pub record IsPlaced (first window : ℕ) (all : List (List ℕ)) (ps : List ℕ) (b : Board) : Type 0 where
   pub node : IsBoard first b
-  pub log : IsExecuted all (executed b) ps
+  pub log : IsExecuted all (bodies_executed b) ps
   pub hub : IsWindow window (length all) ps
   pub most : window ≤ b.buffers
 
 pub record Grows (first : ℕ) (ps : List ℕ) (b : Board) (h : Hearing) : Type 0 where
-  pub one_more : done h.board ≡ done b + 1
+  pub one_more : count_executed h.board ≡ count_executed b + 1
   pub bytes : List ℕ
   pub answer : h.answer ≡ Some bytes
   pub tells : TellsHub first ps h.board (to_hub bytes)
@@ -57,14 +57,14 @@ Hears first ps b m h = Grows first ps b h ⊎ StaysAs first ps b m h
 
 -- an open place that was executed is among the last ones
 among_last : (first window : ℕ) (all : List (List ℕ)) (ps : List ℕ) (b : Board) (place : ℕ)
-    → IsPlaced first window all ps b → has place ps ≡ true → 1 ≤ place → place ≤ done b → IsAmongLast b place
+    → IsPlaced first window all ps b → has place ps ≡ true → 1 ≤ place → place ≤ count_executed b → IsAmongLast b place
 among_last first window all ps b place is there one le =
     let count = numbered_all b.mtu b.log is.node.log in
     let low = has_from place _ _ ps is.hub.rising there in
     let w = is.hub.within in
     let most = is.most in
     let long = length-map b.log (λ (e : LogEntry). e.body) in
-    let front = front_length (executed b) all is.log.front in
+    let front = front_length (bodies_executed b) all is.log.front in
     record {
       from_one = one;
       executed = omega (arith, count, le);
@@ -85,17 +85,17 @@ module _ (below : RecoveryLaws) where
   status_hears first window all ps b is = inr (record {
     same = refl;
     answers = λ asks. record {
-      bytes = packet_bytes (status_reply b.mtu b.buffers (expected b));
+      bytes = packet_bytes (status_reply b.mtu b.buffers (expected_identifier b));
       answer = refl;
-      tells = subst (TellsHub first ps b) (sym (status_read below b.mtu b.buffers (expected b) is.node.mtu
-          is.node.buffers (is_identifier b.first (numbered b.log + 1))))
+      tells = subst (TellsHub first ps b) (sym (status_read below.back b.mtu b.buffers (expected_identifier b) is.node.mtu
+          is.node.buffers (is_identifier b.first (numbered_count b.log + 1))))
           (expects_next first b is.node);
     };
   })
 
   resend_hears : (first window : ℕ) (all : List (List ℕ)) (ps : List ℕ) (b : Board) (bytes : List ℕ) (id : ℕ) (r :
       Option Packet) → IsPlaced first window all ps b → to_board bytes ≡ Some (ResendRequest id)
-      → with_id id (held b) ≡ r → Hears first ps b (Some (ResendRequest id)) (send_again b r)
+      → with_id id (held_replies b) ≡ r → Hears first ps b (Some (ResendRequest id)) (send_again b r)
   resend_hears first window all ps b bytes id None is e found = inr (record {
     same = refl;
     answers = λ asks.
@@ -103,7 +103,7 @@ module _ (below : RecoveryLaws) where
         let named : identifier_at b.first asks.0 ≡ id = ap (λ (f : ℕ). identifier_at f asks.0) (sym
         is.node.same_first) ∙ sym asks.4 in
         let resent : (hear b bytes).heard ≡ Resent = below.held b bytes id asks.0 e last named in
-        let here : (send_again b (with_id id (held b))).heard ≡ Resent = subst (λ (m : Option ToBoard). (hear_message
+        let here : (send_again b (with_id id (held_replies b))).heard ≡ Resent = subst (λ (m : Option ToBoard). (hear_message
         b m).heard ≡ Resent) e resent in
         let none : (send_again b None).heard ≡ Resent = subst (λ (p : Option Packet). (send_again b p).heard ≡ Resent)
         found here in
@@ -121,29 +121,29 @@ module _ (below : RecoveryLaws) where
   executed_hears : (first window : ℕ) (all : List (List ℕ)) (ps : List ℕ) (b : Board) (order : Order) (id : ℕ) (body :
       List ℕ) → IsPlaced first window all ps b
       → IsPlaced first window all ps (execute b id (record { numbered = true; order = order; body = body })).board
-      → id ≡ expected b
+      → id ≡ expected_identifier b
       → Grows first ps b (execute b id (record { numbered = true; order = order; body = body }))
   executed_hears first window all ps b order id body is after named =
       let e : LogEntry = record { numbered = true; order = order; body = body } in
       let logged : IsLogged b.mtu e = (back_of_all (IsLogged b.mtu) b.log (e ∷ []) after.node.log).0 in
       let reply = (run_body (present_bus b) body).reply in
       let can = new_reply_sendable below first b body is.node logged.words logged.room in
-      let next : id ≡ identifier_at first (done b + 1) = named ∙ expects_next first b is.node in
-      let fits = id_fits first (done b + 1) in
+      let next : id ≡ identifier_at first (count_executed b + 1) = named ∙ expects_next first b is.node in
+      let fits = id_fits first (count_executed b + 1) in
       let longer = length-append b.log (e ∷ []) in
-      let front = front_length (executed (execute b id e).board) all after.log.front in
+      let front = front_length (bodies_executed (execute b id e).board) all after.log.front in
       let long = length-map (b.log ++ e ∷ []) (λ (x : LogEntry). x.body) in
       let before = length-map b.log (λ (x : LogEntry). x.body) in
-      let there = is.log.unheard (done b + 1) (omega (arith, before)) (omega (arith, front, long, longer)) in
+      let there = is.log.unheard (count_executed b + 1) (omega (arith, before)) (omega (arith, front, long, longer)) in
       record {
         one_more = longer;
         bytes = packet_bytes (control_packet order id reply);
         answer = refl;
-        tells = subst (TellsHub first ps (execute b id e).board) (sym (reply_read below order id reply (omega (
+        tells = subst (TellsHub first ps (execute b id e).board) (sym (reply_read below.back order id reply (omega (
           arith,
           next,
           fits,
-        )) can)) (done b + 1, there, next);
+        )) can)) (count_executed b + 1, there, next);
       }
 
   control_hears : (first window : ℕ) (all : List (List ℕ)) (ps : List ℕ) (b : Board) (order : Order) (id : ℕ) (body :
@@ -154,22 +154,22 @@ module _ (below : RecoveryLaws) where
       let m = Some (ControlPacket order id body) in
       let free : LogEntry = record { numbered = false; order = order; body = body } in
       let entry : LogEntry = record { numbered = true; order = order; body = body } in
-      let last = if id == expected b then execute b id entry else dropped b causes.OtherId in
+      let last = if id == expected_identifier b then execute b id entry else hearing_dropped b causes.OtherId in
       let second = if id == 0 then execute b id free else last in
       either (λ (h : Hearing). IsPlaced first window all ps h.board
-      → Hears first ps b m h) (is_too_long b body) (dropped b causes.TooLong) second
+      → Hears first ps b m h) (is_too_long b body) (hearing_dropped b causes.TooLong) second
       (λ long after. inr (record { same = refl; answers = λ asks. let fits = asks.2 in absurd (cc) }))
       (λ short after. either (λ (h : Hearing). IsPlaced first window all ps h.board
       → Hears first ps b m h) (id == 0) (execute b id free) last
       (λ zero_id after. let logged = (back_of_all (IsLogged b.mtu) b.log (free ∷ []) after.node.log).0.numbered in
       absurd (cc))
       (λ some_id after. either (λ (h : Hearing). IsPlaced first window all ps h.board
-      → Hears first ps b m h) (id == expected b) (execute b id entry) (dropped b causes.OtherId)
-      (λ expects after. inl (executed_hears first window all ps b order id body is after (eqb-true id (expected b)
+      → Hears first ps b m h) (id == expected_identifier b) (execute b id entry) (hearing_dropped b causes.OtherId)
+      (λ expects after. inl (executed_hears first window all ps b order id body is after (eqb-true id (expected_identifier b)
       expects)))
       (λ other after. inr (record {
         same = refl;
-        answers = λ asks. absurd (eqb-false id (expected b) other (asks.1 ∙ sym (expects_next first b is.node)));
+        answers = λ asks. absurd (eqb-false id (expected_identifier b) other (asks.1 ∙ sym (expects_next first b is.node)));
       }))
       after)
       after)
@@ -182,6 +182,6 @@ module _ (below : RecoveryLaws) where
   board_hears first window all ps b bytes None e is after = inr (record { same = refl; answers = λ asks. absurd asks })
   board_hears first window all ps b bytes (Some StatusRequest) e is after = status_hears first window all ps b is
   board_hears first window all ps b bytes (Some (ResendRequest id)) e is after = resend_hears first window all ps b
-      bytes id (with_id id (held b)) is e refl
+      bytes id (with_id id (held_replies b)) is e refl
   board_hears first window all ps b bytes (Some (ControlPacket order id body)) e is after = control_hears first window
       all ps b order id body is after

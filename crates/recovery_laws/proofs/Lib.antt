@@ -1,4 +1,3 @@
-mod Reading
 mod Answers
 mod Hearing
 pub mod Heard

@@ -9,16 +9,16 @@ use Rattle.std.specs.Prelude.{nat_lt}
 use Rattle.packet_ids.specs.Identifier.{identifier_at}
 use Rattle.world_model.specs.declared.offered.OpenPlace.{OpenPlace}
 use Rattle.world_model.specs.Messages.{Reply, StatusReply, ToHub}
-use Rattle.world_model.specs.Board.{executed}
+use Rattle.world_model.specs.Board.{bodies_executed}
 use Rattle.world_model.specs.Hub.{Hub, least, low}
-use Rattle.world_model.specs.Hub.{open_with, place_with, places, recover, recovered}
+use Rattle.world_model.specs.Hub.{open_with, place_with, places, recover, after_recovery}
 use Rattle.world_model.specs.Hub.{settle, take_message, told_place}
 use Rattle.world_model.specs.Facts.{IsExecuted, IsWindow, bodies_of, has, offered_body}
 use Rattle.world_model.proofs.Lists.{either, front_length}
 use Rattle.world_model.proofs.Places.{has_from, least_end, one_place}
 use Rattle.world_core.specs.Telling.{Telling}
 use Rattle.recovery_laws.specs.UnderWay.{CanRecover, TellsHub}
-use Rattle.recovery_laws.specs.UnderWay.{WantsMore, done}
+use Rattle.recovery_laws.specs.UnderWay.{WantsMore, count_executed}
 
 -- ---- plain facts
 
@@ -105,26 +105,26 @@ settled hub words (Some x) o e = refl
 -- ---- what a hub hears
 
 abbrev pub GoesOn : ℕ → Hub → Type 0
-GoesOn executed hub = (hub.status_requests ≡ 0) ⊎ WantsMore executed hub.open_places
+GoesOn bodies_executed hub = (hub.status_requests ≡ 0) ⊎ WantsMore bodies_executed hub.open_places
 
 pub useful_taken : (hub : Hub) (t : Telling) (m : Option ToHub) → CanRecover hub t → 1 ≤ hub.status_requests
     → 1 ≤ length hub.open_places → TellsHub hub.first (places hub.open_places) t.told.board m
-    → GoesOn (done t.told.board) (take_message hub m)
+    → GoesOn (count_executed t.told.board) (take_message hub m)
 useful_taken hub t None can asked some tells = absurd tells
 useful_taken hub t (Some (Reply id words)) can asked some tells =
     let found = open_found hub.first id tells.0 hub.open_places tells.1 (sym tells.2) in
     inl (settled hub words (open_with hub.first id hub.open_places) found.0 found.1)
 useful_taken hub t (Some (StatusReply mtu buffers next)) can asked some tells =
     let sound = can.joined.sound in
-    let n = done t.told.board in
+    let n = count_executed t.told.board in
     let window = sound.hub in
     let all_is = length-map hub.sent offered_body in
     let done_is = length-map t.told.board.log (λ (e : _). e.body) in
-    let front = front_length (executed t.told.board) (bodies_of hub.sent) sound.log.front in
+    let front = front_length (bodies_executed t.told.board) (bodies_of hub.sent) sound.log.front in
     let few = window.few in
     let within = window.within in
     let from_one = window.from_one in
-    let lowest = low_next hub.window (bodies_of hub.sent) (executed t.told.board) (places hub.open_places) (length
+    let lowest = low_next hub.window (bodies_of hub.sent) (bodies_executed t.told.board) (places hub.open_places) (length
     hub.sent) n all_is done_is window sound.log in
     let next_le : n ≤ length hub.sent = omega (arith, front, all_is, done_is) in
     let told : told_place hub next ≡ Some (n + 1) =
@@ -136,8 +136,8 @@ useful_taken hub t (Some (StatusReply mtu buffers next)) can asked some tells =
     (λ e a b same. one_place hub.first e (n + 1) sound.node.identifier (omega (arith, from_one, a)) (omega arith)
     (omega (arith, b, within, few, lowest)) (omega (arith, a, within, few, next_le)) (same ∙ tells)) in
     let more : nat_lt 0 hub.status_requests ≡ true = lt-ltb 0 hub.status_requests asked in
-    let heard : take_message hub (Some (StatusReply mtu buffers next)) ≡ recovered hub (Some (n + 1)) =
-    ap (λ (b : Bool). if b then recovered hub (told_place hub next) else hub) more ∙ ap (recovered hub) told in
+    let heard : take_message hub (Some (StatusReply mtu buffers next)) ≡ after_recovery hub (Some (n + 1)) =
+    ap (λ (b : Bool). if b then after_recovery hub (told_place hub next) else hub) more ∙ ap (after_recovery hub) told in
     let least_is = least_some hub.open_places (length hub.sent + 1) 0 some in
     subst (GoesOn n) (sym heard) (inr (recover_all n hub.open_places some (omega (arith, least_is, from_one)) (omega
     (arith, least_is, lowest))))

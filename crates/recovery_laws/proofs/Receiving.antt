@@ -12,14 +12,14 @@ use Rattle.world_model.specs.declared.datagram.Direction.TheVariants as goes
 use Rattle.world_model.specs.Messages.{to_board, to_hub}
 use Rattle.world_model.specs.Board.{Board, hear}
 use Rattle.world_model.specs.Hub.{Hub, places}
-use Rattle.world_model.specs.World.{answered}
+use Rattle.world_model.specs.World.{air_after_answer}
 use Rattle.world_model.specs.Facts.{IsWindow, bodies_of, offered_body}
 use Rattle.world_model.specs.Links.{IsHeard, IsJoined, Told, first_sends, heard_on, hears_all, then_told}
 use Rattle.world_model.proofs.Lists.{get_front, get_seam, get_within}
 use Rattle.world_core.specs.Telling.{IsReceived, Telling}
 use Rattle.recovery_laws.specs.Below.{RecoveryLaws}
 use Rattle.recovery_laws.specs.UnderWay.{IsUnderWay, IsUseful, IsUsefulAt, AsksBoard, TellsHub}
-use Rattle.recovery_laws.specs.UnderWay.{WantsMore, done}
+use Rattle.recovery_laws.specs.UnderWay.{WantsMore, count_executed}
 use Rattle.recovery_laws.proofs.Heard.{GoesThere, HeardFirst, contains_get, front_goes, heard_first, heard_goes}
 use Rattle.recovery_laws.proofs.Heard.{one_way}
 use Rattle.recovery_laws.proofs.Hearing.{Hears, IsPlaced, StaysAs, board_hears}
@@ -49,12 +49,12 @@ pub record IsNew (hub : Hub) (from : ℕ) (u : Told) : Type 0 where
   pub to_hub : GoesThere goes.ToHub u.air place
 
 new_answer : (hub : Hub) (t u : Told) (bytes : List ℕ) (answer : Option (List ℕ))
-    → u.air ≡ t.air ++ answered (first_sends t) answer → answer ≡ Some bytes
+    → u.air ≡ t.air ++ air_after_answer (first_sends t) answer → answer ≡ Some bytes
     → TellsHub hub.first (places hub.open_places) u.board (to_hub bytes) → IsNew hub (length t.air) u
 new_answer hub t u bytes answer air e tells =
     let d : Datagram = record { direction = goes.ToHub; bytes = bytes; birth = first_sends t } in
     let there : slice_get u.air (length t.air) ≡ Some d =
-    ap (λ (l : List Datagram). slice_get l (length t.air)) (air ∙ ap (λ (a : Option (List ℕ)). t.air ++ answered
+    ap (λ (l : List Datagram). slice_get l (length t.air)) (air ∙ ap (λ (a : Option (List ℕ)). t.air ++ air_after_answer
     (first_sends t) a) e) ∙ get_seam t.air [] d in
     record {
       place = length t.air;
@@ -191,8 +191,8 @@ module _ (below : RecoveryLaws) where
 
   -- the board executed nothing, or its last reply is useful
   pub none_or_new : (hub : Hub) (t u : Told) (ks : List ℕ) → IsSetUp hub t → hears_all t ks ≡ Some u
-      → (done u.board ≡ done t.board) ⊎ IsNew hub (length t.air) u
-  none_or_new hub t u [] is e = let same : Some t ≡ Some u = e in let t_is : t ≡ u = cc in inl (ap (λ (x : Told). done
+      → (count_executed u.board ≡ count_executed t.board) ⊎ IsNew hub (length t.air) u
+  none_or_new hub t u [] is e = let same : Some t ≡ Some u = e in let t_is : t ≡ u = cc in inl (ap (λ (x : Told). count_executed
       x.board) (sym t_is))
   none_or_new hub t u (k ∷ ks) is e =
       let h = heard_first t u k ks e in
@@ -214,7 +214,7 @@ module _ (below : RecoveryLaws) where
               | inr newer ↦ inr (later_new hub (length t.air) (length v.air) u longer newer)
             ]
         | inr stays ↦ elim (none_or_new hub v u ks set_up h.later) [
-          | inl same ↦ inl (same ∙ ap done stays.same)
+          | inl same ↦ inl (same ∙ ap count_executed stays.same)
           | inr new ↦ inr (later_new hub (length t.air) (length v.air) u longer new)
         ]
       ]

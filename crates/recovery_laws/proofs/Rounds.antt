@@ -17,11 +17,11 @@ use Rattle.world_model.specs.declared.offered.Offered.{Offered}
 use Rattle.world_model.specs.declared.offered.OpenPlace.{OpenPlace}
 use Rattle.world_model.specs.declared.sending.Sending.TheVariants as sends
 use Rattle.world_model.specs.Messages.{ToHub, to_hub}
-use Rattle.world_model.specs.Board.{Board, executed, is_too_long}
+use Rattle.world_model.specs.Board.{Board, is_too_long}
 use Rattle.world_model.specs.Hub.{Hub, give_up, is_waiting, least, low, offer}
-use Rattle.world_model.specs.Hub.{place_of, places, recover, recovered}
+use Rattle.world_model.specs.Hub.{place_of, places, recover, after_recovery}
 use Rattle.world_model.specs.Hub.{some_queued, some_waited, take_message, want_control, want_status}
-use Rattle.world_model.specs.Sends.{Next, Wanted, bytes_to_send, first_send, next_send, opened, wanted, wanted_or_first}
+use Rattle.world_model.specs.Sends.{Next, Wanted, bytes_to_send, first_send, next_send, opened_place, first_wanted, wanted_or_first}
 use Rattle.world_model.specs.Facts.{has}
 use Rattle.world_model.proofs.Flushing.{message_cases, send_cases}
 use Rattle.world_model.proofs.Hubs.{IsWantedOr, places_map, recover_place, wanted_is}
@@ -31,7 +31,7 @@ use Rattle.lane_record.specs.Bounds.{HasReached}
 use Rattle.recovery_laws.specs.Below.{RecoveryLaws}
 use Rattle.recovery_laws.specs.Rounds.{IsPaid}
 use Rattle.recovery_laws.specs.UnderWay.{CanRecover, CanTake, IsUnderWay, IsUseful, TellsHub}
-use Rattle.recovery_laws.specs.UnderWay.{WantsMore, done}
+use Rattle.recovery_laws.specs.UnderWay.{WantsMore, count_executed}
 use Rattle.recovery_laws.proofs.Heard.{contains_get, nothing_due}
 use Rattle.recovery_laws.proofs.Receiving.{IsHandedUseful, received}
 use Rattle.recovery_laws.proofs.Sending.{HasAll, WantsOr, due_more, sends_on, wants_sent}
@@ -77,14 +77,14 @@ pub record IsSameRound (hub after : Hub) (t : Telling) : Type 0 where
 abbrev pub OverOr : Hub → Telling → Hub → Type 0
 OverOr hub t after = (after.status_requests ≡ 0) ⊎ IsSameRound hub after t
 
-recovered_round : (hub : Hub) (t : Telling) (e : ℕ) → IsSameRound hub (recovered hub (Some e)) t
+recovered_round : (hub : Hub) (t : Telling) (e : ℕ) → IsSameRound hub (after_recovery hub (Some e)) t
 recovered_round hub t e = record {
   requests = refl;
   open_as = length-map hub.open_places (recover e);
   way = λ way. elim way [
     | inl status ↦ inl status
     | inr rest ↦ elim rest [
-      | inl wants ↦ inr (inl (recover_wants (done t.told.board) e hub.open_places wants))
+      | inl wants ↦ inr (inl (recover_wants (count_executed t.told.board) e hub.open_places wants))
       | inr due ↦ inr (inr (due_more hub.first (places hub.open_places) (places (map (recover e) hub.open_places)) t
           (same_has (places hub.open_places) (places (map (recover e) hub.open_places)) (places_map (recover e)
           hub.open_places (recover_place e))) due))
@@ -183,7 +183,7 @@ sent_round hub next e = subst (λ (r : Option Next). IfSome r (SentRound hub)) e
     ))
     (λ o later queue room. (
       refl,
-      (let e = length-append hub.open_places (opened (length hub.sent + 1) ∷ []) in omega
+      (let e = length-append hub.open_places (opened_place (length hub.sent + 1) ∷ []) in omega
           (arith, e)),
     )))
 
@@ -191,22 +191,22 @@ no_wish_by : (hub : Hub) (r : Option Wanted) → wanted_or_first hub r ≡ None 
 no_wish_by hub None e = refl
 no_wish_by hub (Some w) e = absurd (cc)
 
-no_first : (hub : Hub) → hub.status_wanted ≡ false → wanted hub.first hub.open_places ≡ None
+no_first : (hub : Hub) → hub.status_wanted ≡ false → first_wanted hub.first hub.open_places ≡ None
     → next_send hub ≡ first_send hub hub.queue
 no_first hub quiet none =
     ap (λ (b : Bool). if b then Some (record { send = sends.Status; hub = record hub { status_wanted = false } }) else
-    wanted_or_first hub (wanted hub.first hub.open_places)) quiet
+    wanted_or_first hub (first_wanted hub.first hub.open_places)) quiet
     ∙ ap (wanted_or_first hub) none
 
 -- nothing is wanted, and nothing is due
-no_wish : (hub : Hub) → next_send hub ≡ None → (hub.status_wanted ≡ false) × (wanted hub.first hub.open_places ≡ None)
+no_wish : (hub : Hub) → next_send hub ≡ None → (hub.status_wanted ≡ false) × (first_wanted hub.first hub.open_places ≡ None)
 no_wish hub none =
     either (λ (r : Option Next). r ≡ None
-    → (hub.status_wanted ≡ false) × (wanted hub.first hub.open_places ≡ None)) hub.status_wanted
-    (Some (record { send = sends.Status; hub = record hub { status_wanted = false } })) (wanted_or_first hub (wanted
+    → (hub.status_wanted ≡ false) × (first_wanted hub.first hub.open_places ≡ None)) hub.status_wanted
+    (Some (record { send = sends.Status; hub = record hub { status_wanted = false } })) (wanted_or_first hub (first_wanted
     hub.first hub.open_places))
     (λ status e. absurd (cc))
-    (λ quiet e. (quiet, no_wish_by hub (wanted hub.first hub.open_places) e))
+    (λ quiet e. (quiet, no_wish_by hub (first_wanted hub.first hub.open_places) e))
     none
 
 nothing_wanted : (hub : Hub) (t : Telling) → next_send hub ≡ None → t.due ≡ [] → IsUnderWay hub t → ⊥
@@ -215,7 +215,7 @@ nothing_wanted hub t none empty way =
     elim way [
       | inl status ↦ absurd (let a = no.0 in cc)
       | inr rest ↦ elim rest [
-        | inl wants ↦ subst (WantsOr hub.first (done t.told.board) hub.open_places) no.1 (wants_sent hub.first (done
+        | inl wants ↦ subst (WantsOr hub.first (count_executed t.told.board) hub.open_places) no.1 (wants_sent hub.first (count_executed
             t.told.board) hub.open_places wants)
         | inr due ↦ nothing_due t.due due.place empty due.due
       ]
@@ -233,7 +233,7 @@ first_none hub (o ∷ later) empty window e =
     (arith, low_is, window)) in
     let next : Next = record {
       send = sends.Control place (identifier_at hub.first place);
-      hub = record hub { sent = hub.sent ++ o ∷ []; queue = later; open_places = hub.open_places ++ opened place ∷ [] };
+      hub = record hub { sent = hub.sent ++ o ∷ []; queue = later; open_places = hub.open_places ++ opened_place place ∷ [] };
     } in
     let sent : first_send hub (o ∷ later) ≡ Some next = ap (λ (b : Bool). if b then Some next else None) room in
     absurd (none-some next (sym e ∙ sent))
@@ -264,7 +264,7 @@ module _ (below : RecoveryLaws) where
   handed_at : (hub : Hub) (bytes : List ℕ) (before now : ℕ) (old new : Telling) → CanRecover hub new
       → (is : IsGot bytes before now old new) → IsHandedUseful below hub (is.place ∷ []) new
       → 1 ≤ hub.status_requests → 1 ≤ length hub.open_places
-      → GoesOn (done new.told.board) (take_message hub (to_hub bytes))
+      → GoesOn (count_executed new.told.board) (take_message hub (to_hub bytes))
   handed_at hub bytes before now old new can is useful asked some =
       let place_is = only_one is.place useful.place useful.handed.0 (contains_get (is.place ∷ []) useful.place
       useful.handed) in
@@ -429,7 +429,7 @@ offer_by rounds g hub held t offered true e is = record {
     | inl way ↦ inl (elim way [
       | inl status ↦ inl status
       | inr rest ↦ elim rest [
-        | inl wants ↦ inr (inl (control_wants (done t.told.board) hub.open_places wants))
+        | inl wants ↦ inr (inl (control_wants (count_executed t.told.board) hub.open_places wants))
         | inr due ↦ inr (inr (due_more hub.first (places hub.open_places) (places (map want_control hub.open_places)) t
             (same_has (places hub.open_places) (places (map want_control hub.open_places)) (places_map want_control
             hub.open_places (λ o. refl))) due))

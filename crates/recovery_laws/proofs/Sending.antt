@@ -21,7 +21,7 @@ use Rattle.world_model.specs.Messages.{ControlPacket, Reply, ResendRequest, Stat
 use Rattle.world_model.specs.Messages.{ToHub, control_packet, to_board, to_hub}
 use Rattle.world_model.specs.Board.{Board, is_too_long}
 use Rattle.world_model.specs.Hub.{Hub, place_of, places, words_of}
-use Rattle.world_model.specs.Sends.{Next, Wanted, after_open, bytes_to_send, next_send, opened, wanted}
+use Rattle.world_model.specs.Sends.{Next, Wanted, after_open, bytes_to_send, next_send, opened_place, first_wanted}
 use Rattle.world_model.specs.Facts.{IsSendable, has}
 use Rattle.world_model.specs.Links.{Told, birth_of}
 use Rattle.world_model.proofs.Flushing.{send_cases}
@@ -31,8 +31,8 @@ use Rattle.world_model.proofs.Places.{has_below, id_fits}
 use Rattle.world_core.specs.Telling.{IsSent, Telling}
 use Rattle.recovery_laws.specs.Below.{RecoveryLaws}
 use Rattle.recovery_laws.specs.UnderWay.{AsksBoard, CanRecover, CanTake, IsDue, IsUnderWay, IsUseful}
-use Rattle.recovery_laws.specs.UnderWay.{TellsHub, WantsMore, done}
-use Rattle.recovery_laws.proofs.Reading.{control_read, request_read, resend_read}
+use Rattle.recovery_laws.specs.UnderWay.{TellsHub, WantsMore, count_executed}
+use Rattle.world_model.proofs.Readings.{control_read, request_read, resend_read}
 
 -- ---- more open places
 
@@ -44,7 +44,7 @@ asks_more : (first : ℕ) (ps qs : List ℕ) (board : Board) (m : Option ToBoard
 asks_more first ps qs board None more is = is
 asks_more first ps qs board (Some StatusRequest) more is = is
 asks_more first ps qs board (Some (ResendRequest id)) more is = (is.0, more is.0 is.1, is.2, is.3, is.4)
-asks_more first ps qs board (Some (ControlPacket order id body)) more is = (more (done board + 1) is.0, is.1, is.2)
+asks_more first ps qs board (Some (ControlPacket order id body)) more is = (more (count_executed board + 1) is.0, is.1, is.2)
 
 tells_more : (first : ℕ) (ps qs : List ℕ) (board : Board) (m : Option ToHub) → HasAll ps qs
     → TellsHub first ps board m → TellsHub first qs board m
@@ -110,14 +110,14 @@ wants_later first executed o os (Some w) is = elim is [
 ]
 
 pub wants_sent : (first executed : ℕ) (os : List OpenPlace) → WantsMore executed os
-    → WantsOr first executed os (wanted first os)
+    → WantsOr first executed os (first_wanted first os)
 wants_sent first executed [] is = absurd is
 wants_sent first executed (o ∷ os) is =
     let control : Option Wanted = Some (record {
       send = sends.Control o.place (identifier_at first o.place);
       open_places = record o { control = false } ∷ os;
     }) in
-    let later = after_open o (wanted first os) in
+    let later = after_open o (first_wanted first os) in
     either (WantsOr first executed (o ∷ os)) o.resend
     (Some (record {
       send = sends.Resend (identifier_at first o.place);
@@ -140,7 +140,7 @@ wants_sent first executed (o ∷ os) is =
       | inl here ↦ let resend = here.0 in absurd (cc)
       | inr rest ↦ elim rest [
         | inl next ↦ let wants = next.0 in absurd (cc)
-        | inr more ↦ wants_later first executed o os (wanted first os) (wants_sent first executed os more)
+        | inr more ↦ wants_later first executed o os (first_wanted first os) (wants_sent first executed os more)
       ]
     ]))
 
@@ -198,8 +198,8 @@ sent_due first ps qs bytes before now old new more is due = elim (is.stays due.p
 ]
 
 sent_wants : (executed : ℕ) (os : List OpenPlace) (bytes : List ℕ) (before now : ℕ) (old new : Telling)
-    → IsSent bytes before now old new → WantsMore (done old.told.board) os → WantsMore (done new.told.board) os
-sent_wants executed os bytes before now old new is wants = subst (λ (b : Board). WantsMore (done b) os) (sym (ap (λ (t
+    → IsSent bytes before now old new → WantsMore (count_executed old.told.board) os → WantsMore (count_executed new.told.board) os
+sent_wants executed os bytes before now old new is wants = subst (λ (b : Board). WantsMore (count_executed b) os) (sym (ap (λ (t
     : Told). t.board) is.told)) wants
 
 abbrev pub OnAfter : Hub → ℕ → ℕ → Telling → Type 0
@@ -217,14 +217,14 @@ module _ (below : RecoveryLaws) where
   status_sent hub before now old new is =
       by_due (record hub { status_wanted = false }) before now new
       (sent_new hub.first (places hub.open_places) (packet_bytes status_request) before now old new is
-      (subst (AsksBoard hub.first (places hub.open_places) old.told.board) (sym (request_read below)) tt))
+      (subst (AsksBoard hub.first (places hub.open_places) old.told.board) (sym (request_read below.back)) tt))
 
   resend_asks : (first : ℕ) (ps : List ℕ) (board : Board) (id place : ℕ) → has place ps ≡ true → 1 ≤ place
-      → place ≤ done board → id ≡ identifier_at first place
+      → place ≤ count_executed board → id ≡ identifier_at first place
       → AsksBoard first ps board (to_board (packet_bytes (resend_request id)))
   resend_asks first ps board id place there one le named =
       let fits = id_fits first place in
-      subst (AsksBoard first ps board) (sym (resend_read below id (omega (arith, named, fits)))) (
+      subst (AsksBoard first ps board) (sym (resend_read below.back id (omega (arith, named, fits)))) (
         place,
         there,
         one,
@@ -232,12 +232,12 @@ module _ (below : RecoveryLaws) where
         named,
       )
 
-  control_asks : (first : ℕ) (ps : List ℕ) (board : Board) (id : ℕ) (body : List ℕ) → has (done board + 1) ps ≡ true
-      → id ≡ identifier_at first (done board + 1) → IsSendable body
+  control_asks : (first : ℕ) (ps : List ℕ) (board : Board) (id : ℕ) (body : List ℕ) → has (count_executed board + 1) ps ≡ true
+      → id ≡ identifier_at first (count_executed board + 1) → IsSendable body
       → is_too_long board body ≡ false → AsksBoard first ps board (to_board (packet_bytes (control_packet Big id body)))
   control_asks first ps board id body there named can fits =
-      let small = id_fits first (done board + 1) in
-      subst (AsksBoard first ps board) (sym (control_read below Big id body (omega (arith, named, small)) can))
+      let small = id_fits first (count_executed board + 1) in
+      subst (AsksBoard first ps board) (sym (control_read below.back Big id body (omega (arith, named, small)) can))
       (there, named, fits)
 
   -- the body at an open place can be sent, and fits the board
@@ -254,7 +254,7 @@ module _ (below : RecoveryLaws) where
 
   -- what was wanted is sent
   wanted_asks : (hub : Hub) (t : Telling) (s : Sending) → CanRecover hub t
-      → SendsFor hub.first (done t.told.board) (places hub.open_places) s
+      → SendsFor hub.first (count_executed t.told.board) (places hub.open_places) s
       → AsksBoard hub.first (places hub.open_places) t.told.board (to_board (bytes_to_send hub s))
   wanted_asks hub t sends.Status can is = absurd is
   wanted_asks hub t (sends.Resend id) can is = resend_asks hub.first (places hub.open_places) t.told.board id is.0
@@ -269,7 +269,7 @@ module _ (below : RecoveryLaws) where
       fits.0 fits.1
 
   wanted_sent : (hub : Hub) (w : Wanted) (before now : ℕ) (old new : Telling) → CanRecover hub old
-      → wanted hub.first hub.open_places ≡ Some w → places w.open_places ≡ places hub.open_places
+      → first_wanted hub.first hub.open_places ≡ Some w → places w.open_places ≡ places hub.open_places
       → IsUnderWay hub old → IsSent (bytes_to_send (record hub { open_places = w.open_places }) w.send) before now old
       new → OnAfter (record hub { open_places = w.open_places }) before now new
   wanted_sent hub w before now old new can e same way is =
@@ -279,8 +279,8 @@ module _ (below : RecoveryLaws) where
       elim way [
         | inl status ↦ inl (inl status)
         | inr rest ↦ elim rest [
-          | inl wants ↦ elim (subst (WantsOr hub.first (done old.told.board) hub.open_places) e (wants_sent hub.first
-              (done old.told.board) hub.open_places wants)) [
+          | inl wants ↦ elim (subst (WantsOr hub.first (count_executed old.told.board) hub.open_places) e (wants_sent hub.first
+              (count_executed old.told.board) hub.open_places wants)) [
                 | inl more ↦ inl (inr (inl (sent_wants 0 w.open_places (bytes_to_send after w.send) before now old new
                     is more)))
                 | inr sent ↦ by_due after before now new (sent_new hub.first (places w.open_places) (bytes_to_send after
@@ -299,26 +299,26 @@ module _ (below : RecoveryLaws) where
       → OnAfter (record hub {
         sent = hub.sent ++ o ∷ [];
         queue = later;
-        open_places = hub.open_places ++ opened
+        open_places = hub.open_places ++ opened_place
             (length hub.sent + 1) ∷ [];
       }) before now new
   first_sent hub o later bytes before now old new way is =
       let after = record hub {
         sent = hub.sent ++ o ∷ [];
         queue = later;
-        open_places = hub.open_places ++ opened
+        open_places = hub.open_places ++ opened_place
             (length hub.sent + 1) ∷ [];
       } in
       let longer : places after.open_places ≡ places hub.open_places ++ (length hub.sent + 1) ∷ [] = map-append
-      place_of hub.open_places (opened (length hub.sent + 1) ∷ []) in
+      place_of hub.open_places (opened_place (length hub.sent + 1) ∷ []) in
       let all : HasAll (places hub.open_places) (places after.open_places) = λ place there.
       subst (λ (ps : List ℕ). has place ps ≡ true) (sym longer) (has_front (places hub.open_places) ((length hub.sent
       + 1) ∷ []) place there) in
       elim way [
         | inl status ↦ inl (inl status)
         | inr rest ↦ elim rest [
-          | inl wants ↦ inl (inr (inl (sent_wants 0 after.open_places bytes before now old new is (wants_front (done
-              old.told.board) hub.open_places (opened (length hub.sent + 1) ∷ []) wants))))
+          | inl wants ↦ inl (inr (inl (sent_wants 0 after.open_places bytes before now old new is (wants_front (count_executed
+              old.told.board) hub.open_places (opened_place (length hub.sent + 1) ∷ []) wants))))
           | inr due ↦ by_due after before now new (sent_due hub.first (places hub.open_places) (places
               after.open_places) bytes before now old new all is due)
         ]

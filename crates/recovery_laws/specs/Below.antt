@@ -1,13 +1,9 @@
 -- What the laws of the crates below say of packets, boards and links, for the proofs here: no public clause speaks of
 -- it.
-use Rattle.std.specs.Prelude.{◌≡◌, ℕ, ◌<◌, ◌≤◌, ◌^◌, List, length, Some, Ok}
+use Rattle.std.specs.Prelude.{◌≡◌, ℕ, ◌≤◌, List, length, Some}
 use Rattle.std.specs.List.{AllZip, AllByRecursion}
 use Rattle.ipb_base.specs.Word.{AreWords}
 use Rattle.ipb_base.specs.Lists.{IsPrefix}
-use Rattle.packet_codec.specs.declared.packet.Packet.{Packet}
-use Rattle.packet_codec.specs.Header.{packet_header}
-use Rattle.packet_codec.specs.Packet.{IsPacket, packet_bytes}
-use Rattle.packet_codec.specs.Reading.{header_of, packet_of}
 use Rattle.transaction_codec.specs.Answer.{CanAnswer, reply_room}
 use Rattle.board_bus.specs.Cells.{CellMap, HoldsWords}
 use Rattle.board_bus.specs.Bodies.{replay, run_body}
@@ -16,14 +12,13 @@ use Rattle.board_node.specs.Hearings.{IsAmongLast}
 use Rattle.world_model.specs.declared.datagram.Datagram.{Datagram}
 use Rattle.world_model.specs.declared.heard.Heard.TheVariants.{Resent}
 use Rattle.world_model.specs.Messages.{ResendRequest, to_board}
+use Rattle.world_model.specs.Below.{ReadsBack}
 use Rattle.world_model.specs.Board.{Board, hear}
 use Rattle.world_model.specs.Hub.{Hub}
 use Rattle.world_model.specs.Links.{IsHeard, IsJoined, Told}
 
 pub record RecoveryLaws : Type 0 where
-  pub read : (packet : Packet) → IsPacket packet → packet_of (packet_bytes packet) ≡ Ok packet
-  pub header : (id kind : ℕ) → id < 2 ^ 16 → kind < 2 ^ 4
-      → header_of (packet_header id kind) ≡ Some (record { id = id; kind = kind })
+  pub back : ReadsBack
   pub words_stay : (cells : CellMap) (bodies : List (List ℕ)) → HoldsWords cells → AllByRecursion AreWords bodies
       → HoldsWords (replay cells bodies).cells
   pub answer : (cells : CellMap) (body : List ℕ) → HoldsWords cells → AreWords body

@@ -18,8 +18,8 @@ use Rattle.world_model.specs.Links.{IsJoined}
 use Rattle.world_core.specs.Telling.{Telling}
 
 -- how many packets the board executed
-abbrev pub done : Board → ℕ
-done board = length board.log
+abbrev pub count_executed : Board → ℕ
+count_executed board = length board.log
 
 -- the board will answer so that the round goes on: a status request, a re-send request for an open place that was
 -- executed, or the control packet of the next place, which is open
@@ -27,14 +27,14 @@ abbrev pub AsksBoard : ℕ → List ℕ → Board → Option ToBoard → Type 0
 AsksBoard first ps board None = ⊥
 AsksBoard first ps board (Some StatusRequest) = Unit {0}
 AsksBoard first ps board (Some (ResendRequest id)) =
-    (place : ℕ) × (has place ps ≡ true) × (1 ≤ place) × (place ≤ done board) × (id ≡ identifier_at first place)
+    (place : ℕ) × (has place ps ≡ true) × (1 ≤ place) × (place ≤ count_executed board) × (id ≡ identifier_at first place)
 AsksBoard first ps board (Some (ControlPacket order id body)) =
-    (has (done board + 1) ps ≡ true) × (id ≡ identifier_at first (done board + 1)) × (is_too_long board body ≡ false)
+    (has (count_executed board + 1) ps ≡ true) × (id ≡ identifier_at first (count_executed board + 1)) × (is_too_long board body ≡ false)
 
 -- the hub will go on in the round: a status reply that tells the next place, or the reply of an open place
 abbrev pub TellsHub : ℕ → List ℕ → Board → Option ToHub → Type 0
 TellsHub first ps board None = ⊥
-TellsHub first ps board (Some (StatusReply mtu buffers next)) = next ≡ identifier_at first (done board + 1)
+TellsHub first ps board (Some (StatusReply mtu buffers next)) = next ≡ identifier_at first (count_executed board + 1)
 TellsHub first ps board (Some (Reply id words)) =
     (place : ℕ) × (has place ps ≡ true) × (id ≡ identifier_at first place)
 
@@ -63,7 +63,7 @@ WantsMore executed (o ∷ os) =
 
 abbrev pub IsUnderWay : Hub → Telling → Type 0
 IsUnderWay hub t =
-    (hub.status_wanted ≡ true) ⊎ WantsMore (done t.told.board) hub.open_places
+    (hub.status_wanted ≡ true) ⊎ WantsMore (count_executed t.told.board) hub.open_places
     ⊎ IsDue hub.first (places hub.open_places) t
 
 -- a body that the board can take, and answer

@@ -8,13 +8,13 @@ use Rattle.world_model.specs.declared.offered.Offered.{Offered}
 use Rattle.world_model.specs.declared.offered.Fate.{Fate}
 use Rattle.world_model.specs.declared.offered.Fate.TheVariants.{Replied, TimedOut}
 use Rattle.world_model.specs.Places.{at_place}
-use Rattle.world_model.specs.Hub.{Hub, give_up, goes_before, insert_fate, settle, tag_of, time_out, unsent}
+use Rattle.world_model.specs.Hub.{Hub, give_up, goes_before, insert_fate, settle, tag_of, time_out, unsent_fate}
 use Rattle.world_model.proofs.Lists.{either}
 use Rattle.reliable_engine.specs.Events.{HubEvent, Offer, Status, Reply, Quiet, Send, HandOut, HandOutLate}
 use Rattle.reliable_engine.specs.Events.{after_event}
 use Rattle.reliable_engine.specs.Events.{IsAmong, after_events, handouts}
 use Rattle.reliable_engine.proofs.Cases.{after_is}
-use Rattle.reliable_engine.specs.ToldFates.{StandsIn, all_fates, handed, handed_out}
+use Rattle.reliable_engine.specs.ToldFates.{StandsIn, all_fates, fates_handed_out, handed_out}
 
 -- ---- lists that stand in others
 
@@ -75,11 +75,11 @@ settle_stands h words o =
 give_up_stands : (h : Hub) → StandsIn h.fates (give_up h).fates
 give_up_stands h =
     let late = time_out h.rounds h.sent h.open_places h.fates in
-    stands_trans h.fates late (late ++ map unsent h.queue) (time_out_stands h.rounds h.sent h.open_places h.fates)
-    (stands_before late (map unsent h.queue))
+    stands_trans h.fates late (late ++ map unsent_fate h.queue) (time_out_stands h.rounds h.sent h.open_places h.fates)
+    (stands_before late (map unsent_fate h.queue))
 
 -- the fates that waited stand among those that an event hands out and those that wait after it
-event_stands : (h : Hub) (event : HubEvent) → StandsIn h.fates (handed h event ++ (after_event h event).fates)
+event_stands : (h : Hub) (event : HubEvent) → StandsIn h.fates (fates_handed_out h event ++ (after_event h event).fates)
 event_stands h event = after_is (λ now after. StandsIn h.fates (now.fates ++ after.fates)) h (record {
   offered = λ x. stands_same h.fates;
   same = stands_same h.fates;
@@ -98,23 +98,23 @@ event_stands h event = after_is (λ now after. StandsIn h.fates (now.fates ++ af
 
 -- the fates of one event and of those after it
 pub all_cons : (h : Hub) (event : HubEvent) (events : List HubEvent)
-    → all_fates h (event ∷ events) ≡ handed h event ++ all_fates (after_event h event) events
-all_cons h event events = append_assoc (handed h event) (handed_out (after_event h event) events)
+    → all_fates h (event ∷ events) ≡ fates_handed_out h event ++ all_fates (after_event h event) events
+all_cons h event events = append_assoc (fates_handed_out h event) (handed_out (after_event h event) events)
     (after_events (after_event h event) events).fates
 
 waiting_stand : (h : Hub) (events : List HubEvent) → StandsIn h.fates (all_fates h events)
 waiting_stand h [] = stands_same h.fates
 waiting_stand h (event ∷ events) =
     let after = after_event h event in
-    rw (all_cons h event events) (stands_trans h.fates (handed h event ++ after.fates) _ (event_stands h event)
-    (stands_behind (handed h event) after.fates (all_fates after events) (waiting_stand after events)))
+    rw (all_cons h event events) (stands_trans h.fates (fates_handed_out h event ++ after.fates) _ (event_stands h event)
+    (stands_behind (fates_handed_out h event) after.fates (all_fates after events) (waiting_stand after events)))
 
 pub all_stand : (h : Hub) (events more : List HubEvent) → StandsIn (all_fates h events) (all_fates h (events ++ more))
 all_stand h [] more = waiting_stand h more
 all_stand h (event ∷ events) more =
     let after = after_event h event in
     rw (all_cons h event events, all_cons h event (events ++ more))
-    (stands_behind (handed h event) (all_fates after events) (all_fates after (events ++ more))
+    (stands_behind (fates_handed_out h event) (all_fates after events) (all_fates after (events ++ more))
     (all_stand after events more))
 
 pub handed_first : (h : Hub) (events more : List HubEvent)
@@ -123,14 +123,14 @@ handed_first h [] more = (handed_out h more, refl)
 handed_first h (event ∷ events) more =
     let later = handed_first (after_event h event) events more in (
       later.0,
-      ap (λ (fates : List (ℕ × Fate)). handed h event ++ fates) later.1
-          ∙ sym (append_assoc (handed h event) (handed_out (after_event h event) events) later.0),
+      ap (λ (fates : List (ℕ × Fate)). fates_handed_out h event ++ fates) later.1
+          ∙ sym (append_assoc (fates_handed_out h event) (handed_out (after_event h event) events) later.0),
     )
 
 -- ---- where nothing is handed out
 
 hands_nothing : (h : Hub) (event : HubEvent) (events : List HubEvent) → handouts (event ∷ events) ≡ 0
-    → (handed h event ≡ []) × (handouts events ≡ 0)
+    → (fates_handed_out h event ≡ []) × (handouts events ≡ 0)
 hands_nothing h (Offer x) events none = (refl, none)
 hands_nothing h (Status next) events none = (refl, none)
 hands_nothing h (Reply id words) events none = (refl, none)

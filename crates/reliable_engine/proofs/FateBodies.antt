@@ -10,13 +10,13 @@ use Rattle.world_model.specs.declared.offered.Fate.{Fate}
 use Rattle.world_model.specs.declared.offered.Fate.TheVariants.{Replied, TimedOut, Unsent}
 use Rattle.world_model.specs.Places.{at_place}
 use Rattle.world_model.specs.Hub.{Hub, give_up, insert_fate, least, open_with, places, settle, tag_of}
-use Rattle.world_model.specs.Hub.{time_out, unsent}
+use Rattle.world_model.specs.Hub.{time_out, unsent_fate}
 use Rattle.world_model.proofs.Hubs.{all_inserted, all_timed_out, all_unsent, tagged}
 use Rattle.world_model.proofs.Lists.{at_front, either}
 use Rattle.reliable_engine.specs.Events.{HubEvent, Offer, Status, Reply, Quiet, Send, HandOut, HandOutLate}
 use Rattle.reliable_engine.specs.Events.{after_event}
 use Rattle.reliable_engine.specs.Events.{after_events}
-use Rattle.reliable_engine.specs.ToldFates.{IsOfItsBody, all_fates, handed}
+use Rattle.reliable_engine.specs.ToldFates.{IsOfItsBody, all_fates, fates_handed_out}
 use Rattle.reliable_engine.proofs.AllFates.{all_cons}
 use Rattle.reliable_engine.proofs.Cases.{after_is}
 use Rattle.reliable_engine.proofs.Keeping.{found}
@@ -56,7 +56,7 @@ settled_tagged h id words o is told all =
 give_up_tagged : (h : Hub) → IsHub h → AreTagged h.sent h.fates → AreTagged h.sent (give_up h).fates
 give_up_tagged h is all =
     let fates = time_out h.rounds h.sent h.open_places h.fates in
-    AllByRecursion-append (IsOfItsBody h.sent) fates (map unsent h.queue)
+    AllByRecursion-append (IsOfItsBody h.sent) fates (map unsent_fate h.queue)
     (all_timed_out (IsOfItsBody h.sent) (least (places h.open_places) (length h.sent + 1)) h.rounds h.sent
     h.open_places h.fates (tagged h.sent) is.from_one is.rising all)
     (all_unsent (IsOfItsBody h.sent) h.queue (λ _. tt))
@@ -82,7 +82,7 @@ event_tagged h event is all = after_is (λ _ after. AreTagged after.sent after.f
   late_handed = all;
 }) event
 
-handed_tagged : (h : Hub) (event : HubEvent) → AreTagged h.sent h.fates → AreTagged h.sent (handed h event)
+handed_tagged : (h : Hub) (event : HubEvent) → AreTagged h.sent h.fates → AreTagged h.sent (fates_handed_out h event)
 handed_tagged h (Offer x) all = tt
 handed_tagged h (Status next) all = tt
 handed_tagged h (Reply id words) all = tt
@@ -101,6 +101,6 @@ all_tagged h (event ∷ events) is all =
     let after = after_event h event in
     let last = after_events after events in
     rw (all_cons h event events)
-    (AllByRecursion-append (IsOfItsBody last.sent) (handed h event) (all_fates after events)
-    (all_on h.sent last.sent (handed h event) (keeps_bodies h (event ∷ events)) (handed_tagged h event all))
+    (AllByRecursion-append (IsOfItsBody last.sent) (fates_handed_out h event) (all_fates after events)
+    (all_on h.sent last.sent (fates_handed_out h event) (keeps_bodies h (event ∷ events)) (handed_tagged h event all))
     (all_tagged after events (stays_hub h (event ∷ []) is) (event_tagged h event is all)))

@@ -7,7 +7,7 @@ use Rattle.world_model.specs.declared.offered.Offered.{Offered}
 use Rattle.world_model.specs.declared.offered.Fate.{Fate}
 use Rattle.world_model.specs.declared.offered.Fate.TheVariants.{Replied, TimedOut, Unsent}
 use Rattle.world_model.specs.Places.{at_place}
-use Rattle.world_model.specs.Hub.{Hub, insert_fate, settle, tag_of, time_out, unsent}
+use Rattle.world_model.specs.Hub.{Hub, insert_fate, settle, tag_of, time_out, unsent_fate}
 use Rattle.world_model.proofs.Lists.{either}
 use Rattle.reliable_engine.specs.Events.{HubEvent, after_event, after_events}
 use Rattle.reliable_engine.specs.ToldFates.{AreByPlace, AreUnsent}
@@ -47,7 +47,7 @@ timed_out rounds sent (o ∷ os) fates all =
     timed_out rounds sent os _ (either (AreByPlace 0) o.waited (insert_fate o.place new fates) fates
     (λ _. inserted 0 o.place new fates refl (omega arith) all) (λ _. all))
 
-more_unsent : (fates : List (ℕ × Fate)) (queue : List Offered) → AreUnsent fates → AreUnsent (fates ++ map unsent queue)
+more_unsent : (fates : List (ℕ × Fate)) (queue : List Offered) → AreUnsent fates → AreUnsent (fates ++ map unsent_fate queue)
 more_unsent [] [] all = tt
 more_unsent [] (x ∷ xs) all = more_unsent [] xs tt
 more_unsent ((tag, Replied place words) ∷ fates) queue all = absurd all
@@ -55,7 +55,7 @@ more_unsent ((tag, TimedOut place rounds) ∷ fates) queue all = absurd all
 more_unsent ((tag, Unsent) ∷ fates) queue all = more_unsent fates queue all
 
 unsent_last : (from : ℕ) (fates : List (ℕ × Fate)) (queue : List Offered) → AreByPlace from fates
-    → AreByPlace from (fates ++ map unsent queue)
+    → AreByPlace from (fates ++ map unsent_fate queue)
 unsent_last from [] [] all = tt
 unsent_last from [] (x ∷ xs) all = more_unsent [] xs tt
 unsent_last from ((tag, Replied place words) ∷ fates) queue all = (all.0, unsent_last place fates queue all.1)

@@ -23,7 +23,7 @@ use Rattle.world_model.specs.Places.{at_place}
 use Rattle.world_model.specs.Hub.{Hub, low, least, places, place_of, some_queued, settle, told_place, insert_fate}
 use Rattle.world_model.specs.Hub.{insert_late}
 use Rattle.world_model.specs.Hub.{tag_of, open_with, without, place_with}
-use Rattle.world_model.specs.Sends.{Next, Wanted, after_open, wanted, opened, first_send, next_send}
+use Rattle.world_model.specs.Sends.{Next, Wanted, after_open, first_wanted, opened_place, first_send, next_send}
 use Rattle.world_model.specs.Facts.{has}
 use Rattle.reliable_engine.specs.declared.engine.Engine.TheInside.{Inside}
 use Rattle.reliable_engine.specs.Answers.{IsOpen, NamesOpenPlace, TellsPlace, IsQuiet, IsWindowFull, HasNothingToSend}
@@ -33,7 +33,7 @@ use Rattle.reliable_engine.specs.Steps.{places_after, places_wanted, sending_of}
 use Rattle.reliable_engine.specs.View.{hub_of, IsKept, Keeps}
 use Rattle.std.specs.Prelude.{IfSome, nat_lt}
 use Rattle.world_model.specs.Facts.{IsWindow}
-use Rattle.world_model.specs.Hub.{hear_status, recovered}
+use Rattle.world_model.specs.Hub.{hear_status, after_recovery}
 use Rattle.std.proofs.lemmas.Bool.{lt-ltb, ltb-true}
 use Rattle.world_model.proofs.Flushing.{send_cases}
 use Rattle.world_model.proofs.Hubs.{IsWantedOr, IsWish, wanted_is}
@@ -110,7 +110,7 @@ sent_one h x later = record {
   hub = record h {
     sent = h.sent ++ x ∷ [];
     queue = later;
-    open_places = h.open_places ++ opened (length h.sent + 1) ∷ [];
+    open_places = h.open_places ++ opened_place (length h.sent + 1) ∷ [];
   };
 }
 
@@ -133,7 +133,7 @@ sent_as i n front os = Some (record {
 })
 
 pub first_sent : (i : Inside) (h : Hub) (os : List OpenPlace) → hub_of i ≡ h → IsKept i → i.sent < length i.bodies.items
-    → i.sent + 1 + 1 ≤ i.window + low h → os ≡ i.open_places ++ opened (i.sent + 1) ∷ []
+    → i.sent + 1 + 1 ≤ i.window + low h → os ≡ i.open_places ++ opened_place (i.sent + 1) ∷ []
     → first_send h h.queue ≡ Some (record {
       send = sends.Control (i.sent + 1) (identifier_at i.first (i.sent + 1));
       hub = with_sent i (i.sent + 1) os;
@@ -147,14 +147,14 @@ first_sent i h os view is more room pushed =
     ap (λ (y : Hub). first_send y y.queue) (sym view)
     ∙ (ap (first_send v) x.queue
     ∙ (first_of v x.one (drop (i.sent + 1) all) free
-    ∙ (ap (λ (n : ℕ). sent_as i n (v.sent ++ x.one ∷ []) (v.open_places ++ opened (n + 1) ∷ [])) len
-    ∙ (ap (λ (front : List Offered). sent_as i i.sent front (v.open_places ++ opened (i.sent + 1) ∷ [])) (sym x.front)
+    ∙ (ap (λ (n : ℕ). sent_as i n (v.sent ++ x.one ∷ []) (v.open_places ++ opened_place (n + 1) ∷ [])) len
+    ∙ (ap (λ (front : List Offered). sent_as i i.sent front (v.open_places ++ opened_place (i.sent + 1) ∷ [])) (sym x.front)
     ∙ ap (sent_as i i.sent (take (i.sent + 1) all)) (sym pushed)))))
 
-pub last_open : (os qs : List OpenPlace) (place : ℕ) → qs ≡ os ++ opened place ∷ [] → has place (places qs) ≡ true
+pub last_open : (os qs : List OpenPlace) (place : ℕ) → qs ≡ os ++ opened_place place ∷ [] → has place (places qs) ≡ true
 last_open os qs place same =
     ap (λ (xs : List OpenPlace). has place (places xs)) same
-    ∙ (ap (has place) (map-append place_of os (opened place ∷ [])) ∙ has_last place (places os))
+    ∙ (ap (has place) (map-append place_of os (opened_place place ∷ [])) ∙ has_last place (places os))
 
 -- ---- a reply
 
@@ -369,7 +369,7 @@ tells_none h next none is =
 
 -- a status reply that tells a place recovers the open ones by it
 pub told_recovers : (h : Hub) (next : ℕ) (told : TellsPlace h next) → IsIdentifier h.first
-    → IsWindow h.window (length h.sent) (places h.open_places) → hear_status h next ≡ recovered h (Some told.place)
+    → IsWindow h.window (length h.sent) (places h.open_places) → hear_status h next ≡ after_recovery h (Some told.place)
 told_recovers h next told id is =
     let few : length h.sent + 2 - low h < 65535 = omega (arith, is.within, is.few) in
     let at : told_place h next ≡ Some told.place =
@@ -378,10 +378,10 @@ told_recovers h next told id is =
       within = omega (arith, told.from_low, told.up_to_next);
       identifier = told.identifier;
     }) in
-    rw (lt-ltb 0 h.status_requests told.under_way) (ap (recovered h) at)
+    rw (lt-ltb 0 h.status_requests told.under_way) (ap (after_recovery h) at)
 
 untold : (h : Hub) (next : ℕ) (r : Option ℕ) → told_place h next ≡ r → 0 < h.status_requests → (TellsPlace h next → ⊥)
-    → recovered h r ≡ h
+    → after_recovery h r ≡ h
 untold h next None e round none = refl
 untold h next (Some place) e round none = absurd (none (tells h next place round e))
 
@@ -400,7 +400,7 @@ either_way : (b : Bool) → (b ≡ true) ⊎ (b ≡ false)
 either_way true = inl refl
 either_way false = inr refl
 
-quiet_here : (first : ℕ) (o : OpenPlace) (os : List OpenPlace) → wanted first (o ∷ os) ≡ None → IsQuiet o
+quiet_here : (first : ℕ) (o : OpenPlace) (os : List OpenPlace) → first_wanted first (o ∷ os) ≡ None → IsQuiet o
 quiet_here first o os e = elim (either_way o.resend) [
   | inl is ↦ absurd (let bad = sym (here_resend first o os is) ∙ e in cc)
   | inr is ↦ elim (either_way o.control) [
@@ -409,14 +409,14 @@ quiet_here first o os e = elim (either_way o.resend) [
   ]
 ]
 
-pub quiet : (first : ℕ) (os : List OpenPlace) → wanted first os ≡ None → AllByRecursion IsQuiet os
+pub quiet : (first : ℕ) (os : List OpenPlace) → first_wanted first os ≡ None → AllByRecursion IsQuiet os
 quiet first [] e = tt
 quiet first (o ∷ os) e =
     let is = quiet_here first o os e in
     let later = sym (here_none first o os is.no_resend is.no_control) ∙ e in
-    (is, quiet first os (after_none o (wanted first os) later))
+    (is, quiet first os (after_none o (first_wanted first os) later))
 
-pub quiet_none : (first : ℕ) (os : List OpenPlace) → AllByRecursion IsQuiet os → wanted first os ≡ None
+pub quiet_none : (first : ℕ) (os : List OpenPlace) → AllByRecursion IsQuiet os → first_wanted first os ≡ None
 quiet_none first [] all = refl
 quiet_none first (o ∷ os) all =
     here_none first o os all.0.no_resend all.0.no_control ∙ ap (after_open o) (quiet_none first os all.1)
@@ -436,7 +436,7 @@ first_none h [] (inr full) = refl
 first_none h (x ∷ later) (inr full) = rw (lt-leb (length h.sent + 1 + 1) (h.window + low h) (omega arith)) refl
 
 -- where something is wanted of the open places, not all of them are quiet
-pub not_quiet : (first : ℕ) (os : List OpenPlace) (s : Sending) → sending_of (wanted first os) ≡ Some s
+pub not_quiet : (first : ℕ) (os : List OpenPlace) (s : Sending) → sending_of (first_wanted first os) ≡ Some s
     → AllByRecursion IsQuiet os → ⊥
 not_quiet first os s told all =
     let none = ap sending_of (quiet_none first os all) in
@@ -446,11 +446,11 @@ wanted_none_of : (r : Option Wanted) → sending_of r ≡ None → r ≡ None
 wanted_none_of None e = refl
 wanted_none_of (Some w) e = absurd (cc)
 
-pub nothing_wanted : (first : ℕ) (os : List OpenPlace) → sending_of (wanted first os) ≡ None → wanted first os ≡ None
-nothing_wanted first os e = wanted_none_of (wanted first os) e
+pub nothing_wanted : (first : ℕ) (os : List OpenPlace) → sending_of (first_wanted first os) ≡ None → first_wanted first os ≡ None
+nothing_wanted first os e = wanted_none_of (first_wanted first os) e
 
 -- after nothing else is wanted, nothing is to be sent exactly where no body may be sent first
-pub nothing : (h : Hub) (r : Option Sending) → h.status_wanted ≡ false → wanted h.first h.open_places ≡ None
+pub nothing : (h : Hub) (r : Option Sending) → h.status_wanted ≡ false → first_wanted h.first h.open_places ≡ None
     → r ≡ sent_next (first_send h h.queue) → IsNone r ↔ HasNothingToSend h
 nothing h r status told is = (
   λ none. record {
@@ -487,5 +487,5 @@ send_open h next e = subst (λ (r : Option Next). IfSome r (λ (n : Next). IsSen
     (send_cases (λ (n : Next). IsSendOf n.hub n.send) h tt
     (λ w told. sendable (record h { open_places = w.open_places }) h.open_places (Some w) w.send refl
     (subst (IsWantedOr h.first h.open_places) told (wanted_is h.first h.open_places)) refl)
-    (λ x later queue room. last_open h.open_places (h.open_places ++ opened (length h.sent + 1) ∷ [])
+    (λ x later queue room. last_open h.open_places (h.open_places ++ opened_place (length h.sent + 1) ∷ [])
     (length h.sent + 1) refl))

@@ -9,7 +9,7 @@ use Rattle.std.proofs.lemmas.List.{append-nil, map-append}
 use Rattle.packet_ids.specs.Identifier.{identifier_at}
 use Rattle.world_model.specs.declared.offered.OpenPlace.{OpenPlace}
 use Rattle.world_model.specs.Hub.{least, open_with, place_of, places, recover, want_control, without}
-use Rattle.world_model.specs.Sends.{opened}
+use Rattle.world_model.specs.Sends.{opened_place}
 use Rattle.world_model.specs.Facts.{AreRising}
 use Rattle.world_model.proofs.Hubs.{places_without}
 use Rattle.world_model.proofs.Lists.{either}
@@ -17,7 +17,7 @@ use Rattle.world_model.proofs.Places.{least_from, least_push, rising_end, rising
 use Rattle.world_model.proofs.Places.{rising_push}
 use Rattle.reliable_engine.specs.declared.slots.Flags.{Flags}
 use Rattle.reliable_engine.specs.declared.slots.TheConstants.{SLOTS}
-use Rattle.reliable_engine.specs.Slots.{EndsAt, IsPut, IsSlotted, changed, open_at, open_from, place_with_flags}
+use Rattle.reliable_engine.specs.Slots.{EndsAt, IsPut, IsSlotted, with_changed_place, open_at, open_from, place_with_flags}
 use Rattle.reliable_engine.specs.Slots.{put_before}
 
 -- ---- one slot
@@ -263,8 +263,8 @@ from_least slots low end next (o ∷ os) e lowest = ap (λ (n : ℕ). open_from 
 -- ---- a place is opened above the others
 
 pub open_next : (old new : List (Option Flags)) (low place : ℕ) → low ≤ place → place < low + SLOTS
-    → AreRising low place (places (open_from old low SLOTS)) → IsPut place (Some (opened place)) old new
-    → open_from new low SLOTS ≡ open_from old low SLOTS ++ opened place ∷ []
+    → AreRising low place (places (open_from old low SLOTS)) → IsPut place (Some (opened_place place)) old new
+    → open_from new low SLOTS ≡ open_from old low SLOTS ++ opened_place place ∷ []
 open_next old new low place from below r put =
     let k = low + 16 - (place + 1) in
     let front = open_from old low (place - low) in
@@ -278,14 +278,14 @@ open_next old new low place from below r put =
     let after = (none_before (open_at old place) [] rest none).last in
     let same : open_from old low SLOTS ≡ front =
     all ∙ (ap (λ (os : List OpenPlace). front ++ os) none ∙ append-nil front) in
-    put_around old new low place (Some (opened place)) from below put
-    ∙ (ap (λ (os : List OpenPlace). front ++ opened place ∷ os) after
-    ∙ ap (λ (os : List OpenPlace). os ++ opened place ∷ []) (sym same))
+    put_around old new low place (Some (opened_place place)) from below put
+    ∙ (ap (λ (os : List OpenPlace). front ++ opened_place place ∷ os) after
+    ∙ ap (λ (os : List OpenPlace). os ++ opened_place place ∷ []) (sym same))
 
 pub slotted_open : (low place : ℕ) (os : List OpenPlace) → 1 ≤ low → place ≤ 2 ^ 62 → low ≡ least (places os) place
-    → AreRising low place (places os) → place < low + SLOTS → IsSlotted low (place + 1) (os ++ opened place ∷ [])
+    → AreRising low place (places os) → place < low + SLOTS → IsSlotted low (place + 1) (os ++ opened_place place ∷ [])
 slotted_open low place os one last is r near =
-    let all = map-append place_of os (opened place ∷ []) in
+    let all = map-append place_of os (opened_place place ∷ []) in
     record {
       from_one = one;
       up_to_end = omega arith;
@@ -304,8 +304,8 @@ pub opened_after : (old new : List (Option Flags)) (before end low place : ℕ) 
     → open_from old before SLOTS ≡ os → IsSlotted before end (open_from old before SLOTS)
     → low ≡ least (places os) place → 1 ≤ place → place ≤ 2 ^ 62
     → AreRising (least (places os) place) place (places os) → place < least (places os) place + SLOTS
-    → IsPut place (Some (opened place)) old new
-    → (open_from new low SLOTS ≡ os ++ opened place ∷ []) × IsSlotted low (place + 1) (os ++ opened place ∷ [])
+    → IsPut place (Some (opened_place place)) old new
+    → (open_from new low SLOTS ≡ os ++ opened_place place ∷ []) × IsSlotted low (place + 1) (os ++ opened_place place ∷ [])
 opened_after old new before end low place os seen is low_is from last r near put =
     let lowest : least (places os) end ≡ before =
     subst (λ (qs : List OpenPlace). least (places qs) end ≡ before) seen is.lowest in
@@ -316,7 +316,7 @@ opened_after old new before end low place os seen is low_is from last r near put
     ap (λ (n : ℕ). open_from old n SLOTS) low_is ∙ from_least old before end place os seen lowest in (
       open_next old new low place up_to_place (omega (arith, low_is, near))
           (subst (λ (qs : List OpenPlace). AreRising low place (places qs)) (sym same) rising) put
-          ∙ ap (λ (qs : List OpenPlace). qs ++ opened place ∷ []) same,
+          ∙ ap (λ (qs : List OpenPlace). qs ++ opened_place place ∷ []) same,
       slotted_open low place os (omega (arith, low_is, one)) last low_is rising (omega (arith, low_is, near)),
     )
 
@@ -447,7 +447,7 @@ pub record IsChangedTo (change : OpenPlace → OpenPlace) (low place : ℕ) (old
   pub rest : (other : ℕ) → place ≤ other → other < low + SLOTS → open_at new other ≡ open_at old other
 
 map_before : (change : OpenPlace → OpenPlace) (o : Option OpenPlace)
-    → put_before (changed change o) [] ≡ map change (put_before o [])
+    → put_before (with_changed_place change o) [] ≡ map change (put_before o [])
 map_before change None = refl
 map_before change (Some o) = refl
 
@@ -459,11 +459,11 @@ change_none change low slots =
 
 pub change_next : (change : OpenPlace → OpenPlace) (low place : ℕ) (old before after : List (Option Flags))
     → low ≤ place → place < low + SLOTS → IsChangedTo change low place old before
-    → IsPut place (changed change (open_at before place)) before after
+    → IsPut place (with_changed_place change (open_at before place)) before after
     → IsChangedTo change low (place + 1) old after
 change_next change low place old before after from below is put =
-    let here : open_at after place ≡ changed change (open_at old place) =
-    put.here ∙ ap (changed change) (is.rest place (omega arith) below) in
+    let here : open_at after place ≡ with_changed_place change (open_at old place) =
+    put.here ∙ ap (with_changed_place change) (is.rest place (omega arith) below) in
     let front : open_from after low (place - low) ≡ map change (open_from old low (place - low)) =
     same_from before after low (place - low) (λ other f b. put.others other (λ e. absurd (omega arith))) ∙ is.front in
     record {

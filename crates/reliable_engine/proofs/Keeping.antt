@@ -8,8 +8,8 @@ use Rattle.std.proofs.lemmas.List.{length-map, map-append}
 use Rattle.std.proofs.Common.{length-append}
 use Rattle.packet_ids.specs.Identifier.{identifier_at}
 use Rattle.world_model.specs.declared.offered.OpenPlace.{OpenPlace}
-use Rattle.world_model.specs.Hub.{recover, abandoned, open_with, without, places, place_of, least}
-use Rattle.world_model.specs.Sends.{Wanted, after_open, wanted, opened}
+use Rattle.world_model.specs.Hub.{recover, abandoned_place, open_with, without, places, place_of, least}
+use Rattle.world_model.specs.Sends.{Wanted, after_open, first_wanted, opened_place}
 use Rattle.world_model.specs.Facts.{AreRising, IsWindow, has}
 use Rattle.world_model.specs.History.{times}
 use Rattle.reliable_engine.specs.Steps.{places_wanted, waits}
@@ -48,11 +48,11 @@ pub waits_map : (f : OpenPlace → OpenPlace) (os : List OpenPlace) → ((o : Op
     → ((o : OpenPlace) → (f o).waited ≡ o.waited) → waits (map f os) ≡ waits os
 waits_map f os place waited = same_waits os (map f os) (waited_map f os place waited)
 
-waits_abandoned : (os : List OpenPlace) → waits (map abandoned os) ≡ 0
+waits_abandoned : (os : List OpenPlace) → waits (map abandoned_place os) ≡ 0
 waits_abandoned [] = refl
 waits_abandoned (o ∷ os) = let h = waits_abandoned os in omega arith
 
-waits_push : (os : List OpenPlace) (place : ℕ) → waits (os ++ opened place ∷ []) ≡ waits os + 1
+waits_push : (os : List OpenPlace) (place : ℕ) → waits (os ++ opened_place place ∷ []) ≡ waits os + 1
 waits_push [] place = omega arith
 waits_push (o ∷ os) place = let h = waits_push os place in omega arith
 
@@ -64,7 +64,7 @@ waited_later : (o : OpenPlace) (os : List OpenPlace) (r : Option Wanted) → Sam
 waited_later o os None same = tt
 waited_later o os (Some w) same = ap (λ (ps : List ℕ). cond o.waited (o.place ∷ ps) ps) same
 
-pub wanted_waited : (first : ℕ) (os : List OpenPlace) → SameWaited os (wanted first os)
+pub wanted_waited : (first : ℕ) (os : List OpenPlace) → SameWaited os (first_wanted first os)
 wanted_waited first [] = tt
 wanted_waited first (o ∷ os) = either (SameWaited (o ∷ os)) o.resend _ _
     (λ _. refl)
@@ -158,17 +158,17 @@ keeps_same first window sent count os qs fl fr ll lr is same waiting = record {
 
 pub keeps_push : (first window sent count : ℕ) (os : List OpenPlace) (fl fr ll lr : ℕ)
     → Keeps first window sent count os fl fr ll lr → sent < count → sent + 2 ≤ window + least (places os) (sent + 1)
-    → Keeps first window (sent + 1) count (os ++ opened (sent + 1) ∷ []) fl fr ll lr
+    → Keeps first window (sent + 1) count (os ++ opened_place (sent + 1) ∷ []) fl fr ll lr
 keeps_push first window sent count os fl fr ll lr is more room =
     let w = waits_push os (sent + 1) in
     record {
       identifier = is.identifier;
       within = omega arith;
       few = is.few;
-      in_window = rw (map-append place_of os (opened (sent + 1) ∷ []))
+      in_window = rw (map-append place_of os (opened_place (sent + 1) ∷ []))
           (window_push window sent (places os) is.in_window room);
       fates_fit = omega (arith, is.fates_fit);
-      lates_fit = omega (arith, is.lates_fit, length-append os (opened (sent + 1) ∷ []));
+      lates_fit = omega (arith, is.lates_fit, length-append os (opened_place (sent + 1) ∷ []));
     }
 
 pub keeps_less : (first window sent count : ℕ) (os : List OpenPlace) (o : OpenPlace) (fl fr ll lr fl2 fr2 ll2 lr2 : ℕ)
@@ -193,23 +193,23 @@ wanted_kept first window sent count os fl fr ll lr (Some x) is w s =
 
 pub keeps_wanted : (first window sent count : ℕ) (os : List OpenPlace) (fl fr ll lr : ℕ)
     → Keeps first window sent count os fl fr ll lr
-    → Keeps first window sent count (places_wanted os (wanted first os)) fl fr ll lr
+    → Keeps first window sent count (places_wanted os (first_wanted first os)) fl fr ll lr
 keeps_wanted first window sent count os fl fr ll lr is =
-    wanted_kept first window sent count os fl fr ll lr (wanted first os) is (wanted_is first os)
+    wanted_kept first window sent count os fl fr ll lr (first_wanted first os) is (wanted_is first os)
     (wanted_waited first os)
 
 pub keeps_abandoned : (first window sent count : ℕ) (os : List OpenPlace) (fl fr ll lr count2 fl2 fr2 : ℕ)
     → Keeps first window sent count os fl fr ll lr → count2 ≡ sent → fl2 ≡ fl + waits os + (count - sent) → fr ≤ fr2
-    → Keeps first window sent count2 (map abandoned os) fl2 fr2 ll lr
+    → Keeps first window sent count2 (map abandoned_place os) fl2 fr2 ll lr
 keeps_abandoned first window sent count os fl fr ll lr count2 fl2 fr2 is cut told grown =
     let w = waits_abandoned os in
     record {
       identifier = is.identifier;
       within = omega arith;
       few = omega (arith, is.within, is.few);
-      in_window = rw (places_map abandoned os (λ _. refl)) is.in_window;
+      in_window = rw (places_map abandoned_place os (λ _. refl)) is.in_window;
       fates_fit = omega (arith, is.fates_fit);
-      lates_fit = omega (arith, is.lates_fit, length-map os abandoned);
+      lates_fit = omega (arith, is.lates_fit, length-map os abandoned_place);
     }
 
 rising_length : (from past : ℕ) (ps : List ℕ) → AreRising from past ps → from + length ps ≤ past

@@ -10,15 +10,15 @@ use Rattle.world_model.specs.declared.offered.Offered.{Offered}
 use Rattle.world_model.specs.declared.offered.Fate.{Fate}
 use Rattle.world_model.specs.declared.offered.Fate.TheVariants.{Replied, TimedOut, Unsent}
 use Rattle.world_model.specs.Places.{at_place}
-use Rattle.world_model.specs.Hub.{Hub, abandoned, give_up, insert_fate, new_hub, open_with, recover, settle}
-use Rattle.world_model.specs.Hub.{tag_of, time_out, unsent, want_control, without}
-use Rattle.world_model.specs.Sends.{opened}
+use Rattle.world_model.specs.Hub.{Hub, abandoned_place, give_up, insert_fate, new_hub, open_with, recover, settle}
+use Rattle.world_model.specs.Hub.{tag_of, time_out, unsent_fate, want_control, without}
+use Rattle.world_model.specs.Sends.{opened_place}
 use Rattle.world_model.specs.History.{times}
 use Rattle.world_model.proofs.Accounts.{IsCount, count_append, count_inserted}
 use Rattle.world_model.proofs.Hubs.{recover_place}
 use Rattle.world_model.proofs.Lists.{either}
 use Rattle.reliable_engine.specs.Events.{HubEvent, after_event, after_events}
-use Rattle.reliable_engine.specs.ToldFates.{IsSentPlace, all_fates, fate_places, handed, handed_out, tellings}
+use Rattle.reliable_engine.specs.ToldFates.{IsSentPlace, all_fates, fate_places, fates_handed_out, handed_out, tellings}
 use Rattle.reliable_engine.specs.ToldFates.{waited_places}
 use Rattle.reliable_engine.proofs.Cases.{after_is}
 use Rattle.reliable_engine.proofs.Keeping.{SameWaited, found, place_waits, recover_waits, waited_map, waits_first}
@@ -75,13 +75,13 @@ at_more place (tag, Unsent) fates = omega arith
 at_count : (place : ℕ) → IsCount (fates_at place)
 at_count place = record { none = refl; more = at_more place }
 
-none_unsent : (place : ℕ) (queue : List Offered) → fates_at place (map unsent queue) ≡ 0
+none_unsent : (place : ℕ) (queue : List Offered) → fates_at place (map unsent_fate queue) ≡ 0
 none_unsent place [] = refl
 none_unsent place (x ∷ xs) = none_unsent place xs
 
 -- ---- places that are waited for
 
-none_waited : (os : List OpenPlace) → waited_places (map abandoned os) ≡ []
+none_waited : (os : List OpenPlace) → waited_places (map abandoned_place os) ≡ []
 none_waited [] = refl
 none_waited (o ∷ os) = none_waited os
 
@@ -140,21 +140,21 @@ give_up_placed place before h is = omega (
   arith,
   is,
   ap (times place) (none_waited h.open_places),
-  count_append (fates_at place) (at_count place) (time_out h.rounds h.sent h.open_places h.fates) (map unsent h.queue),
+  count_append (fates_at place) (at_count place) (time_out h.rounds h.sent h.open_places h.fates) (map unsent_fate h.queue),
   none_unsent place h.queue,
   time_out_places place h.rounds h.sent h.open_places h.fates,
 )
 
 first_placed : (place before : ℕ) (h : Hub) (x : Offered) → IsPlaced place before h
     → times place (places_to (length (h.sent ++ x ∷ []))) ≡ before + 0
-    + (fates_at place h.fates + place_waits place (h.open_places ++ opened (length h.sent + 1) ∷ []))
+    + (fates_at place h.fates + place_waits place (h.open_places ++ opened_place (length h.sent + 1) ∷ []))
 first_placed place before h x is =
     let longer : length (h.sent ++ x ∷ []) ≡ suc (length h.sent) = omega (arith, length-append h.sent (x ∷ [])) in
     let next : length h.sent + 1 ≡ suc (length h.sent) = omega arith in
-    rw (longer, next) (omega (arith, is, waited_push place h.open_places (opened (suc (length h.sent)))))
+    rw (longer, next) (omega (arith, is, waited_push place h.open_places (opened_place (suc (length h.sent)))))
 
 event_placed : (place before : ℕ) (h : Hub) (event : HubEvent) → IsPlaced place before h
-    → Placed place before (handed h event) (after_event h event)
+    → Placed place before (fates_handed_out h event) (after_event h event)
 event_placed place before h event is = after_is (λ now. Placed place before now.fates) h (record {
   offered = λ x. either (λ (os : List OpenPlace). times place (places_to (length h.sent)) ≡ before + 0
       + (fates_at place h.fates + place_waits place os)) h.gave_up (map want_control h.open_places) h.open_places
@@ -192,8 +192,8 @@ placed place before h [] is = omega (arith, is)
 placed place before h (event ∷ events) is =
     let after = after_event h event in
     let one = event_placed place before h event is in
-    let later = placed place (before + fates_at place (handed h event)) after events one in
-    omega (arith, later, count_append (fates_at place) (at_count place) (handed h event) (handed_out after events))
+    let later = placed place (before + fates_at place (fates_handed_out h event)) after events one in
+    omega (arith, later, count_append (fates_at place) (at_count place) (fates_handed_out h event) (handed_out after events))
 
 pub place_account : (first window rounds : ℕ) (events : List HubEvent) (place : ℕ)
     → times place (places_to (length (after_events (new_hub first window rounds) events).sent))

@@ -10,7 +10,7 @@ use Rattle.packet_ids.specs.Identifier.{identifier_at, IsIdentifier}
 use Rattle.world_model.specs.declared.offered.OpenPlace.{OpenPlace}
 use Rattle.world_model.specs.declared.offered.Offered.{Offered}
 use Rattle.world_model.specs.Hub.{Hub, least, places, new_hub, offer, want_control, settle, hear_reply, open_with}
-use Rattle.world_model.specs.Hub.{without, hear_status, abandoned, give_up, want_status}
+use Rattle.world_model.specs.Hub.{without, hear_status, abandoned_place, give_up, want_status}
 use Rattle.world_model.specs.Hub.{hear_quiet}
 use Rattle.world_model.specs.Hub.{is_waiting, some_waited}
 use Rattle.world_model.specs.Sends.{Next, first_send, wanted_or_first, next_send}
@@ -112,11 +112,11 @@ settles_alone h id words first is =
 
 -- ---- a give-up
 
-none_waited : (os : List OpenPlace) → some_waited (map abandoned os) ≡ false
+none_waited : (os : List OpenPlace) → some_waited (map abandoned_place os) ≡ false
 none_waited [] = refl
 none_waited (o ∷ os) = none_waited os
 
-all_quiet : (os : List OpenPlace) → AllByRecursion IsQuiet (map abandoned os)
+all_quiet : (os : List OpenPlace) → AllByRecursion IsQuiet (map abandoned_place os)
 all_quiet [] = tt
 all_quiet (o ∷ os) = (record { no_resend = refl; no_control = refl }, all_quiet os)
 

@@ -10,8 +10,8 @@ use Rattle.packet_ids.specs.Identifier.{IsIdentifier}
 use Rattle.world_model.specs.declared.offered.OpenPlace.{OpenPlace}
 use Rattle.world_model.specs.declared.offered.Offered.{Offered}
 use Rattle.world_model.specs.Hub.{Hub, low, places, place_of, new_hub, want_control}
-use Rattle.world_model.specs.Hub.{recover, abandoned}
-use Rattle.world_model.specs.Sends.{Next, opened, next_send}
+use Rattle.world_model.specs.Hub.{recover, abandoned_place}
+use Rattle.world_model.specs.Sends.{Next, opened_place, next_send}
 use Rattle.world_model.specs.declared.sending.Sending.TheVariants as sends
 use Rattle.world_model.specs.Facts.{has, IsWindow}
 use Rattle.reliable_engine.specs.Answers.{IsOpen, IsSendOf, hub_next}
@@ -42,12 +42,12 @@ step_of h event = after_is (λ _ after. IsStep h after) h (record {
   told = λ at. same refl (places_map (recover at) h.open_places (recover_place at));
   settled = λ id words o told. closed o.place refl (places_without o.place h.open_places);
   wants_status = same refl refl;
-  gives_up = same refl (places_map abandoned h.open_places (λ _. refl));
+  gives_up = same refl (places_map abandoned_place h.open_places (λ _. refl));
   asked = same refl refl;
   wished = λ w told. same refl (subst (IsWantedOr h.first h.open_places) told
       (wanted_is h.first h.open_places)).same;
   sent_first = λ x later queue room. sent_one x refl
-      (map-append place_of h.open_places (opened (length h.sent + 1) ∷ [])) room;
+      (map-append place_of h.open_places (opened_place (length h.sent + 1) ∷ [])) room;
   handed = same refl refl;
   late_handed = same refl refl;
 }) event

@@ -9,7 +9,7 @@ use Rattle.world_model.specs.declared.offered.Offered.{Offered}
 use Rattle.world_model.specs.declared.sending.Sending.{Sending}
 use Rattle.world_model.specs.declared.sending.Sending.TheVariants as sends
 use Rattle.world_model.specs.Hub.{Hub, least, low, places}
-use Rattle.world_model.specs.Sends.{Next, Wanted, after_open, first_send, next_send, wanted, wanted_or_first}
+use Rattle.world_model.specs.Sends.{Next, Wanted, after_open, first_send, next_send, first_wanted, wanted_or_first}
 use Rattle.world_model.specs.Facts.{AreRising}
 use Rattle.world_model.proofs.Hubs.{has_first, has_later}
 use Rattle.world_model.proofs.Lists.{either}
@@ -58,7 +58,7 @@ wanted_later first o os None calm is = tt
 wanted_later first o os (Some w) calm is = for_later first o os w.send calm is
 
 wanted_lowest : (first from past : ℕ) (os : List OpenPlace) → AreRising from past (places os)
-    → IsLowestOr first os (wanted first os)
+    → IsLowestOr first os (first_wanted first os)
 wanted_lowest first from past [] rising = tt
 wanted_lowest first from past (o ∷ os) rising =
     let below : IsQuietBelow o.place (o ∷ os) =
@@ -72,7 +72,7 @@ wanted_lowest first from past (o ∷ os) rising =
     })
     (λ a. either (IsLowestOr first (o ∷ os)) o.control _ _
     (λ _. record { lowest = below; asked = (λ _. a, none_at o.place (o.place + 1) past os (omega arith) rising.1) })
-    (λ b. wanted_later first o os (wanted first os) (record { no_resend = a; no_control = b })
+    (λ b. wanted_later first o os (first_wanted first os) (record { no_resend = a; no_control = b })
     (wanted_lowest first (o.place + 1) past os rising.1)))
 
 -- ---- the next send
@@ -98,7 +98,7 @@ first_goes h (x ∷ later) all = either (Goes h) (nat_le (length h.sent + 1 + 1)
     })
     (λ _. tt)
 
-wanted_goes : (h : Hub) (r : Option Wanted) → wanted h.first h.open_places ≡ r → IsLowestOr h.first h.open_places r
+wanted_goes : (h : Hub) (r : Option Wanted) → first_wanted h.first h.open_places ≡ r → IsLowestOr h.first h.open_places r
     → Goes h (wanted_or_first h r)
 wanted_goes h None e is = first_goes h h.queue (quiet h.first h.open_places e)
 wanted_goes h (Some w) e is = is
@@ -106,7 +106,7 @@ wanted_goes h (Some w) e is = is
 pub goes_by_place : (h : Hub) (next : Next) → IsHub h → next_send h ≡ Some next → GoesByPlace h next.send
 goes_by_place h next is e = subst (Goes h) e (either (Goes h) h.status_wanted _ _
     (λ _. tt)
-    (λ _. wanted_goes h (wanted h.first h.open_places) refl
+    (λ _. wanted_goes h (first_wanted h.first h.open_places) refl
     (wanted_lowest h.first (least (places h.open_places) (length h.sent + 1)) (length h.sent + 1) h.open_places
     is.rising)))
 
@@ -117,7 +117,7 @@ last_by : (h : Hub) (r : Option Next) → HasNothingWanted h → IsLast h r
 last_by h None is = tt
 last_by h (Some n) is = λ _. is
 
-wanted_last : (h : Hub) (r : Option Wanted) → h.status_wanted ≡ false → wanted h.first h.open_places ≡ r
+wanted_last : (h : Hub) (r : Option Wanted) → h.status_wanted ≡ false → first_wanted h.first h.open_places ≡ r
     → IsLast h (wanted_or_first h r)
 wanted_last h None status e = last_by h (first_send h h.queue)
     (record { no_status = status; quiet = quiet h.first h.open_places e })
@@ -127,7 +127,7 @@ pub new_last : (h : Hub) (next : Next) → next_send h ≡ Some next → length 
     → HasNothingWanted h
 new_last h next e = subst (IsLast h) e (either (IsLast h) h.status_wanted _ _
     (λ _. λ more. absurd (omega arith))
-    (λ status. wanted_last h (wanted h.first h.open_places) status refl))
+    (λ status. wanted_last h (first_wanted h.first h.open_places) status refl))
 
 pub status_first : (h : Hub) → h.status_wanted ≡ true → sent_next (next_send h) ≡ Some sends.Status
 status_first h wanted = rw wanted refl

@@ -5,7 +5,7 @@ use Rattle.std.proofs.Common.{refl, sym, ap, ◌∙◌}
 use Rattle.packet_ids.specs.Identifier.{identifier_at}
 use Rattle.world_model.specs.declared.offered.OpenPlace.{OpenPlace}
 use Rattle.world_model.specs.declared.sending.Sending.TheVariants as sends
-use Rattle.world_model.specs.Sends.{Wanted, after_open, wanted}
+use Rattle.world_model.specs.Sends.{Wanted, after_open, first_wanted}
 use Rattle.reliable_engine.specs.Steps.{prepend}
 
 -- ---- what is wanted
@@ -38,24 +38,24 @@ control_of first o os = record {
 }
 
 pub here_resend : (first : ℕ) (o : OpenPlace) (os : List OpenPlace) → o.resend ≡ true
-    → wanted first (o ∷ os) ≡ Some (resend_of first o os)
+    → first_wanted first (o ∷ os) ≡ Some (resend_of first o os)
 here_resend first o os e = rw e refl
 
 pub here_control : (first : ℕ) (o : OpenPlace) (os : List OpenPlace) → o.resend ≡ false → o.control ≡ true
-    → wanted first (o ∷ os) ≡ Some (control_of first o os)
+    → first_wanted first (o ∷ os) ≡ Some (control_of first o os)
 here_control first o os e f = rw (e, f) refl
 
 pub here_none : (first : ℕ) (o : OpenPlace) (os : List OpenPlace) → o.resend ≡ false → o.control ≡ false
-    → wanted first (o ∷ os) ≡ after_open o (wanted first os)
+    → first_wanted first (o ∷ os) ≡ after_open o (first_wanted first os)
 here_none first o os e f = rw (e, f) refl
 
 -- nothing is wanted of the places at the front, so what is wanted is wanted of the rest
 abbrev pub IsQuietUpTo : ℕ → List OpenPlace → List OpenPlace → List OpenPlace → Type 0
-IsQuietUpTo first os front rest = wanted first os ≡ prepend front (wanted first rest)
+IsQuietUpTo first os front rest = first_wanted first os ≡ prepend front (first_wanted first rest)
 
 pub quiet_resend : (first place : ℕ) (os front rest : List OpenPlace) (o : OpenPlace) → o.place ≡ place
     → o.resend ≡ true → IsQuietUpTo first os front (o ∷ rest)
-    → wanted first os ≡ Some (record {
+    → first_wanted first os ≡ Some (record {
       send = sends.Resend (identifier_at first place);
       open_places = front ++ record o { resend = false } ∷ rest;
     })
@@ -70,7 +70,7 @@ quiet_resend first place os front rest o here e past =
 
 pub quiet_control : (first place : ℕ) (os front rest : List OpenPlace) (o : OpenPlace) → o.place ≡ place
     → o.resend ≡ false → o.control ≡ true → IsQuietUpTo first os front (o ∷ rest)
-    → wanted first os ≡ Some (record {
+    → first_wanted first os ≡ Some (record {
       send = sends.Control place (identifier_at first place);
       open_places = front ++ record o { control = false } ∷ rest;
     })
@@ -88,7 +88,7 @@ pub quiet_next : (first : ℕ) (os front rest : List OpenPlace) (o : OpenPlace) 
 quiet_next first os front rest o e f past =
     past
     ∙ (ap (prepend front) (here_none first o rest e f)
-    ∙ sym (prepend_push front o (wanted first rest)))
+    ∙ sym (prepend_push front o (first_wanted first rest)))
 
-pub quiet_all : (first : ℕ) (os front : List OpenPlace) → IsQuietUpTo first os front [] → wanted first os ≡ None
+pub quiet_all : (first : ℕ) (os front : List OpenPlace) → IsQuietUpTo first os front [] → first_wanted first os ≡ None
 quiet_all first os front past = past ∙ prepend_none front

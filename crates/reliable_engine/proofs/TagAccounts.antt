@@ -13,7 +13,7 @@ use Rattle.reliable_engine.specs.Answers.{told_first}
 use Rattle.reliable_engine.specs.Events.{HubEvent, Offer, Status, Reply, Quiet, Send, HandOut, HandOutLate}
 use Rattle.reliable_engine.specs.Events.{after_event}
 use Rattle.reliable_engine.specs.Events.{after_events}
-use Rattle.reliable_engine.specs.ToldFates.{IsAccounted, all_fates, handed, handed_out, offered_tags}
+use Rattle.reliable_engine.specs.ToldFates.{IsAccounted, all_fates, fates_handed_out, handed_out, offered_tags}
 use Rattle.reliable_engine.proofs.Cases.{next_is}
 
 hand_out_balanced : (tag offered : ℕ) (told : List (ℕ × Fate)) (h : Hub) → IsBalanced tag offered told h
@@ -52,7 +52,7 @@ none_more tag offered told h is =
     balanced_as tag offered (offered + 0) told (told ++ []) h (omega arith) (append-nil told) is
 
 event_balanced : (tag offered : ℕ) (told : List (ℕ × Fate)) (h : Hub) (event : HubEvent) → IsBalanced tag offered told h
-    → IsBalanced tag (offered + times tag (offered_tags (event ∷ []))) (told ++ handed h event) (after_event h event)
+    → IsBalanced tag (offered + times tag (offered_tags (event ∷ []))) (told ++ fates_handed_out h event) (after_event h event)
 event_balanced tag offered told h (Offer x) is =
     balanced_as tag _ (offered + times tag (x.tag ∷ [])) told (told ++ []) (offer h x) refl (append-nil told)
     (offer_balanced tag offered told h x is)
@@ -86,7 +86,7 @@ events_balanced : (tag offered : ℕ) (told : List (ℕ × Fate)) (h : Hub) (eve
 events_balanced tag offered told h [] is = none_more tag offered told h is
 events_balanced tag offered told h (event ∷ events) is =
     let after = after_event h event in
-    let now = handed h event in
+    let now = fates_handed_out h event in
     let more = times tag (offered_tags (event ∷ [])) in
     balanced_as tag (offered + more + times tag (offered_tags events)) _ ((told ++ now) ++ handed_out after events) _
     (after_events after events) (omega (arith, tags_cons tag event events))

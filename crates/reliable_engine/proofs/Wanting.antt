@@ -8,7 +8,7 @@ use Rattle.world_model.specs.declared.offered.OpenPlace.{OpenPlace}
 use Rattle.world_model.specs.declared.sending.Sending.{Sending}
 use Rattle.world_model.specs.declared.sending.Sending.TheVariants as sends
 use Rattle.world_model.specs.Hub.{places}
-use Rattle.world_model.specs.Sends.{Wanted, wanted}
+use Rattle.world_model.specs.Sends.{Wanted, first_wanted}
 use Rattle.world_model.proofs.Hubs.{IsWantedOr, wanted_is}
 use Rattle.reliable_engine.specs.declared.slots.Flags.{Flags}
 use Rattle.reliable_engine.specs.declared.slots.TheConstants.{SLOTS}
@@ -34,7 +34,7 @@ pub quiet_at : (first low place : ℕ) (slots : List (Option Flags)) (o : Option
     (put_before o (open_from slots (place + 1) (low + SLOTS - (place + 1))))
 quiet_at first low place slots o below e past =
     past
-    ∙ ap (λ (rest : List OpenPlace). prepend (open_from slots low (place - low)) (wanted first rest))
+    ∙ ap (λ (rest : List OpenPlace). prepend (open_from slots low (place - low)) (first_wanted first rest))
     (rest_is slots place (low + SLOTS) o below e)
 
 front_is : (slots : List (Option Flags)) (low place : ℕ) (o : Option OpenPlace) → low ≤ place → open_at slots place ≡ o
@@ -49,7 +49,7 @@ quiet_closed first low place slots from below none past =
     let front = open_from slots low (place - low) in
     let rest = open_from slots (place + 1) (low + SLOTS - (place + 1)) in
     quiet_at first low place slots None below none past
-    ∙ ap (λ (xs : List OpenPlace). prepend xs (wanted first rest))
+    ∙ ap (λ (xs : List OpenPlace). prepend xs (first_wanted first rest))
     (sym (front_is slots low place None from none ∙ append-nil front))
 
 pub quiet_open : (first low place : ℕ) (slots : List (Option Flags)) (o : OpenPlace) → low ≤ place → place < low + SLOTS
@@ -60,12 +60,12 @@ quiet_open first low place slots o from below there no_resend no_control past =
     let rest = open_from slots (place + 1) (low + SLOTS - (place + 1)) in
     quiet_next first (open_from slots low SLOTS) front rest o no_resend no_control
     (quiet_at first low place slots (Some o) below there past)
-    ∙ ap (λ (xs : List OpenPlace). prepend xs (wanted first rest)) (sym (front_is slots low place (Some o) from there))
+    ∙ ap (λ (xs : List OpenPlace). prepend xs (first_wanted first rest)) (sym (front_is slots low place (Some o) from there))
 
 -- what is wanted of a place is taken
 pub record IsTaken (first low : ℕ) (old new : List (Option Flags)) (send : Sending) : Type 0 where
   pub open_places : List OpenPlace
-  pub is : wanted first (open_from old low SLOTS) ≡ Some (record { send = send; open_places = open_places })
+  pub is : first_wanted first (open_from old low SLOTS) ≡ Some (record { send = send; open_places = open_places })
   pub after : open_from new low SLOTS ≡ open_places
 
 pub take_resend : (first low place : ℕ) (old new : List (Option Flags)) (o : OpenPlace) → low ≤ place
@@ -97,17 +97,17 @@ take_control first low place old new o from below there no_resend wants past put
     }
 
 pub take_none : (first low end place : ℕ) (slots : List (Option Flags)) → EndsAt low end (open_from slots low SLOTS)
-    → end ≤ place → IsQuietTo first low place slots → wanted first (open_from slots low SLOTS) ≡ None
+    → end ≤ place → IsQuietTo first low place slots → first_wanted first (open_from slots low SLOTS) ≡ None
 take_none first low end place slots ends behind past =
     let front = open_from slots low (place - low) in
     quiet_all first (open_from slots low SLOTS) front
     (past
-    ∙ ap (λ (rest : List OpenPlace). prepend front (wanted first rest)) (none_behind slots low end place ends behind))
+    ∙ ap (λ (rest : List OpenPlace). prepend front (first_wanted first rest)) (none_behind slots low end place ends behind))
 
 same_places : (first : ℕ) (os : List OpenPlace) (r : Option Wanted) → IsWantedOr first os r
     → places (places_wanted os r) ≡ places os
 same_places first os None w = refl
 same_places first os (Some x) w = w.same
 
-pub wanted_places : (first : ℕ) (os : List OpenPlace) → places (places_wanted os (wanted first os)) ≡ places os
-wanted_places first os = same_places first os (wanted first os) (wanted_is first os)
+pub wanted_places : (first : ℕ) (os : List OpenPlace) → places (places_wanted os (first_wanted first os)) ≡ places os
+wanted_places first os = same_places first os (first_wanted first os) (wanted_is first os)

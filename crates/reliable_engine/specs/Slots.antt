@@ -27,9 +27,9 @@ open_from slots place zero = []
 open_from slots place (suc count) = put_before (open_at slots place) (open_from slots (place + 1) count)
 
 -- an open place that was changed, if there is one
-abbrev pub changed : (OpenPlace → OpenPlace) → Option OpenPlace → Option OpenPlace
-changed change None = None
-changed change (Some o) = Some (change o)
+abbrev pub with_changed_place : (OpenPlace → OpenPlace) → Option OpenPlace → Option OpenPlace
+with_changed_place change None = None
+with_changed_place change (Some o) = Some (change o)
 
 -- this stands at a place now, and in the other slots stands what stood there
 pub record IsPut (place : ℕ) (now : Option OpenPlace) (old new : List (Option Flags)) : Type 0 where

@@ -6,8 +6,8 @@ use Rattle.world_model.specs.Hub.{Hub, want_control, without}
 use Rattle.world_model.specs.Sends.{Wanted, after_open}
 
 -- the hub that goes on after a give-up, and any other as it is
-abbrev pub resumed : Hub → Hub
-resumed hub = record hub {
+abbrev pub after_resuming : Hub → Hub
+after_resuming hub = record hub {
   open_places = if hub.gave_up then map want_control hub.open_places else hub.open_places;
   gave_up = false;
 }

@@ -11,19 +11,19 @@ use Rattle.reliable_engine.specs.Events.{HubEvent, Offer, Status, Reply, Quiet, 
 use Rattle.reliable_engine.specs.Events.{after_event, after_events}
 
 -- the fate that an event hands out
-abbrev pub handed : Hub → HubEvent → List (ℕ × Fate)
-handed hub (Offer offered) = []
-handed hub (Status next) = []
-handed hub (Reply id words) = []
-handed hub Quiet = []
-handed hub Send = []
-handed hub HandOut = take 1 hub.fates
-handed hub HandOutLate = []
+abbrev pub fates_handed_out : Hub → HubEvent → List (ℕ × Fate)
+fates_handed_out hub (Offer offered) = []
+fates_handed_out hub (Status next) = []
+fates_handed_out hub (Reply id words) = []
+fates_handed_out hub Quiet = []
+fates_handed_out hub Send = []
+fates_handed_out hub HandOut = take 1 hub.fates
+fates_handed_out hub HandOutLate = []
 
 -- those that all the events hand out, in order
 abbrev pub handed_out : Hub → List HubEvent → List (ℕ × Fate)
 handed_out hub [] = []
-handed_out hub (event ∷ events) = handed hub event ++ handed_out (after_event hub event) events
+handed_out hub (event ∷ events) = fates_handed_out hub event ++ handed_out (after_event hub event) events
 
 -- all fates after the events: those that were handed out, and then those that wait
 abbrev pub all_fates : Hub → List HubEvent → List (ℕ × Fate)

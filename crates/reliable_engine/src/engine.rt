@@ -10,7 +10,7 @@ ghost use Rattle.world_model.specs.Sends.{first_send, next_send};
 ghost use Rattle.reliable_engine.specs.Answers.{HasNothingToSend, IsOpen, IsSendOf, NamesOpenPlace, TellsPlace};
 ghost use Rattle.reliable_engine.specs.Answers.{body_count, hub_next, sent_next, tag_there, told_first};
 ghost use Rattle.reliable_engine.specs.Answers.{told_first_late};
-ghost use Rattle.reliable_engine.specs.Steps.{resumed};
+ghost use Rattle.reliable_engine.specs.Steps.{after_resuming};
 
 use crate::fates::{put_fate, put_late, put_unsent};
 use crate::open_places::OpenPlaces;
@@ -233,7 +233,7 @@ impl Engine {
 
     /// Goes on after a give-up: the control packet of each open place is sent again (profile).
     fn resume(&mut self)
-        ensures hub { self.new ≡ resumed self.old }
+        ensures hub { self.new ≡ after_resuming self.old }
         ensures counted { body_count self.new ≡ body_count self.old }
     {
         if self.gave_up {

@@ -4,7 +4,7 @@ ghost use Rattle.std.specs.Prelude.{◌≡◌, ◌≤◌, ◌<◌, ◌+◌, ℕ,
 ghost use Rattle.std.specs.List.{insert};
 ghost use Rattle.std.specs.VecDeque.{deque_len, deque_capacity};
 ghost use Rattle.world_model.specs.declared.offered.Fate.{Fate as FateValue};
-ghost use Rattle.world_model.specs.Hub.{insert_fate, insert_late, goes_before, time_out, unsent};
+ghost use Rattle.world_model.specs.Hub.{insert_fate, insert_late, goes_before, time_out, unsent_fate};
 ghost use Rattle.reliable_engine.specs.Slots.{AreUpTo, EndsAt, open_from};
 ghost use Rattle.reliable_engine.specs.Steps.{waits};
 
@@ -120,7 +120,7 @@ fn put_time_out(fates: &mut VecDeque<(u64, Fate)>, sent: &[Offered], entry: Open
 /// Gives each queued body the fate of one that was never sent.
 pub(crate) fn put_unsent(fates: &mut VecDeque<(u64, Fate)>, queue: &[Offered])
     requires room { deque_len fates.old + length queue.now ≤ deque_capacity fates.old }
-    ensures items { fates.new.items ≡ fates.old.items ++ map unsent queue.now }
+    ensures items { fates.new.items ≡ fates.old.items ++ map unsent_fate queue.now }
     ensures len { deque_len fates.new ≡ deque_len fates.old + length queue.now }
     ensures capacity { deque_capacity fates.old ≤ deque_capacity fates.new }
 {

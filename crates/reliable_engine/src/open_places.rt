@@ -2,9 +2,9 @@
 
 ghost use Rattle.std.specs.Prelude.{◌≡◌, ◌≤◌, ◌<◌, ◌+◌, ◌++◌, ◌∷◌, ◌^◌, [], length, map};
 ghost use Rattle.std.specs.VecDeque.{deque_len, deque_capacity};
-ghost use Rattle.world_model.specs.Hub.{abandoned, least, open_with, places, recover, some_waited, time_out};
+ghost use Rattle.world_model.specs.Hub.{abandoned_place, least, open_with, places, recover, some_waited, time_out};
 ghost use Rattle.world_model.specs.Hub.{want_control};
-ghost use Rattle.world_model.specs.Sends.{opened, wanted};
+ghost use Rattle.world_model.specs.Sends.{opened_place, first_wanted};
 ghost use Rattle.world_model.specs.Facts.{AreRising};
 ghost use Rattle.reliable_engine.specs.Slots.{AreUpTo};
 ghost use Rattle.reliable_engine.specs.Steps.{places_after, places_wanted, sending_of, waits};
@@ -67,7 +67,7 @@ impl OpenPlaces {
         requires up_to_end { place ≤ 2 ^ 62 }
         requires above { AreRising (least (places self.old) place) place (places self.old) }
         requires near { place < least (places self.old) place + SLOTS }
-        ensures { self.new ≡ self.old ++ opened place ∷ [] }
+        ensures { self.new ≡ self.old ++ opened_place place ∷ [] }
     {
         self.low = self.low(place);
         self.end = place + 1;
@@ -91,7 +91,7 @@ impl OpenPlaces {
 
     /// Nobody waits for the places any more, and nothing is to be sent for them.
     pub(crate) fn abandon_all(&mut self)
-        ensures { self.new ≡ map abandoned self.old }
+        ensures { self.new ≡ map abandoned_place self.old }
     {
         abandon_slots(&mut self.slots, self.low, self.end);
     }
@@ -127,8 +127,8 @@ impl OpenPlaces {
 
     /// Takes the first send that is wanted for a place. Of one place the request for its reply goes before its packet.
     pub(crate) fn take_wanted(&mut self, first: Id) -> Option<Sending>
-        ensures send { result ≡ sending_of (wanted first self.old) }
-        ensures after { self.new ≡ places_wanted self.old (wanted first self.old) }
+        ensures send { result ≡ sending_of (first_wanted first self.old) }
+        ensures after { self.new ≡ places_wanted self.old (first_wanted first self.old) }
     {
         take_wanted_slot(&mut self.slots, self.low, self.end, first)
     }

@@ -1,9 +1,9 @@
 //! The slots of places: place `p` stands in slot `p % SLOTS`, so any `SLOTS` places in a row have a slot each.
 
 ghost use Rattle.std.specs.Prelude.{◌≡◌, ◌≤◌, ◌+◌, ◌%◌, ◌^◌, length, map, None, Some};
-ghost use Rattle.world_model.specs.Hub.{abandoned, least, places, recover, some_waited};
-ghost use Rattle.world_model.specs.Sends.{wanted};
-ghost use Rattle.reliable_engine.specs.Slots.{EndsAt, IsPut, changed, open_at, open_from};
+ghost use Rattle.world_model.specs.Hub.{abandoned_place, least, places, recover, some_waited};
+ghost use Rattle.world_model.specs.Sends.{first_wanted};
+ghost use Rattle.reliable_engine.specs.Slots.{EndsAt, IsPut, with_changed_place, open_at, open_from};
 ghost use Rattle.reliable_engine.specs.Steps.{places_wanted, sending_of};
 
 use packet_ids::{Id, id_at};
@@ -85,7 +85,7 @@ pub(crate) fn lowest_open(slots: &[Option<Flags>], low: u64, end: u64) -> u64
 pub(crate) fn abandon_slots(slots: &mut [Option<Flags>], low: u64, end: u64)
     requires slots { length slots.old ≡ SLOTS }
     requires ends { EndsAt low end (open_from slots.old low SLOTS) }
-    ensures { open_from slots.new low SLOTS ≡ map abandoned (open_from slots.old low SLOTS) }
+    ensures { open_from slots.new low SLOTS ≡ map abandoned_place (open_from slots.old low SLOTS) }
 {
     for place in low..end {
         abandon_slot(slots, place);
@@ -95,7 +95,7 @@ pub(crate) fn abandon_slots(slots: &mut [Option<Flags>], low: u64, end: u64)
 /// Nobody waits for a place any more, if it is open.
 fn abandon_slot(slots: &mut [Option<Flags>], place: u64)
     requires { length slots.old ≡ SLOTS }
-    ensures { IsPut place (changed abandoned (open_at slots.old place)) slots.old slots.new }
+    ensures { IsPut place (with_changed_place abandoned_place (open_at slots.old place)) slots.old slots.new }
 {
     if read_slot(slots, place).is_some() {
         put_slot(
@@ -124,7 +124,7 @@ pub(crate) fn recover_slots(slots: &mut [Option<Flags>], low: u64, end: u64, tol
 /// Has a place recovered, if it is open.
 fn recover_slot(slots: &mut [Option<Flags>], place: u64, told: u64)
     requires { length slots.old ≡ SLOTS }
-    ensures { IsPut place (changed (recover told) (open_at slots.old place)) slots.old slots.new }
+    ensures { IsPut place (with_changed_place (recover told) (open_at slots.old place)) slots.old slots.new }
 {
     if let Some(open) = read_slot(slots, place) {
         put_slot(slots, recovered(open, told));
@@ -176,9 +176,9 @@ pub(crate) fn take_wanted_slot(
     requires from_one { 1 ≤ low }
     requires few { end ≤ 2 ^ 62 + 1 }
     requires ends { EndsAt low end (open_from slots.old low SLOTS) }
-    ensures send { result ≡ sending_of (wanted first (open_from slots.old low SLOTS)) }
+    ensures send { result ≡ sending_of (first_wanted first (open_from slots.old low SLOTS)) }
     ensures after { open_from slots.new low SLOTS
-        ≡ places_wanted (open_from slots.old low SLOTS) (wanted first (open_from slots.old low SLOTS)) }
+        ≡ places_wanted (open_from slots.old low SLOTS) (first_wanted first (open_from slots.old low SLOTS)) }
 {
     for place in low..end {
         let Some(open) = read_slot(slots, place) else {

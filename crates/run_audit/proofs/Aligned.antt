@@ -10,7 +10,7 @@ use Rattle.transcript_reader.specs.declared.shown.Shown.{Shown}
 use Rattle.transcript_reader.specs.Entries.{CanShowIn, IsLineOf}
 use Rattle.transcript_reader.specs.Shown.{CanShowAll, greetings_in}
 use Rattle.script_steps.specs.declared.operation.Step.{Step}
-use Rattle.script_steps.specs.Rulings.{Asked, allowed, asked}
+use Rattle.script_steps.specs.Rulings.{Asked, allowed_operations, asked_operations}
 use Rattle.script_plans.specs.declared.board_run.BoardRun.{BoardRun}
 use Rattle.script_plans.specs.Plan.{count_on}
 use Rattle.transcript.specs.Lines.{Showing, line_of, lines_behind, lines_from, shown_behind}
@@ -33,7 +33,7 @@ module _ (runs : List BoardRun) where
       → IsLineBeside runs (record {
         line = line;
         client = client;
-        number = count_on ask.op.board (allowed before);
+        number = count_on ask.op.board (allowed_operations before);
         ask = ask;
         shows = first;
       }) (line_of client before ask run)
@@ -44,7 +44,7 @@ module _ (runs : List BoardRun) where
 
   beside : (line client : ℕ) (before asks : List Asked) (shows : List Showing) → length shows ≡ length asks
       → AllByRecursion (HasRun runs) asks
-      → AllZip (IsLineBeside runs) (session.lines_behind line client before asks shows)
+      → AllZip (IsLineBeside runs) (session.asked_behind line client before asks shows)
       (lines_behind runs client before asks)
   beside line client before [] shows long all = tt
   beside line client before (ask ∷ asks) [] long all = absurd (omega arith)
@@ -52,7 +52,7 @@ module _ (runs : List BoardRun) where
       let one : line_of client before ask all.0.0 ∷ []
       ≡ option_to_list (option_map (line_of client before ask) (slice_get runs ask.op.board)) =
       ap (λ o. option_to_list (option_map (line_of client before ask) o)) (sym all.0.1) in
-      subst (λ l. AllZip (IsLineBeside runs) (session.lines_behind line client before (ask ∷ asks) (first ∷ shows))
+      subst (λ l. AllZip (IsLineBeside runs) (session.asked_behind line client before (ask ∷ asks) (first ∷ shows))
       (l ++ lines_behind runs client (before ++ ask ∷ []) asks)) one (
         here line client before ask first all.0.0 all.0.1,
         beside (line + 1) client (before ++ ask ∷ []) asks shows (omega arith) all.1,
@@ -61,17 +61,17 @@ module _ (runs : List BoardRun) where
   -- so those of all clients do
   pub all_beside : (line client : ℕ) (scripts : List (List Step)) (clients : List (List Showing))
       → AllZip (HaveRuns runs) scripts clients
-      → AllZip (IsLineBeside runs) (session.lines_from line client scripts clients)
+      → AllZip (IsLineBeside runs) (session.asked_from line client scripts clients)
       (flat_map (λ lines. lines) (lines_from runs client scripts))
   all_beside line client [] clients all = tt
   all_beside line client (steps ∷ scripts) [] all = absurd all
   all_beside line client (steps ∷ scripts) (shows ∷ clients) all =
-      zip_append (IsLineBeside runs) (session.lines_behind (line + 1) client [] (asked steps) shows)
-      (session.lines_from (line + 1 + length (asked steps)) (client + 1) scripts clients)
-      (lines_behind runs client [] (asked steps))
+      zip_append (IsLineBeside runs) (session.asked_behind (line + 1) client [] (asked_operations steps) shows)
+      (session.asked_from (line + 1 + length (asked_operations steps)) (client + 1) scripts clients)
+      (lines_behind runs client [] (asked_operations steps))
       (flat_map (λ lines. lines) (lines_from runs (client + 1) scripts))
-      (beside (line + 1) client [] (asked steps) shows all.0.0 all.0.1)
-      (all_beside (line + 1 + length (asked steps)) (client + 1) scripts clients all.1)
+      (beside (line + 1) client [] (asked_operations steps) shows all.0.0 all.0.1)
+      (all_beside (line + 1 + length (asked_operations steps)) (client + 1) scripts clients all.1)
 
 -- ---- what a transcript shows
 
@@ -109,7 +109,7 @@ module _ (told : List Greeting) (runs : List BoardRun) (level : length told ≡ 
   have_runs [] (shows ∷ clients) all = absurd all
   have_runs (steps ∷ scripts) [] all = absurd all
   have_runs (steps ∷ scripts) (shows ∷ clients) all =
-      (have_run (asked steps) shows all.0, have_runs scripts clients all.1)
+      (have_run (asked_operations steps) shows all.0, have_runs scripts clients all.1)
 
 -- the lines of the replay of what is shown stand beside the operations
 pub replay_beside : (boards : List BoardSpec) (scripts : List (List Step)) (shown : Shown) (runs : List BoardRun)

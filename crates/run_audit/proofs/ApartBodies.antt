@@ -11,7 +11,7 @@ use Rattle.std.proofs.lemmas.Map.Lookups.{exact_unsigned}
 use Rattle.std.proofs.lemmas.Option.{same_Some}
 use Rattle.board_bus.specs.Cells.{CellMap}
 use Rattle.board_history.specs.Order.{Placed}
-use Rattle.board_history.specs.Runs.{greeting_of, opening_of}
+use Rattle.board_history.specs.Runs.{greeting_of, opens_with}
 use Rattle.board_node.specs.declared.spec.BoardSpec.{BoardSpec}
 use Rattle.script_plans.specs.Plan.{ClientBodies, plans_on}
 use Rattle.script_plans.specs.declared.planned.PieceAt.{PieceAt}
@@ -121,8 +121,8 @@ runs_planned boards scripts lines board (spec ∷ specs) =
     let pieces = pieces_shown boards scripts board lines in
     let plans = plans_on board (greeting_of spec.link) scripts in
     let here : map (λ (part : ClientPart). part.planned)
-    (parts_from (opening_of spec.link) (shown_order pieces plans) pieces 0 plans) ≡ plans =
-    parts_planned (opening_of spec.link) (shown_order pieces plans) pieces 0 plans in
+    (parts_from (opens_with spec.link) (shown_order pieces plans) pieces 0 plans) ≡ plans =
+    parts_planned (opens_with spec.link) (shown_order pieces plans) pieces 0 plans in
     let rest : plans_in (replays_from boards scripts lines (board + 1) specs) ≡ plans_from (board + 1) specs scripts =
     runs_planned boards scripts lines (board + 1) specs in
     cc

@@ -12,7 +12,7 @@ use Rattle.ipb_base.proofs.AllLemmas.{AllByRecursion-append}
 use Rattle.script_plans.specs.declared.board_run.BoardRun.{BoardRun}
 use Rattle.script_plans.specs.declared.greeting.Greeting.{Greeting}
 use Rattle.script_steps.specs.declared.operation.Step.{Step}
-use Rattle.script_steps.specs.Rulings.{Asked, asked}
+use Rattle.script_steps.specs.Rulings.{Asked, asked_operations}
 use Rattle.transcript.specs.declared.line.BoardLine.{BoardLine}
 use Rattle.transcript.specs.declared.line.OpLine.{OpLine}
 use Rattle.transcript.specs.declared.line.OpResult.{OpResult}
@@ -24,7 +24,7 @@ use Rattle.run_audit.specs.declared.asking.AskedOp.{AskedOp}
 use Rattle.run_audit.specs.AskedLines as session
 use Rattle.run_audit.specs.AskedLines.{AskedLine, asked_lines}
 use Rattle.run_audit.specs.Agreeing.{IsLineBeside}
-use Rattle.run_audit.specs.Replay.{replayed}
+use Rattle.run_audit.specs.Replay.{replay_of_board}
 use Rattle.run_audit.specs.Replaying.{AreReplayed}
 use Rattle.run_audit.specs.Results.{IsInTime}
 use Rattle.run_audit.specs.Steps.{asking, replays_from}
@@ -115,7 +115,7 @@ each_told (spec ∷ boards) (line ∷ lines) all = ap suc (each_told boards line
 
 module _ (boards : List BoardSpec) (told : List Greeting) (level : length told ≡ length boards) where
   client_on : (line client : ℕ) (before asks : List Asked) (shows : List Showing) → AllZip (CanShowIn told) asks shows
-      → AllByRecursion (IsOn boards) (session.lines_behind line client before asks shows)
+      → AllByRecursion (IsOn boards) (session.asked_behind line client before asks shows)
   client_on line client before [] shows all = tt
   client_on line client before (ask ∷ asks) [] all = absurd all
   client_on line client before (ask ∷ asks) (first ∷ shows) all =
@@ -124,14 +124,14 @@ module _ (boards : List BoardSpec) (told : List Greeting) (level : length told �
 
   all_on : (line client : ℕ) (scripts : List (List Step)) (clients : List (List Showing))
       → AllZip (CanShowAll told) scripts clients
-      → AllByRecursion (IsOn boards) (session.lines_from line client scripts clients)
+      → AllByRecursion (IsOn boards) (session.asked_from line client scripts clients)
   all_on line client [] clients all = tt
   all_on line client (steps ∷ scripts) [] all = absurd all
   all_on line client (steps ∷ scripts) (shows ∷ clients) all =
-      AllByRecursion-append (IsOn boards) (session.lines_behind (line + 1) client [] (asked steps) shows)
-      (session.lines_from (line + 1 + length (asked steps)) (client + 1) scripts clients)
-      (client_on (line + 1) client [] (asked steps) shows all.0)
-      (all_on (line + 1 + length (asked steps)) (client + 1) scripts clients all.1)
+      AllByRecursion-append (IsOn boards) (session.asked_behind (line + 1) client [] (asked_operations steps) shows)
+      (session.asked_from (line + 1 + length (asked_operations steps)) (client + 1) scripts clients)
+      (client_on (line + 1) client [] (asked_operations steps) shows all.0)
+      (all_on (line + 1 + length (asked_operations steps)) (client + 1) scripts clients all.1)
 
 one_of_all : {A : Type 0} (P : A → Type 0) (xs : List A) (k : ℕ) (x : A) → AllByRecursion P xs → slice_get xs k ≡ Some x
     → P x
@@ -143,16 +143,16 @@ one_of_all P (y ∷ xs) (suc k) x all there = one_of_all P xs k x all.1 there
 
 run_at : (boards : List BoardSpec) (scripts : List (List Step)) (lines : List AskedLine) (board : ℕ)
     (specs : List BoardSpec) (k : ℕ) (spec : BoardSpec) → slice_get specs k ≡ Some spec
-    → slice_get (replays_from boards scripts lines board specs) k ≡ Some (replayed boards scripts lines spec (board + k))
+    → slice_get (replays_from boards scripts lines board specs) k ≡ Some (replay_of_board boards scripts lines spec (board + k))
 run_at boards scripts lines board [] k spec there = absurd (omega (arith, slice_get_within [] k spec there))
 run_at boards scripts lines board (first ∷ specs) zero spec there =
     let same : board ≡ board + 0 = omega arith in
-    ap (λ s. Some (replayed boards scripts lines s board)) (same_Some first spec there)
-    ∙ ap (λ b. Some (replayed boards scripts lines spec b)) same
+    ap (λ s. Some (replay_of_board boards scripts lines s board)) (same_Some first spec there)
+    ∙ ap (λ b. Some (replay_of_board boards scripts lines spec b)) same
 run_at boards scripts lines board (first ∷ specs) (suc k) spec there =
     let same : board + 1 + k ≡ board + suc k = omega arith in
     run_at boards scripts lines (board + 1) specs k spec there
-    ∙ ap (λ b. Some (replayed boards scripts lines spec b)) same
+    ∙ ap (λ b. Some (replay_of_board boards scripts lines spec b)) same
 
 -- ---- the line of the replay
 
@@ -179,10 +179,10 @@ module _ (boards : List BoardSpec) (scripts : List (List Step)) (shown : Shown) 
         allowed' = free;
         spec = on.0;
         on = on.1;
-        same = beside (replayed boards scripts (asked_lines scripts shown) on.0 one.ask.op.board)
+        same = beside (replay_of_board boards scripts (asked_lines scripts shown) on.0 one.ask.op.board)
             (ap (λ r. slice_get r one.ask.op.board) are.runs'
             ∙ run_at boards scripts (asked_lines scripts shown) 0 boards one.ask.op.board on.0 on.1
-            ∙ ap (λ b. Some (replayed boards scripts (asked_lines scripts shown) on.0 b)) counted) free;
+            ∙ ap (λ b. Some (replay_of_board boards scripts (asked_lines scripts shown) on.0 b)) counted) free;
       }
 
   pub told_in_time : (runs : List BoardRun) (ops : List AskedOp) (all : List OpLine) (at : ℕ)

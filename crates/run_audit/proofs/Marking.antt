@@ -6,7 +6,7 @@ use Rattle.std.proofs.lemmas.Bool.Decides.{nat_tests}
 use Rattle.script_plans.specs.Plan.{ClientBodies}
 use Rattle.run_audit.specs.AskedLines.{ShownPiece}
 use Rattle.run_audit.specs.Replay.{place_shown}
-use Rattle.run_audit.specs.Replaying.{all_marked, marked, marked_in, no_places, row_from, rows_from}
+use Rattle.run_audit.specs.Replaying.{all_marked, with_mark, marked_in, no_places, row_from, rows_from}
 
 -- ---- what is known counts first
 
@@ -66,7 +66,7 @@ other_row piece pieces client number (known ∷ row) other =
 
 marked_row : (piece : ShownPiece) (pieces : List ShownPiece) (client number at : ℕ) (row : List (Option ℕ))
     → piece.client ≡ client → piece.body ≡ number + at
-    → over_row pieces client number (marked at piece.place row) ≡ over_row (piece ∷ pieces) client number row
+    → over_row pieces client number (with_mark at piece.place row) ≡ over_row (piece ∷ pieces) client number row
 marked_row piece pieces client number at [] of here = refl
 marked_row piece pieces client number zero (known ∷ row) of here =
     let first = shown_here piece pieces client number of (omega arith) in
@@ -145,19 +145,19 @@ all_are_marked pieces plans =
 -- ---- what the code does to a row
 
 pub mark_is_set : (row : List (Option ℕ)) (at place : ℕ) (d : Option ℕ) → at < length row
-    → set row at (Some (unwrap_or (get_or row at d) place)) ≡ marked at place row
+    → set row at (Some (unwrap_or (get_or row at d) place)) ≡ with_mark at place row
 mark_is_set [] at place d within = absurd (omega arith)
 mark_is_set (known ∷ row) zero place d within = refl
 mark_is_set (known ∷ row) (suc at) place d within =
     ap (λ rest. known ∷ rest) (mark_is_set row at place d (omega arith))
 
-pub mark_is_past : (row : List (Option ℕ)) (at place : ℕ) → length row ≤ at → marked at place row ≡ row
+pub mark_is_past : (row : List (Option ℕ)) (at place : ℕ) → length row ≤ at → with_mark at place row ≡ row
 mark_is_past [] at place past = refl
 mark_is_past (known ∷ row) zero place past = absurd (omega arith)
 mark_is_past (known ∷ row) (suc at) place past = ap (λ rest. known ∷ rest) (mark_is_past row at place (omega arith))
 
 pub row_is_set : (rows : List (List (Option ℕ))) (at body place : ℕ) (d : List (Option ℕ)) → at < length rows
-    → set rows at (marked body place (get_or rows at d)) ≡ marked_in at body place rows
+    → set rows at (with_mark body place (get_or rows at d)) ≡ marked_in at body place rows
 row_is_set [] at body place d within = absurd (omega arith)
 row_is_set (first ∷ rows) zero body place d within = refl
 row_is_set (first ∷ rows) (suc at) body place d within =

@@ -8,14 +8,14 @@ use Rattle.ipb_base.proofs.AllLemmas.{AllByRecursion-append, all-map}
 use Rattle.mtu_packer.specs.declared.packed.Piece.{Piece}
 use Rattle.mtu_packer.specs.Packing.{body_words, parts_of}
 use Rattle.mtu_packer.specs.Cutting.{piece_count}
-use Rattle.mtu_packer.specs.Packed.{packed, places_in, places_from, deal}
+use Rattle.mtu_packer.specs.Packed.{packed_contents, places_in, places_from, deal}
 use Rattle.script_steps.specs.declared.operation.RegOp.{RegOp}
 use Rattle.script_steps.specs.declared.operation.Step.{Step}
 use Rattle.script_plans.specs.declared.greeting.Greeting.{Greeting}
 use Rattle.script_plans.specs.declared.greeting.Greeting.TheVariants.{Live, Silent, Down}
 use Rattle.script_plans.specs.declared.planned.PieceAt.{PieceAt}
 use Rattle.script_plans.specs.Claims.{Rises, HaveBodies}
-use Rattle.script_plans.specs.Plan.{ClientBodies, no_bodies, moved, ops_on, dispatches, planned_on, with_dispatch}
+use Rattle.script_plans.specs.Plan.{ClientBodies, no_bodies, piece_behind, ops_on, dispatches, planned_on, with_dispatch}
 
 -- ---- lists that rise
 
@@ -180,79 +180,79 @@ dealt_below most (n ∷ counts) xs below = (
 )
 
 module _ (payload : ℕ) (ops : _) where
-  packed_each : Rises (Each PieceUpTo) (packed payload ops).pieces
+  packed_each : Rises (Each PieceUpTo) (packed_contents payload ops).pieces
   packed_each = dealt_rise PieceUpTo (map (piece_count payload) ops) (places_from 0 (parts_of payload ops))
       (places_rise 0 (parts_of payload ops))
 
-  packed_rises : AllByRecursion (Rises PieceUpTo) (packed payload ops).pieces
+  packed_rises : AllByRecursion (Rises PieceUpTo) (packed_contents payload ops).pieces
   packed_rises = each_dealt_rises PieceUpTo (map (piece_count payload) ops) (places_from 0 (parts_of payload ops))
       (places_rise 0 (parts_of payload ops))
 
-  packed_below : AllByRecursion (StandBelow (length (packed payload ops).bodies)) (packed payload ops).pieces
+  packed_below : AllByRecursion (StandBelow (length (packed_contents payload ops).bodies)) (packed_contents payload ops).pieces
   packed_below =
-      dealt_below (length (packed payload ops).bodies) (map (piece_count payload) ops)
+      dealt_below (length (packed_contents payload ops).bodies) (map (piece_count payload) ops)
       (places_from 0 (parts_of payload ops))
-      (below_places (length (packed payload ops).bodies) 0 (parts_of payload ops)
+      (below_places (length (packed_contents payload ops).bodies) 0 (parts_of payload ops)
       (omega (arith, length-map (parts_of payload ops) body_words)))
 
 -- ---- pieces that are moved behind other bodies
 
 module _ (first : ℕ) where
   moved_up_to : (p : Piece) (qs : List Piece) → AllByRecursion (PieceUpTo p) qs
-      → AllByRecursion (IsUpTo (moved first p)) (map (moved first) qs)
+      → AllByRecursion (IsUpTo (piece_behind first p)) (map (piece_behind first) qs)
   moved_up_to p [] all = tt
   moved_up_to p (q ∷ qs) all = (omega (arith, all.0), moved_up_to p qs all.1)
 
-  moved_each : (ps qs : List Piece) → Each PieceUpTo ps qs → Each IsUpTo (map (moved first) ps) (map (moved first) qs)
+  moved_each : (ps qs : List Piece) → Each PieceUpTo ps qs → Each IsUpTo (map (piece_behind first) ps) (map (piece_behind first) qs)
   moved_each [] qs each = tt
   moved_each (p ∷ ps) qs each = (moved_up_to p qs each.0, moved_each ps qs each.1)
 
   moved_all_each : (ps : List Piece) (pieces : List (List Piece)) → AllByRecursion (Each PieceUpTo ps) pieces
-      → AllByRecursion (Each IsUpTo (map (moved first) ps)) (map (λ qs. map (moved first) qs) pieces)
+      → AllByRecursion (Each IsUpTo (map (piece_behind first) ps)) (map (λ qs. map (piece_behind first) qs) pieces)
   moved_all_each ps [] all = tt
   moved_all_each ps (qs ∷ pieces) all = (moved_each ps qs all.0, moved_all_each ps pieces all.1)
 
   moved_rise : (pieces : List (List Piece)) → Rises (Each PieceUpTo) pieces
-      → Rises (Each IsUpTo) (map (λ ps. map (moved first) ps) pieces)
+      → Rises (Each IsUpTo) (map (λ ps. map (piece_behind first) ps) pieces)
   moved_rise [] rises = tt
   moved_rise (ps ∷ pieces) rises = (moved_all_each ps pieces rises.0, moved_rise pieces rises.1)
 
-  moved_rises : (ps : List Piece) → Rises PieceUpTo ps → Rises IsUpTo (map (moved first) ps)
+  moved_rises : (ps : List Piece) → Rises PieceUpTo ps → Rises IsUpTo (map (piece_behind first) ps)
   moved_rises [] rises = tt
   moved_rises (p ∷ ps) rises = (moved_up_to p ps rises.0, moved_rises ps rises.1)
 
   moved_all_rise : (pieces : List (List Piece)) → AllByRecursion (Rises PieceUpTo) pieces
-      → AllByRecursion (Rises IsUpTo) (map (λ ps. map (moved first) ps) pieces)
+      → AllByRecursion (Rises IsUpTo) (map (λ ps. map (piece_behind first) ps) pieces)
   moved_all_rise [] all = tt
   moved_all_rise (ps ∷ pieces) all = (moved_rises ps all.0, moved_all_rise pieces all.1)
 
   moved_below : (most : ℕ) (ps : List Piece) → StandBelow most ps
-      → AllByRecursion (λ (p : PieceAt). p.body < first + most) (map (moved first) ps)
+      → AllByRecursion (λ (p : PieceAt). p.body < first + most) (map (piece_behind first) ps)
   moved_below most [] all = tt
   moved_below most (p ∷ ps) all = (omega (arith, all.0), moved_below most ps all.1)
 
   moved_all_below : (most : ℕ) (pieces : List (List Piece)) → AllByRecursion (StandBelow most) pieces
-      → AllByRecursion (AllByRecursion (λ (p : PieceAt). p.body < first + most)) (map (λ ps. map (moved first) ps) pieces)
+      → AllByRecursion (AllByRecursion (λ (p : PieceAt). p.body < first + most)) (map (λ ps. map (piece_behind first) ps) pieces)
   moved_all_below most [] all = tt
   moved_all_below most (ps ∷ pieces) all = (moved_below most ps all.0, moved_all_below most pieces all.1)
 
-  below_moved : (p : PieceAt) (qs : List Piece) → p.body < first → AllByRecursion (IsUpTo p) (map (moved first) qs)
+  below_moved : (p : PieceAt) (qs : List Piece) → p.body < first → AllByRecursion (IsUpTo p) (map (piece_behind first) qs)
   below_moved p [] below = tt
   below_moved p (q ∷ qs) below = (omega arith, below_moved p qs below)
 
   each_behind : (ps : List PieceAt) (qs : List Piece) → AllByRecursion (λ (p : PieceAt). p.body < first) ps
-      → Each IsUpTo ps (map (moved first) qs)
+      → Each IsUpTo ps (map (piece_behind first) qs)
   each_behind [] qs all = tt
   each_behind (p ∷ ps) qs all = (below_moved p qs all.0, each_behind ps qs all.1)
 
   all_behind : (ps : List PieceAt) (pieces : List (List Piece)) → AllByRecursion (λ (p : PieceAt). p.body < first) ps
-      → AllByRecursion (Each IsUpTo ps) (map (λ qs. map (moved first) qs) pieces)
+      → AllByRecursion (Each IsUpTo ps) (map (λ qs. map (piece_behind first) qs) pieces)
   all_behind ps [] all = tt
   all_behind ps (qs ∷ pieces) all = (each_behind ps qs all, all_behind ps pieces all)
 
   each_all_behind : (all : List (List PieceAt)) (pieces : List (List Piece))
       → AllByRecursion (AllByRecursion (λ (p : PieceAt). p.body < first)) all
-      → Each (Each IsUpTo) all (map (λ qs. map (moved first) qs) pieces)
+      → Each (Each IsUpTo) all (map (λ qs. map (piece_behind first) qs) pieces)
   each_all_behind [] pieces below = tt
   each_all_behind (ps ∷ all) pieces below = (all_behind ps pieces below.0, each_all_behind all pieces below.1)
 
@@ -272,29 +272,29 @@ still_below low high pieces more all =
     (λ ps. all-map (λ (p : PieceAt). p.body < low) (λ (p : PieceAt). p.body < high) ps (λ p under. omega arith)) all
 
 next_dispatch : (payload : ℕ) (ops : _) (all : ClientBodies) → AreInOrder all
-    → AreInOrder (with_dispatch all (packed payload ops))
+    → AreInOrder (with_dispatch all (packed_contents payload ops))
 next_dispatch payload ops all so_far =
     let first = length all.bodies in
-    let more = (packed payload ops).bodies in
+    let more = (packed_contents payload ops).bodies in
     let long : length (all.bodies ++ more) ≡ first + length more = length-append all.bodies more in
     record {
       each = rises_append (Each IsUpTo) all.pieces _ so_far.each
-          (moved_rise first (packed payload ops).pieces (packed_each payload ops))
-          (each_all_behind first all.pieces (packed payload ops).pieces so_far.bodies);
+          (moved_rise first (packed_contents payload ops).pieces (packed_each payload ops))
+          (each_all_behind first all.pieces (packed_contents payload ops).pieces so_far.bodies);
       within = AllByRecursion-append (Rises IsUpTo) all.pieces _ so_far.within
-          (moved_all_rise first (packed payload ops).pieces (packed_rises payload ops));
+          (moved_all_rise first (packed_contents payload ops).pieces (packed_rises payload ops));
       bodies = AllByRecursion-append (AllByRecursion (λ (p : PieceAt). p.body < length (all.bodies ++ more))) all.pieces _
           (still_below first (length (all.bodies ++ more)) all.pieces (omega arith) so_far.bodies)
           (subst (λ n. AllByRecursion (AllByRecursion (λ (p : PieceAt). p.body < n))
-          (map (λ ps. map (moved first) ps) (packed payload ops).pieces)) (sym long)
-          (moved_all_below first (length more) (packed payload ops).pieces (packed_below payload ops)));
+          (map (λ ps. map (piece_behind first) ps) (packed_contents payload ops).pieces)) (sym long)
+          (moved_all_below first (length more) (packed_contents payload ops).pieces (packed_below payload ops)));
     }
 
 from_dispatches : (payload board : ℕ) (ds : List (List RegOp)) (all : ClientBodies) → AreInOrder all
-    → AreInOrder (fold with_dispatch all (map (λ dispatch. packed payload (ops_on board dispatch)) ds))
+    → AreInOrder (fold with_dispatch all (map (λ dispatch. packed_contents payload (ops_on board dispatch)) ds))
 from_dispatches payload board [] all so_far = so_far
 from_dispatches payload board (d ∷ ds) all so_far =
-    from_dispatches payload board ds (with_dispatch all (packed payload (ops_on board d)))
+    from_dispatches payload board ds (with_dispatch all (packed_contents payload (ops_on board d)))
     (next_dispatch payload (ops_on board d) all so_far)
 
 nothing_in_order : AreInOrder no_bodies

@@ -17,12 +17,12 @@ use Rattle.script_plans.specs.declared.greeting.Greeting.{Greeting}
 use Rattle.script_plans.specs.declared.board_run.BoardRun.{BoardRun}
 use Rattle.script_plans.specs.declared.board_run.ClientPart.{ClientPart}
 use Rattle.transcript_reader.specs.declared.shown.Shown.{Shown}
-use Rattle.board_history.specs.Runs.{opening_of}
+use Rattle.board_history.specs.Runs.{opens_with}
 use Rattle.transaction_codec.specs.declared.room.TheConstants.{LONGEST_BODY}
 use Rattle.board_node.specs.declared.spec.BoardSpec.{BoardSpec}
 use Rattle.script_steps.specs.declared.operation.Step.{Step}
 use Rattle.lane_record.specs.declared.outcome.Outcome.TheVariants.{Replied}
-use Rattle.board_history.specs.Order.{Placed, bodies_of, by_place, insert, with_place}
+use Rattle.board_history.specs.Order.{Placed, bodies_in, by_place, insert, with_place}
 use Rattle.board_history.proofs.Sorting.{all_sorted}
 use Rattle.run_audit.specs.declared.replaying.PlacedBody.{PlacedBody}
 use Rattle.run_audit.specs.declared.replaying.PlacedReply.{PlacedReply}
@@ -30,7 +30,7 @@ use Rattle.run_audit.specs.declared.replaying.BoardPieces.{BoardPieces}
 use Rattle.run_audit.specs.AskedLines.{AskedLine, ShownPiece, pieces_shown, with_places}
 use Rattle.run_audit.specs.AskedLines as of_line
 use Rattle.run_audit.specs.Replay.{all_placed_from, outcomes_from, parts_from, place_shown, placed_from, replied_at}
-use Rattle.run_audit.specs.Replay.{replayed, reply_at, shown_order}
+use Rattle.run_audit.specs.Replay.{replay_of_board, reply_at, shown_order}
 use Rattle.run_audit.specs.Replaying.{outcome_among, parts_among, placed_in_row, placed_in_rows, placed_of}
 use Rattle.run_audit.specs.Replaying.{replies_from, reply_among, row_from, rows_from, AreShort, HasShortBodies, Rise}
 use Rattle.run_audit.proofs.Marking.{all_are_marked}
@@ -128,12 +128,12 @@ rows_short (plan ∷ plans) (row ∷ rows) short =
     all_append IsShort (placed_in_row plan.bodies row) (placed_in_rows plans rows)
     (row_short plan.bodies row short.0) (rows_short plans rows short.1)
 
-bodies_short : (order : List Placed) → AllByRecursion IsShort order → AreShort (bodies_of order)
+bodies_short : (order : List Placed) → AllByRecursion IsShort order → AreShort (bodies_in order)
 bodies_short [] all = tt
 bodies_short (placed ∷ order) all = (all.0, bodies_short order all.1)
 
 pub order_is_short : (plans : List ClientBodies) (rows : List (List (Option ℕ)))
-    → AllByRecursion HasShortBodies plans → AreShort (bodies_of (by_place (placed_in_rows plans rows)))
+    → AllByRecursion HasShortBodies plans → AreShort (bodies_in (by_place (placed_in_rows plans rows)))
 order_is_short plans rows short =
     bodies_short (by_place (placed_in_rows plans rows))
     (all_sorted IsShort (placed_in_rows plans rows) (rows_short plans rows short))
@@ -155,7 +155,7 @@ replies_rise cells (placed ∷ order) up = (
 )
 
 reply_is : (cells : CellMap) (order : List Placed) (place : ℕ)
-    → reply_among (replies_from cells order) place ≡ reply_at order (replay cells (bodies_of order)).replies place
+    → reply_among (replies_from cells order) place ≡ reply_at order (replay cells (bodies_in order)).replies place
 reply_is cells [] place = refl
 reply_is cells (placed ∷ order) place =
     ap (λ rest. cond (placed.place == place) (run_body cells placed.body).reply rest)
@@ -318,7 +318,7 @@ pub runs_are : (boards : List BoardSpec) (scripts : List (List Step)) (lines : L
     ≡ replays_from boards scripts lines board specs
 runs_are boards scripts lines board [] = refl
 runs_are boards scripts lines board (spec ∷ specs) =
-    ap (λ rest. replayed boards scripts lines spec board ∷ rest) (runs_are boards scripts lines (board + 1) specs)
+    ap (λ rest. replay_of_board boards scripts lines spec board ∷ rest) (runs_are boards scripts lines (board + 1) specs)
 
 pub all_runs : (boards : List BoardSpec) (scripts : List (List Step)) (shown : Shown) (lines : List AskedLine)
     (plans : List (List ClientBodies)) (pieces : List (List ShownPiece)) (runs : List BoardRun)
@@ -345,16 +345,16 @@ parts_done replies plans rows at parts whole past so_far =
 
 pub run_is : (spec : BoardSpec) (plans : List ClientBodies) (pieces : List ShownPiece) (rows : List (List (Option ℕ)))
     (replies : List PlacedReply) (parts : List ClientPart) → rows ≡ rows_from pieces 0 plans
-    → replies ≡ replies_from (opening_of spec.link) (by_place (placed_in_rows plans rows))
+    → replies ≡ replies_from (opens_with spec.link) (by_place (placed_in_rows plans rows))
     → parts ≡ parts_among replies plans rows
-    → parts ≡ parts_from (opening_of spec.link) (shown_order pieces plans) pieces 0 plans
+    → parts ≡ parts_from (opens_with spec.link) (shown_order pieces plans) pieces 0 plans
 run_is spec plans pieces rows replies parts marked told made =
     let order = ap by_place (placed_rows pieces 0 plans) in
-    let known : replies ≡ replies_from (opening_of spec.link) (shown_order pieces plans) =
-    told ∙ ap (replies_from (opening_of spec.link)) (ap (λ r. by_place (placed_in_rows plans r)) marked ∙ order) in
+    let known : replies ≡ replies_from (opens_with spec.link) (shown_order pieces plans) =
+    told ∙ ap (replies_from (opens_with spec.link)) (ap (λ r. by_place (placed_in_rows plans r)) marked ∙ order) in
     made ∙ (ap (λ r. parts_among r plans rows) known
-    ∙ (ap (parts_among (replies_from (opening_of spec.link) (shown_order pieces plans)) plans) marked
-    ∙ parts_are (opening_of spec.link) (shown_order pieces plans) pieces 0 plans))
+    ∙ (ap (parts_among (replies_from (opens_with spec.link) (shown_order pieces plans)) plans) marked
+    ∙ parts_are (opens_with spec.link) (shown_order pieces plans) pieces 0 plans))
 
 pub same_run : (name name' : List ℕ) (greeting greeting' : Greeting) (parts parts' : List ClientPart) → name ≡ name'
     → greeting ≡ greeting' → parts ≡ parts'

@@ -11,11 +11,11 @@ use Rattle.script_plans.specs.Claims.{Rises}
 use Rattle.script_plans.specs.Plan.{count_on}
 use Rattle.script_steps.specs.declared.operation.RegOp.{RegOp}
 use Rattle.script_steps.specs.declared.operation.Step.{Step}
-use Rattle.script_steps.specs.Rulings.{Asked, asked, allowed}
+use Rattle.script_steps.specs.Rulings.{Asked, asked_operations, allowed_operations}
 use Rattle.transcript.proofs.Allowed.{allowed-append}
 use Rattle.transcript.specs.Lines.{Showing}
 use Rattle.transcript_reader.specs.declared.shown.Shown.{Shown}
-use Rattle.run_audit.specs.AskedLines.{AskedLine, ShownPiece, asked_lines, asked_of, greeting_at, lines_behind, lines_from}
+use Rattle.run_audit.specs.AskedLines.{AskedLine, ShownPiece, asked_lines, asked_of, greeting_at, asked_behind, asked_from}
 use Rattle.run_audit.specs.AskedLines.{pieces_in, pieces_of, pieces_shown, pieces_unless, shown_piece, with_places}
 use Rattle.run_audit.specs.Steps.{StandsBefore}
 use Rattle.run_audit.proofs.PlanOrder.{Each, IsUpTo, each_append, each_at, each_nil, plans_in_order, rises_append}
@@ -34,29 +34,29 @@ pub record IsBehind (line most client : ℕ) (before : List Asked) (asking : Ask
   pub from : line ≤ asking.line
   pub below : asking.line < most
   pub of_client : asking.client ≡ client
-  pub number : count_on asking.ask.op.board (allowed before) ≤ asking.number
+  pub number : count_on asking.ask.op.board (allowed_operations before) ≤ asking.number
 
 no_fewer : (board : ℕ) (before : List Asked) (ask : Asked)
-    → count_on board (allowed before) ≤ count_on board (allowed (before ++ ask ∷ []))
+    → count_on board (allowed_operations before) ≤ count_on board (allowed_operations (before ++ ask ∷ []))
 no_fewer board before ask =
     rw (
       allowed-append before (ask ∷ []),
-      count_by-append (λ (o : RegOp). o.board == board) (allowed before) (allowed (ask ∷ [])),
+      count_by-append (λ (o : RegOp). o.board == board) (allowed_operations before) (allowed_operations (ask ∷ [])),
     ) (omega arith)
 
 one_more : (board : ℕ) (before : List Asked) (ask : Asked) → ask.denied ≡ None → ask.op.board ≡ board
-    → count_on board (allowed before) < count_on board (allowed (before ++ ask ∷ []))
+    → count_on board (allowed_operations before) < count_on board (allowed_operations (before ++ ask ∷ []))
 one_more board before ask free same =
-    let counted : allowed (ask ∷ []) ≡ ask.op ∷ [] = rw free refl in
+    let counted : allowed_operations (ask ∷ []) ≡ ask.op ∷ [] = rw free refl in
     let one : count_on board (ask.op ∷ []) ≡ 1 = ap (λ b. 0 + cond b 1 0) (eq-eqb ask.op.board board same) in
     rw (
       allowed-append before (ask ∷ []),
-      count_by-append (λ (o : RegOp). o.board == board) (allowed before) (allowed (ask ∷ [])),
+      count_by-append (λ (o : RegOp). o.board == board) (allowed_operations before) (allowed_operations (ask ∷ [])),
       counted,
     ) (omega (arith, one))
 
 lines_are_behind : (line client : ℕ) (before asks : List Asked) (shows : List Showing)
-    → AllByRecursion (IsBehind line (line + length asks) client before) (lines_behind line client before asks shows)
+    → AllByRecursion (IsBehind line (line + length asks) client before) (asked_behind line client before asks shows)
 lines_are_behind line client before [] shows = tt
 lines_are_behind line client before (ask ∷ asks) [] = tt
 lines_are_behind line client before (ask ∷ asks) (first ∷ shows) = (
@@ -73,7 +73,7 @@ lines_are_behind line client before (ask ∷ asks) (first ∷ shows) = (
 )
 
 behind_rise : (line client : ℕ) (before asks : List Asked) (shows : List Showing)
-    → Rises ComesBefore (lines_behind line client before asks shows)
+    → Rises ComesBefore (asked_behind line client before asks shows)
 behind_rise line client before [] shows = tt
 behind_rise line client before (ask ∷ asks) [] = tt
 behind_rise line client before (ask ∷ asks) (first ∷ shows) = (
@@ -83,9 +83,9 @@ behind_rise line client before (ask ∷ asks) (first ∷ shows) = (
         client = inr (
           sym behind.of_client,
           λ free same.
-              let more : count_on later.ask.op.board (allowed before) < count_on later.ask.op.board (allowed (before ++ ask ∷ [])) =
+              let more : count_on later.ask.op.board (allowed_operations before) < count_on later.ask.op.board (allowed_operations (before ++ ask ∷ [])) =
               one_more later.ask.op.board before ask free same in
-              subst (λ board. count_on board (allowed before) < later.number) (sym same) (omega (arith, more, behind.number)),
+              subst (λ board. count_on board (allowed_operations before) < later.number) (sym same) (omega (arith, more, behind.number)),
         );
       })
       (lines_are_behind (line + 1) client (before ++ ask ∷ []) asks shows),
@@ -98,25 +98,25 @@ pub record IsFrom (line client : ℕ) (asking : AskedLine) : Type 0 where
   pub client' : client ≤ asking.client
 
 lines_are_from : (line client : ℕ) (scripts : List (List Step)) (clients : List (List Showing))
-    → AllByRecursion (IsFrom line client) (lines_from line client scripts clients)
+    → AllByRecursion (IsFrom line client) (asked_from line client scripts clients)
 lines_are_from line client [] clients = tt
 lines_are_from line client (steps ∷ scripts) [] = tt
 lines_are_from line client (steps ∷ scripts) (shows ∷ clients) =
     AllByRecursion-append (IsFrom line client) _ _
-    (all-map (IsBehind (line + 1) (line + 1 + length (asked steps)) client []) (IsFrom line client) _
+    (all-map (IsBehind (line + 1) (line + 1 + length (asked_operations steps)) client []) (IsFrom line client) _
     (λ asking behind. record { line' = omega (arith, behind.from); client' = omega (arith, behind.of_client) })
-    (lines_are_behind (line + 1) client [] (asked steps) shows))
-    (all-map (IsFrom (line + 1 + length (asked steps)) (client + 1)) (IsFrom line client) _
+    (lines_are_behind (line + 1) client [] (asked_operations steps) shows))
+    (all-map (IsFrom (line + 1 + length (asked_operations steps)) (client + 1)) (IsFrom line client) _
     (λ asking from. record { line' = omega (arith, from.line'); client' = omega (arith, from.client') })
-    (lines_are_from (line + 1 + length (asked steps)) (client + 1) scripts clients))
+    (lines_are_from (line + 1 + length (asked_operations steps)) (client + 1) scripts clients))
 
 from_rise : (line client : ℕ) (scripts : List (List Step)) (clients : List (List Showing))
-    → Rises ComesBefore (lines_from line client scripts clients)
+    → Rises ComesBefore (asked_from line client scripts clients)
 from_rise line client [] clients = tt
 from_rise line client (steps ∷ scripts) [] = tt
 from_rise line client (steps ∷ scripts) (shows ∷ clients) =
-    let next = line + 1 + length (asked steps) in
-    rises_append ComesBefore _ _ (behind_rise (line + 1) client [] (asked steps) shows)
+    let next = line + 1 + length (asked_operations steps) in
+    rises_append ComesBefore _ _ (behind_rise (line + 1) client [] (asked_operations steps) shows)
     (from_rise next (client + 1) scripts clients)
     (all-map (IsBehind (line + 1) next client []) _ _
     (λ one behind. all-map (IsFrom next (client + 1)) (ComesBefore one) _
@@ -125,7 +125,7 @@ from_rise line client (steps ∷ scripts) (shows ∷ clients) =
       client = inl (omega (arith, behind.of_client, from.client'));
     })
     (lines_are_from next (client + 1) scripts clients))
-    (lines_are_behind (line + 1) client [] (asked steps) shows))
+    (lines_are_behind (line + 1) client [] (asked_operations steps) shows))
 
 -- The operations of a session stand in the order of the text.
 pub lines_rise : (scripts : List (List Step)) (shown : Shown) → Rises ComesBefore (asked_lines scripts shown)

@@ -7,7 +7,7 @@ use Rattle.std.specs.Option.{option_map, option_map_or}
 use Rattle.std.proofs.lemmas.Option.{same_Some, slice_get-map}
 use Rattle.board_bus.specs.Cells.{CellMap}
 use Rattle.board_history.specs.Order.{Placed}
-use Rattle.board_history.specs.Runs.{greeting_of, opening_of}
+use Rattle.board_history.specs.Runs.{greeting_of, opens_with}
 use Rattle.board_node.specs.declared.spec.BoardSpec.{BoardSpec}
 use Rattle.script_plans.specs.declared.board_run.BoardRun.{BoardRun}
 use Rattle.script_plans.specs.declared.board_run.ClientPart.{ClientPart}
@@ -26,7 +26,7 @@ use Rattle.transcript.specs.Lines.{by_pieces, in_part}
 use Rattle.transcript.specs.Steps.{ends_on}
 use Rattle.run_audit.specs.Agreeing.{AgreesWith, IsAnswer}
 use Rattle.run_audit.specs.AskedLines.{AskedLine, ShownPiece}
-use Rattle.run_audit.specs.Replay.{parts_from, replayed}
+use Rattle.run_audit.specs.Replay.{parts_from, replay_of_board}
 use Rattle.run_audit.specs.Results.{Agrees, result_in}
 use Rattle.run_audit.specs.Apart.{plans_in}
 use Rattle.run_audit.specs.Steps.{planned_pieces, replays_from}
@@ -152,34 +152,34 @@ ends_are (part ∷ parts) (suc client) all = ends_are parts client all.1
 module _ (boards : List BoardSpec) (scripts : List (List Step)) (lines : List AskedLine) where
   runs_at : (first : ℕ) (specs : List BoardSpec) (board : ℕ) (spec : BoardSpec) → slice_get specs board ≡ Some spec
       → slice_get (replays_from boards scripts lines first specs) board
-      ≡ Some (replayed boards scripts lines spec (first + board))
+      ≡ Some (replay_of_board boards scripts lines spec (first + board))
   runs_at first [] board spec there = cc
   runs_at first (other ∷ specs) zero spec there =
       let same : other ≡ spec = same_Some other spec there in
-      ap (λ b. Some (replayed boards scripts lines other b)) (sym (add-zero first))
-      ∙ ap (λ s. Some (replayed boards scripts lines s (first + 0))) same
+      ap (λ b. Some (replay_of_board boards scripts lines other b)) (sym (add-zero first))
+      ∙ ap (λ s. Some (replay_of_board boards scripts lines s (first + 0))) same
   runs_at first (other ∷ specs) (suc board) spec there =
       let e : first + 1 + board ≡ first + suc board = omega arith in
-      runs_at (first + 1) specs board spec there ∙ ap (λ b. Some (replayed boards scripts lines spec b)) e
+      runs_at (first + 1) specs board spec there ∙ ap (λ b. Some (replay_of_board boards scripts lines spec b)) e
 
   module _ (asking : AskedLine) (spec : BoardSpec) (there : slice_get boards asking.ask.op.board ≡ Some spec) where
     abbrev Runs : List BoardRun
     Runs = replays_from boards scripts lines 0 boards
 
     abbrev Here : BoardRun
-    Here = replayed boards scripts lines spec asking.ask.op.board
+    Here = replay_of_board boards scripts lines spec asking.ask.op.board
 
     run_at : slice_get Runs asking.ask.op.board ≡ Some Here
     run_at =
         let e : 0 + asking.ask.op.board ≡ asking.ask.op.board = omega arith in
-        runs_at 0 boards asking.ask.op.board spec there ∙ ap (λ b. Some (replayed boards scripts lines spec b)) e
+        runs_at 0 boards asking.ask.op.board spec there ∙ ap (λ b. Some (replay_of_board boards scripts lines spec b)) e
 
     pub ended : ends_at (map board_ends Runs) asking.ask.op.board asking.client ≡ ends_on asking.client Here
     ended =
         let board = asking.ask.op.board in
         ap (λ o. unwrap_or (slice_get (unwrap_or o []) asking.client) [])
         (slice_get-map board_ends Runs board ∙ ap (option_map board_ends) run_at)
-        ∙ ends_are Here.parts asking.client (in_time (opening_of spec.link) _ _ 0 _)
+        ∙ ends_are Here.parts asking.client (in_time (opens_with spec.link) _ _ 0 _)
 
     sent : sent_in Runs asking ≡ sent_on Here asking.client asking.number
     sent = ap (option_and_then (λ (run : BoardRun). sent_on run asking.client asking.number)) run_at

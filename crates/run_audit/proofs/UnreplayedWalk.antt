@@ -8,15 +8,15 @@ use Rattle.script_plans.specs.Claims.{Rises}
 use Rattle.script_plans.specs.declared.board_run.BoardRun.{BoardRun}
 use Rattle.script_plans.specs.declared.greeting.Greeting.{Greeting}
 use Rattle.script_steps.specs.declared.operation.Step.{Step}
-use Rattle.script_steps.specs.Rulings.{Asked, asked}
+use Rattle.script_steps.specs.Rulings.{Asked, asked_operations}
 use Rattle.transcript.specs.Lines.{Showing}
 use Rattle.transcript_reader.specs.declared.shown.Shown.{Shown}
 use Rattle.transcript_reader.specs.Entries.{CanShowIn}
 use Rattle.transcript_reader.specs.Shown.{CanShowAll, greetings_in}
 use Rattle.run_audit.specs.Agreeing.{IsUnreplayedAt}
 use Rattle.run_audit.specs.Apart.{plans_in}
-use Rattle.run_audit.specs.AskedLines.{AskedLine, lines_behind, lines_from, pieces_of}
-use Rattle.run_audit.specs.Replay.{replayed}
+use Rattle.run_audit.specs.AskedLines.{AskedLine, asked_behind, asked_from, pieces_of}
+use Rattle.run_audit.specs.Replay.{replay_of_board}
 use Rattle.run_audit.specs.Replaying.{AreReplayed}
 use Rattle.run_audit.specs.Results.{Agrees, IsReplayed}
 use Rattle.run_audit.specs.Steps.{IsFirstBroken, planned_pieces, replays_from}
@@ -37,7 +37,7 @@ module _ (told : List Greeting) where
   ShowsIt asking = CanShowIn told asking.ask asking.shows
 
   behind_show : (line client : ℕ) (before asks : List Asked) (shows : List Showing)
-      → AllZip (CanShowIn told) asks shows → AllByRecursion ShowsIt (lines_behind line client before asks shows)
+      → AllZip (CanShowIn told) asks shows → AllByRecursion ShowsIt (asked_behind line client before asks shows)
   behind_show line client before [] shows all = tt
   behind_show line client before (ask ∷ asks) [] all = tt
   behind_show line client before (ask ∷ asks) (first ∷ shows) all =
@@ -49,14 +49,14 @@ module _ (told : List Greeting) where
   both (x ∷ xs) ys all also = (all.0, both xs ys all.1 also)
 
   all_show : (line client : ℕ) (scripts : List (List Step)) (clients : List (List Showing))
-      → AllZip (CanShowAll told) scripts clients → AllByRecursion ShowsIt (lines_from line client scripts clients)
+      → AllZip (CanShowAll told) scripts clients → AllByRecursion ShowsIt (asked_from line client scripts clients)
   all_show line client [] clients all = tt
   all_show line client (steps ∷ scripts) [] all = tt
   all_show line client (steps ∷ scripts) (shows ∷ clients) all =
-      both (lines_behind (line + 1) client [] (asked steps) shows)
-      (lines_from (line + 1 + length (asked steps)) (client + 1) scripts clients)
-      (behind_show (line + 1) client [] (asked steps) shows all.0)
-      (all_show (line + 1 + length (asked steps)) (client + 1) scripts clients all.1)
+      both (asked_behind (line + 1) client [] (asked_operations steps) shows)
+      (asked_from (line + 1 + length (asked_operations steps)) (client + 1) scripts clients)
+      (behind_show (line + 1) client [] (asked_operations steps) shows all.0)
+      (all_show (line + 1 + length (asked_operations steps)) (client + 1) scripts clients all.1)
 
 -- ---- the walk
 
@@ -80,24 +80,24 @@ module _ (rounds : ℕ) (boards : List BoardSpec) (scripts : List (List Step)) (
 
   only_board : (asking : AskedLine) (spec : BoardSpec) → slice_get boards asking.ask.op.board ≡ Some spec
       → IsReplayed rounds boards scripts lines asking
-      ↔ Agrees rounds (pieces_of boards scripts asking) (replayed boards scripts lines spec asking.ask.op.board) asking
+      ↔ Agrees rounds (pieces_of boards scripts asking) (replay_of_board boards scripts lines spec asking.ask.op.board) asking
       asking.shows.0
   only_board asking spec there = (
     λ is. is spec there,
     λ agrees other at. subst (λ s. Agrees rounds (pieces_of boards scripts asking)
-        (replayed boards scripts lines s asking.ask.op.board) asking asking.shows.0)
+        (replay_of_board boards scripts lines s asking.ask.op.board) asking asking.shows.0)
         (same_Some spec other (sym there ∙ at)) agrees,
   )
 
   -- what the code asks of a line by the boards as they are shown is what is asked of it
   by_boards : (asking : AskedLine) (spec : BoardSpec) → slice_get boards asking.ask.op.board ≡ Some spec
       → AgreesBy rounds (replays_from boards scripts lines 0 boards) asking
-      ↔ Agrees rounds (pieces_of boards scripts asking) (replayed boards scripts lines spec asking.ask.op.board) asking
+      ↔ Agrees rounds (pieces_of boards scripts asking) (replay_of_board boards scripts lines spec asking.ask.op.board) asking
       asking.shows.0
   by_boards asking spec there =
       let runs = replays_from boards scripts lines 0 boards in
       let ends = ends_at (map board_ends runs) asking.ask.op.board asking.client in
-      agrees_is rounds (pieces_of boards scripts asking) (replayed boards scripts lines spec asking.ask.op.board) asking
+      agrees_is rounds (pieces_of boards scripts asking) (replay_of_board boards scripts lines spec asking.ask.op.board) asking
       (comes_to ends asking.ask.op (sent_in runs asking)) (came boards scripts lines asking spec there) ends
       (planned_pieces (plans_in runs) asking) asking.shows.0 (ended boards scripts lines asking spec there)
       (run_pieces boards scripts lines runs refl asking)
@@ -106,7 +106,7 @@ module _ (rounds : ℕ) (boards : List BoardSpec) (scripts : List (List Step)) (
       → AgreesBy rounds runs asking ↔ IsReplayed rounds boards scripts lines asking
   replays asking shows =
       let board = has_board asking shows in
-      let run = replayed boards scripts lines board.0 asking.ask.op.board in
+      let run = replay_of_board boards scripts lines board.0 asking.ask.op.board in
       let one : AgreesBy rounds runs asking
       ↔ Agrees rounds (pieces_of boards scripts asking) run asking asking.shows.0 =
       subst (λ (rs : List BoardRun). AgreesBy rounds rs asking

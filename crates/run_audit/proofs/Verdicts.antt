@@ -32,116 +32,101 @@ zip_long R (x ∷ xs) (y ∷ ys) all = ap suc (zip_long R xs ys all.1)
 
 -- ---- the first rule
 
-module _ (session : Session) (scripts : List (List Step)) (text : List ℕ) (shown : Shown)
-    (is : IsShownBy session.boards scripts text shown) where
+module _ (session : Session) (scripts : List (List Step)) (shown : Shown) where
   abbrev pub Whole : AuditWhy → Type 0
   Whole why = (line : ℕ) → ¬ Breaks why session scripts shown line
 
-  abbrev pub Broken : AuditWhy → ℕ → Type 0
-  Broken why line = Breaks why session scripts shown line
-      × ((earlier : ℕ) → earlier < line → ¬ Breaks why session scripts shown earlier)
+  -- this is the first line that breaks the rule, or none does
+  abbrev pub Found : AuditWhy → Option ℕ → Type 0
+  Found why found = IsFirstBroken (λ at. Breaks why session scripts shown at) found
 
-  below_partial : (other : AuditWhy) (at : ℕ) → rule_number other < 2 → ¬ Breaks other session scripts shown at
+  -- no rule of a lower number is broken
+  abbrev WholeBelow : ℕ → Type 0
+  WholeBelow number = (other : AuditWhy) (at : ℕ) → rule_number other < number
+      → ¬ Breaks other session scripts shown at
+
+  pub whole_of : (why : AuditWhy) {found : Option ℕ} → Found why found → found ≡ None → Whole why
+  whole_of why first none = subst (Found why) none first
+
+  below_partial : WholeBelow 2
   below_partial Form at less b = b
   below_partial Partial at less b = absurd (omega arith)
   below_partial Place at less b = absurd (omega arith)
   below_partial Result at less b = absurd (omega arith)
   below_partial Count at less b = absurd (omega arith)
 
-  below_place : Whole Partial → (other : AuditWhy) (at : ℕ) → rule_number other < 3
-      → ¬ Breaks other session scripts shown at
+  below_place : Whole Partial → WholeBelow 3
   below_place partial Form at less b = b
   below_place partial Partial at less b = partial at b
   below_place partial Place at less b = absurd (omega arith)
   below_place partial Result at less b = absurd (omega arith)
   below_place partial Count at less b = absurd (omega arith)
 
-  below_result : Whole Partial → Whole Place → (other : AuditWhy) (at : ℕ) → rule_number other < 4
-      → ¬ Breaks other session scripts shown at
+  below_result : Whole Partial → Whole Place → WholeBelow 4
   below_result partial place Form at less b = b
   below_result partial place Partial at less b = partial at b
   below_result partial place Place at less b = place at b
   below_result partial place Result at less b = absurd (omega arith)
   below_result partial place Count at less b = absurd (omega arith)
 
-  below_count : Whole Partial → Whole Place → Whole Result → (other : AuditWhy) (at : ℕ) → rule_number other < 5
-      → ¬ Breaks other session scripts shown at
+  below_count : Whole Partial → Whole Place → Whole Result → WholeBelow 5
   below_count partial place result Form at less b = b
   below_count partial place result Partial at less b = partial at b
   below_count partial place result Place at less b = place at b
   below_count partial place result Result at less b = result at b
   below_count partial place result Count at less b = absurd (omega arith)
 
-  pub breaks_partial : (line : ℕ) → Broken Partial line → BreaksFirst session scripts text line Partial
-  breaks_partial line broken = record {
-    shown = shown;
-    is_shown = is;
-    broken = broken.0;
-    first = broken.1;
-    lowest = below_partial;
-  }
-
-  pub breaks_place : (line : ℕ) → Whole Partial → Broken Place line → BreaksFirst session scripts text line Place
-  breaks_place line partial broken = record {
-    shown = shown;
-    is_shown = is;
-    broken = broken.0;
-    first = broken.1;
-    lowest = below_place partial;
-  }
-
-  pub breaks_result : (line : ℕ) → Whole Partial → Whole Place → Broken Result line
-      → BreaksFirst session scripts text line Result
-  breaks_result line partial place broken = record {
-    shown = shown;
-    is_shown = is;
-    broken = broken.0;
-    first = broken.1;
-    lowest = below_result partial place;
-  }
-
-  pub breaks_count : (line : ℕ) → Whole Partial → Whole Place → Whole Result → Broken Count line
-      → BreaksFirst session scripts text line Count
-  breaks_count line partial place result broken = record {
-    shown = shown;
-    is_shown = is;
-    broken = broken.0;
-    first = broken.1;
-    lowest = below_count partial place result;
-  }
-
-  all_whole : Whole Partial → Whole Place → Whole Result → Whole Count → (why : AuditWhy) (line : ℕ)
-      → ¬ Breaks why session scripts shown line
+  all_whole : Whole Partial → Whole Place → Whole Result → Whole Count → (why : AuditWhy) → Whole why
   all_whole partial place result count Form line b = b
   all_whole partial place result count Partial line b = partial line b
   all_whole partial place result count Place line b = place line b
   all_whole partial place result count Result line b = result line b
   all_whole partial place result count Count line b = count line b
 
-  pub fits : Whole Partial → Whole Place → Whole Result → Whole Count → Fits session scripts text
-  fits partial place result count = record {
-    shown = shown;
-    is_shown = is;
-    whole = all_whole partial place result count;
-  }
+  module _ (text : List ℕ) (is : IsShownBy session.boards scripts text shown) where
+    breaks_first : (why : AuditWhy) (line : ℕ) (found : Option ℕ) → Found why found → found ≡ Some line
+        → WholeBelow (rule_number why) → BreaksFirst session scripts text line why
+    breaks_first why line found first some lowest =
+        let broken = subst (Found why) some first in record {
+          shown = shown;
+          is_shown = is;
+          broken = broken.0;
+          first = broken.1;
+          lowest = lowest;
+        }
 
-  pub broken_of : (why : AuditWhy) (found : Option ℕ) (line : ℕ)
-      → IsFirstBroken (λ at. Breaks why session scripts shown at) found → found ≡ Some line → Broken why line
-  broken_of why found line first some =
-      subst (λ f. IsFirstBroken (λ at. Breaks why session scripts shown at) f) some first
+    pub breaks_partial : {line : ℕ} {found : Option ℕ} → Found Partial found → found ≡ Some line
+        → BreaksFirst session scripts text line Partial
+    breaks_partial {line} {found} first some = breaks_first Partial line found first some below_partial
 
-  pub whole_of : (why : AuditWhy) (found : Option ℕ)
-      → IsFirstBroken (λ at. Breaks why session scripts shown at) found → found ≡ None → Whole why
-  whole_of why found first none =
-      subst (λ f. IsFirstBroken (λ at. Breaks why session scripts shown at) f) none first
+    pub breaks_place : {line : ℕ} {found : Option ℕ} → Whole Partial → Found Place found → found ≡ Some line
+        → BreaksFirst session scripts text line Place
+    breaks_place {line} {found} partial first some = breaks_first Place line found first some (below_place partial)
+
+    pub breaks_result : {line : ℕ} {found : Option ℕ} → Whole Partial → Whole Place → Found Result found
+        → found ≡ Some line → BreaksFirst session scripts text line Result
+    breaks_result {line} {found} partial place first some =
+        breaks_first Result line found first some (below_result partial place)
+
+    pub breaks_count : {line : ℕ} {found : Option ℕ} → Whole Partial → Whole Place → Whole Result → Found Count found
+        → found ≡ Some line → BreaksFirst session scripts text line Count
+    breaks_count {line} {found} partial place result first some =
+        breaks_first Count line found first some (below_count partial place result)
+
+    pub fits : Whole Partial → Whole Place → Whole Result → Whole Count → Fits session scripts text
+    fits partial place result count = record {
+      shown = shown;
+      is_shown = is;
+      whole = all_whole partial place result count;
+    }
 
 -- ---- what the code keeps
 
-pub they_are : (boards own : List BoardSpec) (scripts : List (List Step)) (shown : Shown)
-    (plans made : List (List ClientBodies)) (asked all : List AskedOp) → plans ≡ made → made ≡ plans_from 0 own scripts
-    → own ≡ boards → asked ≡ all → map asking all ≡ asked_lines scripts shown
+pub they_are : {boards own : List BoardSpec} (scripts : List (List Step)) (shown : Shown)
+    {plans made : List (List ClientBodies)} {asked all : List AskedOp} → own ≡ boards → made ≡ plans_from 0 own scripts
+    → map asking all ≡ asked_lines scripts shown → plans ≡ made → asked ≡ all
     → AreOf boards scripts shown plans (map asking asked)
-they_are boards own scripts shown plans made asked all plans_is made_is same asked_is all_is = record {
+they_are scripts shown same made_is all_is plans_is asked_is = record {
   plans' = plans_is ∙ (made_is ∙ ap (λ b. plans_from 0 b scripts) same);
   lines' = ap (map asking) asked_is ∙ all_is;
 }
@@ -154,13 +139,16 @@ lines_few session scripts text shown can is =
     let long = boards_long session.boards scripts in
     omega (arith, can.lines')
 
-pub all_replayed : (boards own : List BoardSpec) (scripts : List (List Step)) (text : List ℕ) (shown : Shown)
-    (runs made : List BoardRun) (asked asked' all : List AskedOp) → IsShownBy boards scripts text shown
-    → own ≡ boards → asked ≡ all → asked' ≡ all → map asking all ≡ asked_lines scripts shown → runs ≡ made
-    → made ≡ replays_from own scripts (map asking asked') 0 own
+pub all_replayed : {boards own : List BoardSpec} (scripts : List (List Step)) {text : List ℕ} (shown : Shown)
+    {plans : List (List ClientBodies)} {runs made : List BoardRun} {asked asked' all : List AskedOp}
+    → IsShownBy boards scripts text shown → own ≡ boards → plans ≡ plans_from 0 own scripts
+    → map asking all ≡ asked_lines scripts shown → asked ≡ all → asked' ≡ all → runs ≡ made
+    → (AreOf own scripts shown plans (map asking asked')
+    → made ≡ replays_from own scripts (map asking asked') 0 own)
     → AreReplayed boards scripts shown runs (map asking asked)
-all_replayed boards own scripts text shown runs made asked asked' all is same asked_is asked'_is all_is runs_is made_is =
-    record {
+all_replayed {boards = boards} {own = own} scripts shown {asked' = asked'} is same plans_are all_is asked_is asked'_is
+    runs_is made =
+    let made_is = made (they_are scripts shown refl plans_are all_is refl asked'_is) in record {
       lines' = ap (map asking) asked_is ∙ all_is;
       runs' = runs_is ∙ (made_is ∙ (ap (λ b. replays_from b scripts (map asking asked') 0 b) same
           ∙ ap (λ a. replays_from boards scripts (map asking a) 0 boards) (asked'_is ∙ sym asked_is)));

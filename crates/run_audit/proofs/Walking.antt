@@ -17,11 +17,11 @@ use Rattle.script_plans.specs.Plan.{count_on}
 use Rattle.script_plans.specs.declared.planned.PieceAt.{PieceAt}
 use Rattle.script_steps.specs.declared.operation.RegOp.{RegOp}
 use Rattle.script_steps.specs.declared.operation.Step.{Step}
-use Rattle.script_steps.specs.Rulings.{Asked, asked_in, asked, allowed}
+use Rattle.script_steps.specs.Rulings.{Asked, asked_in, asked_operations, allowed_operations}
 use Rattle.transcript.proofs.Allowed.{allowed-append}
 use Rattle.transcript.specs.Lines.{Showing}
 use Rattle.transcript_reader.specs.Entries.{clients_from, operations_from}
-use Rattle.run_audit.specs.AskedLines.{AskedLine, lines_behind, shown_piece, with_places}
+use Rattle.run_audit.specs.AskedLines.{AskedLine, asked_behind, shown_piece, with_places}
 
 -- ---- counts
 
@@ -62,13 +62,13 @@ operations_length number (ask ∷ asks) = ap suc (operations_length (number + 1)
 pub client_lines : (number : ℕ) (scripts : List (List Step)) (i : ℕ) (steps : List Step) → i < length scripts
     → steps ≡ get_or scripts i steps
     → length (clients_from number (drop i scripts))
-    ≡ 1 + length (asked steps) + length (clients_from (number + 1) (drop (i + 1) scripts))
+    ≡ 1 + length (asked_operations steps) + length (clients_from (number + 1) (drop (i + 1) scripts))
 client_lines number scripts i steps within is =
     let rest : drop i scripts ≡ steps ∷ drop (i + 1) scripts = drop_here scripts i steps within is in
     rw rest (omega (
       arith,
-      length-append (operations_from 1 (asked steps)) (clients_from (number + 1) (drop (i + 1) scripts)),
-      operations_length 1 (asked steps),
+      length-append (operations_from 1 (asked_operations steps)) (clients_from (number + 1) (drop (i + 1) scripts)),
+      operations_length 1 (asked_operations steps),
     ))
 
 -- ---- rules
@@ -89,7 +89,7 @@ line_with line client number ask shown =
     record { line = line; client = client; number = number; ask = ask; shows = shown }
 
 -- no line is left of operations that are not shown
-pub none_shown : (line client : ℕ) (before asks : List Asked) → lines_behind line client before asks [] ≡ []
+pub none_shown : (line client : ℕ) (before asks : List Asked) → asked_behind line client before asks [] ≡ []
 none_shown line client before [] = refl
 none_shown line client before (ask ∷ asks) = refl
 
@@ -107,44 +107,44 @@ drop_later (x ∷ xs) (suc k) none = rw add-one (rw add-one at (drop_later xs k 
 -- where a client's first `i` steps have these lines, behind others, and these counts
 pub record IsWalked (client first : ℕ) (steps : List Step) (shows : List Showing) (old : List AskedLine) (i : ℕ)
     (made : List AskedLine) (line : ℕ) (counts : List ℕ) : Type 0 where
-  pub lines : made ++ lines_behind line client (asked (take i steps)) (asked (drop i steps))
-      (drop (length (asked (take i steps))) shows) ≡ old ++ lines_behind first client [] (asked steps) shows
-  pub line' : line ≡ first + length (asked (take i steps))
-  pub counts' : (b : ℕ) → slice_index counts b ≡ count_on b (allowed (asked (take i steps)))
+  pub lines : made ++ asked_behind line client (asked_operations (take i steps)) (asked_operations (drop i steps))
+      (drop (length (asked_operations (take i steps))) shows) ≡ old ++ asked_behind first client [] (asked_operations steps) shows
+  pub line' : line ≡ first + length (asked_operations (take i steps))
+  pub counts' : (b : ℕ) → slice_index counts b ≡ count_on b (allowed_operations (asked_operations (take i steps)))
 
 module _ (steps : List Step) (i : ℕ) (step : Step) (within : i < length steps) (is : step ≡ get_or steps i step) where
-  taken : asked (take (i + 1) steps) ≡ asked (take i steps) ++ asked (step ∷ [])
+  taken : asked_operations (take (i + 1) steps) ≡ asked_operations (take i steps) ++ asked_operations (step ∷ [])
   taken =
-      ap asked (take_more steps i step within)
+      ap asked_operations (take_more steps i step within)
       ∙ (filter_map-append asked_in (take i steps) (get_or steps i step ∷ [])
-      ∙ ap (λ s. asked (take i steps) ++ asked (s ∷ [])) (sym is))
+      ∙ ap (λ s. asked_operations (take i steps) ++ asked_operations (s ∷ [])) (sym is))
 
-  left : asked (drop i steps) ≡ asked (step ∷ []) ++ asked (drop (i + 1) steps)
+  left : asked_operations (drop i steps) ≡ asked_operations (step ∷ []) ++ asked_operations (drop (i + 1) steps)
   left =
-      ap asked (drop-cons steps i step within ∙ ap (λ s. s ∷ drop (suc i) steps) (sym is))
+      ap asked_operations (drop-cons steps i step within ∙ ap (λ s. s ∷ drop (suc i) steps) (sym is))
       ∙ (filter_map-append asked_in (step ∷ []) (drop (suc i) steps) ∙ rw add-one)
 
-  pub taken_none : asked_in step ≡ None → asked (take (i + 1) steps) ≡ asked (take i steps)
+  pub taken_none : asked_in step ≡ None → asked_operations (take (i + 1) steps) ≡ asked_operations (take i steps)
   taken_none none = taken ∙ (rw none (append-nil _))
 
-  left_none : asked_in step ≡ None → asked (drop i steps) ≡ asked (drop (i + 1) steps)
+  left_none : asked_in step ≡ None → asked_operations (drop i steps) ≡ asked_operations (drop (i + 1) steps)
   left_none none = left ∙ rw none
 
   pub taken_some : (ask : Asked) → asked_in step ≡ Some ask
-      → asked (take (i + 1) steps) ≡ asked (take i steps) ++ ask ∷ []
+      → asked_operations (take (i + 1) steps) ≡ asked_operations (take i steps) ++ ask ∷ []
   taken_some ask some = taken ∙ rw some
 
   pub left_some : (ask : Asked) → asked_in step ≡ Some ask
-      → asked (drop i steps) ≡ ask ∷ asked (drop (i + 1) steps)
+      → asked_operations (drop i steps) ≡ ask ∷ asked_operations (drop (i + 1) steps)
   left_some ask some = left ∙ rw some
 
 -- the operation of a step is one more than those before it
 pub asked_before : (steps : List Step) (i : ℕ) (step : Step) → i < length steps → step ≡ get_or steps i step
-    → (ask : Asked) → asked_in step ≡ Some ask → length (asked (take i steps)) < length (asked steps)
+    → (ask : Asked) → asked_in step ≡ Some ask → length (asked_operations (take i steps)) < length (asked_operations steps)
 asked_before steps i step within is ask some =
-    let cut : asked steps ≡ asked (take i steps) ++ asked (drop i steps) =
-    ap asked (sym (take-append-drop i steps)) ∙ filter_map-append asked_in (take i steps) (drop i steps) in
-    let rest : length (asked (drop i steps)) ≡ length (asked (drop (i + 1) steps)) + 1 =
+    let cut : asked_operations steps ≡ asked_operations (take i steps) ++ asked_operations (drop i steps) =
+    ap asked_operations (sym (take-append-drop i steps)) ∙ filter_map-append asked_in (take i steps) (drop i steps) in
+    let rest : length (asked_operations (drop i steps)) ≡ length (asked_operations (drop (i + 1) steps)) + 1 =
     ap length (left_some steps i step within is ask some) ∙ omega arith in
     rw (cut, length-append) (omega (arith, rest))
 
@@ -162,20 +162,20 @@ module _ (client first : ℕ) (steps : List Step) (shows : List Showing) (old : 
     (so_far : IsWalked client first steps shows old i made line counts) where
   -- those behind the last step
   pub walked_all : length steps ≤ i
-      → (made ≡ old ++ lines_behind first client [] (asked steps) shows) × (line ≡ first + length (asked steps))
+      → (made ≡ old ++ asked_behind first client [] (asked_operations steps) shows) × (line ≡ first + length (asked_operations steps))
   walked_all over =
       let e : take i steps ≡ steps = take_all i steps over in
       let rest : drop i steps ≡ [] = drop_all i steps over in (
         sym (append-nil made) ∙ rw rest at so_far.lines,
-        so_far.line' ∙ ap (λ s. first + length (asked s)) e,
+        so_far.line' ∙ ap (λ s. first + length (asked_operations s)) e,
       )
 
   module _ (step : Step) (within : i < length steps) (is : step ≡ get_or steps i step) where
     -- a dispatch is no operation
     pub walked_past : asked_in step ≡ None → IsWalked client first steps shows old (i + 1) made line counts
     walked_past none =
-        let before : asked (take (i + 1) steps) ≡ asked (take i steps) = taken_none steps i step within is none in
-        let rest : asked (drop i steps) ≡ asked (drop (i + 1) steps) = left_none steps i step within is none in
+        let before : asked_operations (take (i + 1) steps) ≡ asked_operations (take i steps) = taken_none steps i step within is none in
+        let rest : asked_operations (drop i steps) ≡ asked_operations (drop (i + 1) steps) = left_none steps i step within is none in
         record {
           lines = rw (before, ← rest) so_far.lines;
           line' = rw before so_far.line';
@@ -183,57 +183,57 @@ module _ (client first : ℕ) (steps : List Step) (shows : List Showing) (old : 
         }
 
     module _ (ask : Asked) (some : asked_in step ≡ Some ask) where
-      before : asked (take (i + 1) steps) ≡ asked (take i steps) ++ ask ∷ []
+      before : asked_operations (take (i + 1) steps) ≡ asked_operations (take i steps) ++ ask ∷ []
       before = taken_some steps i step within is ask some
 
-      one_more : length (asked (take (i + 1) steps)) ≡ length (asked (take i steps)) + 1
+      one_more : length (asked_operations (take (i + 1) steps)) ≡ length (asked_operations (take i steps)) + 1
       one_more = rw (before, length-append) refl
 
-      pub next_line : line + 1 ≡ first + length (asked (take (i + 1) steps))
+      pub next_line : line + 1 ≡ first + length (asked_operations (take (i + 1) steps))
       next_line = rw one_more (omega (arith, so_far.line'))
 
       -- the line that the next operation has
       abbrev pub line_of : Showing → AskedLine
-      line_of shown = line_with line client (count_on ask.op.board (allowed (asked (take i steps)))) ask shown
+      line_of shown = line_with line client (count_on ask.op.board (allowed_operations (asked_operations (take i steps)))) ask shown
 
-      pub shown_more : (shown : Showing) → slice_get shows (length (asked (take i steps))) ≡ Some shown
-          → (made ++ line_of shown ∷ []) ++ lines_behind (line + 1) client (asked (take (i + 1) steps))
-          (asked (drop (i + 1) steps)) (drop (length (asked (take (i + 1) steps))) shows)
-          ≡ old ++ lines_behind first client [] (asked steps) shows
+      pub shown_more : (shown : Showing) → slice_get shows (length (asked_operations (take i steps))) ≡ Some shown
+          → (made ++ line_of shown ∷ []) ++ asked_behind (line + 1) client (asked_operations (take (i + 1) steps))
+          (asked_operations (drop (i + 1) steps)) (drop (length (asked_operations (take (i + 1) steps))) shows)
+          ≡ old ++ asked_behind first client [] (asked_operations steps) shows
       shown_more shown at =
           let rest = left_some steps i step within is ask some in
-          let there = drop_at shows (length (asked (take i steps))) shown at in
+          let there = drop_at shows (length (asked_operations (take i steps))) shown at in
           rw (one_more, before, append_assoc) (rw (rest, there) at so_far.lines)
 
-      pub unshown_more : slice_get shows (length (asked (take i steps))) ≡ None
-          → made ++ lines_behind (line + 1) client (asked (take (i + 1) steps))
-          (asked (drop (i + 1) steps)) (drop (length (asked (take (i + 1) steps))) shows)
-          ≡ old ++ lines_behind first client [] (asked steps) shows
+      pub unshown_more : slice_get shows (length (asked_operations (take i steps))) ≡ None
+          → made ++ asked_behind (line + 1) client (asked_operations (take (i + 1) steps))
+          (asked_operations (drop (i + 1) steps)) (drop (length (asked_operations (take (i + 1) steps))) shows)
+          ≡ old ++ asked_behind first client [] (asked_operations steps) shows
       unshown_more none =
-          let k = length (asked (take i steps)) in
+          let k = length (asked_operations (take i steps)) in
           let over : drop k shows ≡ [] = drop_none shows k none in
           let later : drop (k + 1) shows ≡ [] = drop_later shows k over in
           rw (one_more, later) (ap (λ (ls : List AskedLine). made ++ ls)
-          (none_shown _ _ _ (asked (drop (i + 1) steps)) ∙ sym (none_shown line client _ (asked (drop i steps))))
+          (none_shown _ _ _ (asked_operations (drop (i + 1) steps)) ∙ sym (none_shown line client _ (asked_operations (drop i steps))))
           ∙ rw over at so_far.lines)
 
       -- those that no rule denies are one more on the board
       pub allowed_more : (more : List ℕ) → ask.denied ≡ None
           → ((b : ℕ) → slice_index more b ≡ slice_index counts b + cond (ask.op.board == b) 1 0)
-          → (b : ℕ) → slice_index more b ≡ count_on b (allowed (asked (take (i + 1) steps)))
+          → (b : ℕ) → slice_index more b ≡ count_on b (allowed_operations (asked_operations (take (i + 1) steps)))
       allowed_more more free raised b =
-          let counted : allowed (ask ∷ []) ≡ ask.op ∷ [] = rw free refl in
+          let counted : allowed_operations (ask ∷ []) ≡ ask.op ∷ [] = rw free refl in
           rw (before, allowed-append, counted) (
           raised b
           ∙ (ap (λ n. n + cond (ask.op.board == b) 1 0) (so_far.counts' b)
-          ∙ (ap (λ n. count_on b (allowed (asked (take i steps))) + n) (sym (zero-add (cond (ask.op.board == b) 1 0)))
-          ∙ sym (count_by-append (λ (o : RegOp). o.board == b) (allowed (asked (take i steps))) (ask.op ∷ []))))
+          ∙ (ap (λ n. count_on b (allowed_operations (asked_operations (take i steps))) + n) (sym (zero-add (cond (ask.op.board == b) 1 0)))
+          ∙ sym (count_by-append (λ (o : RegOp). o.board == b) (allowed_operations (asked_operations (take i steps))) (ask.op ∷ []))))
           )
 
       pub denied_more : (rule : ℕ) → ask.denied ≡ Some rule
-          → (b : ℕ) → slice_index counts b ≡ count_on b (allowed (asked (take (i + 1) steps)))
+          → (b : ℕ) → slice_index counts b ≡ count_on b (allowed_operations (asked_operations (take (i + 1) steps)))
       denied_more rule denied b =
-          let counted : allowed (ask ∷ []) ≡ [] = rw denied refl in
+          let counted : allowed_operations (ask ∷ []) ≡ [] = rw denied refl in
           rw (before, allowed-append, counted, append-nil) (so_far.counts' b)
 
 -- ---- pieces with places

@@ -12,7 +12,7 @@ use Rattle.transcript.specs.declared.line.LateAnswer.{LateAnswer}
 use Rattle.transcript.specs.declared.line.OpResult.{OpResult}
 use Rattle.transcript.specs.declared.line.OpResult.TheVariants.{Value, Done, Was, Error, Skipped, TimedOut, Late}
 use Rattle.transcript.specs.declared.line.OpResult.TheVariants.{Unsent, LinkLost, Garbled, Denied}
-use Rattle.script_steps.specs.Rulings.{Asked, asked}
+use Rattle.script_steps.specs.Rulings.{Asked, asked_operations}
 use Rattle.script_plans.specs.declared.board_run.BoardRun.{BoardRun}
 use Rattle.transcript.specs.declared.line.OpLine.{OpLine}
 use Rattle.transcript.specs.Lines.{Showing}
@@ -107,4 +107,4 @@ HasRun runs ask = (run : BoardRun) × (slice_get runs ask.op.board ≡ Some run)
 
 -- each operation of a client shows something, and its board is there
 abbrev pub HaveRuns : List BoardRun → List Step → List Showing → Type 0
-HaveRuns runs steps shows = (length shows ≡ length (asked steps)) × AllByRecursion (HasRun runs) (asked steps)
+HaveRuns runs steps shows = (length shows ≡ length (asked_operations steps)) × AllByRecursion (HasRun runs) (asked_operations steps)

@@ -5,7 +5,7 @@ use Rattle.std.specs.List.{flat_map}
 use Rattle.std.specs.Option.{option_map_or}
 use Rattle.board_node.specs.declared.spec.BoardSpec.{BoardSpec}
 use Rattle.script_steps.specs.declared.operation.Step.{Step}
-use Rattle.script_steps.specs.Rulings.{Asked, asked, allowed}
+use Rattle.script_steps.specs.Rulings.{Asked, asked_operations, allowed_operations}
 use Rattle.script_plans.specs.declared.greeting.Greeting.{Greeting}
 use Rattle.script_plans.specs.declared.greeting.Greeting.TheVariants.{Down}
 use Rattle.script_plans.specs.declared.planned.PieceAt.{PieceAt}
@@ -26,30 +26,30 @@ pub record AskedLine : Type 0 where
   pub shows : Showing
 
 -- the operations of a client behind these, from a line on
-abbrev pub lines_behind : ℕ → ℕ → List Asked → List Asked → List Showing → List AskedLine
-lines_behind line client before [] shows = []
-lines_behind line client before (ask ∷ asks) [] = []
-lines_behind line client before (ask ∷ asks) (first ∷ shows) =
+abbrev pub asked_behind : ℕ → ℕ → List Asked → List Asked → List Showing → List AskedLine
+asked_behind line client before [] shows = []
+asked_behind line client before (ask ∷ asks) [] = []
+asked_behind line client before (ask ∷ asks) (first ∷ shows) =
     record {
       line = line;
       client = client;
-      number = count_on ask.op.board (allowed before);
+      number = count_on ask.op.board (allowed_operations before);
       ask = ask;
       shows = first;
     }
-    ∷ lines_behind (line + 1) client (before ++ ask ∷ []) asks shows
+    ∷ asked_behind (line + 1) client (before ++ ask ∷ []) asks shows
 
 -- those of the clients from a number on, the heading of the first of which stands in this line
-abbrev pub lines_from : ℕ → ℕ → List (List Step) → List (List Showing) → List AskedLine
-lines_from line client [] clients = []
-lines_from line client (steps ∷ scripts) [] = []
-lines_from line client (steps ∷ scripts) (shows ∷ clients) =
-    lines_behind (line + 1) client [] (asked steps) shows
-    ++ lines_from (line + 1 + length (asked steps)) (client + 1) scripts clients
+abbrev pub asked_from : ℕ → ℕ → List (List Step) → List (List Showing) → List AskedLine
+asked_from line client [] clients = []
+asked_from line client (steps ∷ scripts) [] = []
+asked_from line client (steps ∷ scripts) (shows ∷ clients) =
+    asked_behind (line + 1) client [] (asked_operations steps) shows
+    ++ asked_from (line + 1 + length (asked_operations steps)) (client + 1) scripts clients
 
 -- All operations of a session, in the order of the text.
 abbrev pub asked_lines : List (List Step) → Shown → List AskedLine
-asked_lines scripts shown = lines_from 1 0 scripts shown.clients
+asked_lines scripts shown = asked_from 1 0 scripts shown.clients
 
 -- ---- what is asked of boards
 

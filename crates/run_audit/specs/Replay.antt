@@ -11,8 +11,8 @@ use Rattle.script_steps.specs.declared.operation.Step.{Step}
 use Rattle.script_plans.specs.declared.board_run.ClientPart.{ClientPart}
 use Rattle.script_plans.specs.declared.board_run.BoardRun.{BoardRun}
 use Rattle.script_plans.specs.Plan.{ClientBodies, plans_on}
-use Rattle.board_history.specs.Order.{Placed, by_place, bodies_of, with_place}
-use Rattle.board_history.specs.Runs.{greeting_of, opening_of}
+use Rattle.board_history.specs.Order.{Placed, by_place, bodies_in, with_place}
+use Rattle.board_history.specs.Runs.{greeting_of, opens_with}
 use Rattle.run_audit.specs.AskedLines.{AskedLine, ShownPiece, pieces_shown}
 
 -- the place of a body of a client that is shown first, where one is shown
@@ -50,7 +50,7 @@ reply_at (placed ∷ order) (reply ∷ replies) place =
 
 -- the bus that opens with these cells replies to all of them, in order
 abbrev pub reply_in : CellMap → List Placed → ℕ → List ℕ
-reply_in opening order place = reply_at order (replay opening (bodies_of order)).replies place
+reply_in opening order place = reply_at order (replay opening (bodies_in order)).replies place
 
 -- a body with a place was replied to in time, and one without was not sent
 abbrev pub replied_at : CellMap → List Placed → Option ℕ → Outcome
@@ -73,12 +73,12 @@ parts_from opening order pieces client (plan ∷ plans) =
 
 -- The run of the board at a position: each body that these lines show with a place was replied to in time, with the words
 -- that the board's bus gives where it executes these bodies by place, and no other body was sent.
-abbrev pub replayed : List BoardSpec → List (List Step) → List AskedLine → BoardSpec → ℕ → BoardRun
-replayed boards scripts lines spec board =
+abbrev pub replay_of_board : List BoardSpec → List (List Step) → List AskedLine → BoardSpec → ℕ → BoardRun
+replay_of_board boards scripts lines spec board =
     let pieces = pieces_shown boards scripts board lines in
     let plans = plans_on board (greeting_of spec.link) scripts in
     record {
       name = spec.name;
       greeting = greeting_of spec.link;
-      parts = parts_from (opening_of spec.link) (shown_order pieces plans) pieces 0 plans;
+      parts = parts_from (opens_with spec.link) (shown_order pieces plans) pieces 0 plans;
     }

@@ -14,7 +14,7 @@ use Rattle.run_audit.specs.declared.replaying.PlacedBody.{PlacedBody}
 use Rattle.run_audit.specs.declared.replaying.PlacedReply.{PlacedReply}
 use Rattle.board_node.specs.declared.spec.BoardSpec.{BoardSpec}
 use Rattle.script_plans.specs.declared.board_run.BoardRun.{BoardRun}
-use Rattle.board_history.specs.Runs.{greeting_of, opening_of}
+use Rattle.board_history.specs.Runs.{greeting_of, opens_with}
 use Rattle.run_audit.specs.declared.replaying.BoardPieces.{BoardPieces}
 use Rattle.script_steps.specs.declared.operation.Step.{Step}
 use Rattle.transcript_reader.specs.declared.shown.Shown.{Shown}
@@ -22,7 +22,7 @@ use Rattle.transcript_reader.specs.Entries.{IsLineOf}
 use Rattle.transcript_reader.specs.Shown.{CanShowAll, greetings_in}
 use Rattle.run_audit.specs.AskedLines.{AskedLine, ShownPiece, asked_lines, pieces_shown}
 use Rattle.run_audit.specs.Replay.{parts_from, place_shown, shown_order}
-use Rattle.run_audit.specs.Steps.{replays_from, seen}
+use Rattle.run_audit.specs.Steps.{replays_from, piece_kept}
 
 -- ---- the places that are shown, in the shape of the plans
 
@@ -43,15 +43,15 @@ no_places [] = []
 no_places (body ∷ bodies) = None ∷ no_places bodies
 
 -- a place of the body of this number, which counts where none was known
-abbrev pub marked : ℕ → ℕ → List (Option ℕ) → List (Option ℕ)
-marked body place [] = []
-marked zero place (known ∷ row) = Some (unwrap_or known place) ∷ row
-marked (suc body) place (known ∷ row) = known ∷ marked body place row
+abbrev pub with_mark : ℕ → ℕ → List (Option ℕ) → List (Option ℕ)
+with_mark body place [] = []
+with_mark zero place (known ∷ row) = Some (unwrap_or known place) ∷ row
+with_mark (suc body) place (known ∷ row) = known ∷ with_mark body place row
 
 -- the same in the row of this client
 abbrev pub marked_in : ℕ → ℕ → ℕ → List (List (Option ℕ)) → List (List (Option ℕ))
 marked_in client body place [] = []
-marked_in zero body place (row ∷ rows) = marked body place row ∷ rows
+marked_in zero body place (row ∷ rows) = with_mark body place row ∷ rows
 marked_in (suc client) body place (row ∷ rows) = row ∷ marked_in client body place rows
 
 -- all that pieces show, in their order
@@ -119,12 +119,12 @@ abbrev pub run_of : BoardSpec → List ClientBodies → List ShownPiece → Boar
 run_of spec plans pieces = record {
   name = spec.name;
   greeting = greeting_of spec.link;
-  parts = parts_from (opening_of spec.link) (shown_order pieces plans) pieces 0 plans;
+  parts = parts_from (opens_with spec.link) (shown_order pieces plans) pieces 0 plans;
 }
 
 -- what the code keeps of the pieces of a board
 abbrev pub pieces_in : BoardPieces → List ShownPiece
-pieces_in pieces = map seen pieces.items.items
+pieces_in pieces = map piece_kept pieces.items.items
 
 -- those of the boards from a number on, as many as there are plans
 abbrev pub shown_from : List BoardSpec → List (List Step) → List AskedLine → ℕ → List (List ClientBodies)

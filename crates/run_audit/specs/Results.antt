@@ -20,7 +20,7 @@ use Rattle.transcript_reader.specs.declared.shown.Shown.{Shown}
 use Rattle.run_audit.specs.declared.fate.Fate.{Fate}
 use Rattle.run_audit.specs.declared.fate.Fate.TheVariants as fate
 use Rattle.run_audit.specs.AskedLines.{AskedLine, asked_lines, pieces_of}
-use Rattle.run_audit.specs.Replay.{replayed}
+use Rattle.run_audit.specs.Replay.{replay_of_board}
 
 -- ---- one line
 
@@ -59,7 +59,7 @@ abbrev pub IsReplayed : ℕ → List BoardSpec → List (List Step) → List Ask
 IsReplayed rounds boards scripts lines asking =
     (spec : BoardSpec) → slice_get boards asking.ask.op.board ≡ Some spec
     → Agrees rounds (pieces_of boards scripts asking)
-    (replayed boards scripts lines spec asking.ask.op.board) asking asking.shows.0
+    (replay_of_board boards scripts lines spec asking.ask.op.board) asking asking.shows.0
 
 -- ---- two lines
 
@@ -117,4 +117,4 @@ pub record IsInTime (boards : List BoardSpec) (scripts : List (List Step)) (show
   pub spec : BoardSpec
   pub on : slice_get boards asking.ask.op.board ≡ Some spec
   pub same : result ≡ result_in
-      (replayed boards scripts (asked_lines scripts shown) spec asking.ask.op.board) asking
+      (replay_of_board boards scripts (asked_lines scripts shown) spec asking.ask.op.board) asking

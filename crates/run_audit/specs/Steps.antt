@@ -12,7 +12,7 @@ use Rattle.transcript_reader.specs.declared.shown.Shown.{Shown}
 use Rattle.run_audit.specs.declared.asking.AskedOp.{AskedOp}
 use Rattle.run_audit.specs.declared.places.PieceShown.{PieceShown}
 use Rattle.run_audit.specs.AskedLines.{AskedLine, ShownPiece, asked_lines, pieces_unless, with_places}
-use Rattle.run_audit.specs.Replay.{replayed}
+use Rattle.run_audit.specs.Replay.{replay_of_board}
 
 -- what the code keeps of an operation and its line
 abbrev pub asking : AskedOp → AskedLine
@@ -34,7 +34,7 @@ plans_from board (spec ∷ specs) scripts =
 abbrev pub replays_from : List BoardSpec → List (List Step) → List AskedLine → ℕ → List BoardSpec → List BoardRun
 replays_from boards scripts lines board [] = []
 replays_from boards scripts lines board (spec ∷ specs) =
-    replayed boards scripts lines spec board ∷ replays_from boards scripts lines (board + 1) specs
+    replay_of_board boards scripts lines spec board ∷ replays_from boards scripts lines (board + 1) specs
 
 -- a rule is broken at no line, or this is the first at which it is
 abbrev pub IsFirstBroken : (ℕ → Type 0) → Option ℕ → Type 0
@@ -69,8 +69,8 @@ abbrev pub planned_shown : List (List ClientBodies) → ℕ → List AskedLine �
 planned_shown plans board lines = flat_map (planned_in plans board) lines
 
 -- what the code keeps of a piece that is shown
-abbrev pub seen : PieceShown → ShownPiece
-seen piece = record {
+abbrev pub piece_kept : PieceShown → ShownPiece
+piece_kept piece = record {
   line = piece.line;
   client = piece.client;
   body = piece.body;

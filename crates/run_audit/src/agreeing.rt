@@ -119,7 +119,7 @@ fn is_word_before(told: &OpResult, words: &[u32]) -> bool
 /// Whether a result that a reply tells is what an operation that was done shows of the words that its pieces gave.
 fn is_shown(op: &RegOp, words: &[u32], told: &OpResult) -> bool
     requires { spec.IsAnswer told.now }
-    ensures { IsTrue result ↔ (told.now ≡ results_spec.shown op.now.verb op.now.mask words.now) }
+    ensures { IsTrue result ↔ (told.now ≡ results_spec.shown_result op.now.verb op.now.mask words.now) }
 {
     match op.verb {
         Verb::Read => is_field_value(told, words, op.mask),
@@ -226,7 +226,7 @@ fn is_late_was(answer: &LateAnswer, words: &[u32]) -> bool
 /// Whether a late answer is what an operation shows of a piece alone that gave these words.
 fn shows_words(op: &RegOp, words: &[u32], answer: &LateAnswer) -> bool
     ensures { IsTrue result ↔
-        (answer.now ≡ ends_spec.late_of (results_spec.shown op.now.verb op.now.mask words.now)) }
+        (answer.now ≡ ends_spec.late_of (results_spec.shown_result op.now.verb op.now.mask words.now)) }
 {
     match op.verb {
         Verb::Read => is_late_field(answer, words, op.mask),
@@ -239,7 +239,7 @@ fn shows_words(op: &RegOp, words: &[u32], answer: &LateAnswer) -> bool
 /// Whether a late answer is what an operation shows of the answer at an index.
 fn is_answer_at(op: &RegOp, answers: &[Answer], index: u16, answer: &LateAnswer) -> bool
     ensures { IsTrue result ↔
-        (answer.now ≡ spec.shown_of op.now (ends_spec.answered (slice_get answers.now index))) }
+        (answer.now ≡ spec.shown_of op.now (ends_spec.answer_result (slice_get answers.now index))) }
 {
     match answers.get(index as usize) {
         Some(Answer::Values(words)) => shows_words(op, words.as_slice(), answer),

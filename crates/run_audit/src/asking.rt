@@ -2,9 +2,9 @@
 
 ghost use Rattle.std.specs.Prelude.{◌≡◌, ℕ, ◌+◌, ◌++◌, ◌<◌, ◌^◌, ◌==◌, if◌then◌else◌, [], Some, None};
 ghost use Rattle.std.specs.Prelude.{IfOk, MatchOption, OnOk, length, map, slice_index};
-ghost use Rattle.script_steps.specs.Rulings.{asked, asked_in};
+ghost use Rattle.script_steps.specs.Rulings.{asked_operations, asked_in};
 ghost use Rattle.transcript_reader.specs.Entries.{clients_from};
-ghost use Rattle.run_audit.specs.AskedLines.{asked_lines, lines_behind};
+ghost use Rattle.run_audit.specs.AskedLines.{asked_lines, asked_behind};
 ghost use Rattle.run_audit.specs.Steps.{asking};
 
 use ipb_base::NoMemory;
@@ -82,10 +82,10 @@ fn push_client<'a>(
     steps: &'a [Step],
     shows: &'a [ShownOp],
 ) -> Result<u32, NoMemory>
-    requires { first + length (asked steps.now) < 2 ^ 32 }
+    requires { first + length (asked_operations steps.now) < 2 ^ 32 }
     ensures lines { OnOk result (map asking all.new.items
-        ≡ map asking all.old.items ++ lines_behind first client [] (asked steps.now) shows.now) }
-    ensures next { IfOk result (λ next. next ≡ first + length (asked steps.now)) }
+        ≡ map asking all.old.items ++ asked_behind first client [] (asked_operations steps.now) shows.now) }
+    ensures next { IfOk result (λ next. next ≡ first + length (asked_operations steps.now)) }
 {
     let mut counts = Vec::new(alloc);
     let mut line = first;

@@ -2,10 +2,10 @@
 
 ghost use Rattle.std.specs.Prelude.{◌≡◌, ℕ, ◌+◌, ◌<◌, ◌≤◌, ◌^◌, ◌↔◌, IfOk, IsTrue, List, MatchOption, length, map};
 ghost use Rattle.board_node.specs.declared.spec.BoardSpec.{BoardSpec};
-ghost use Rattle.script_steps.specs.Rulings.{asked};
+ghost use Rattle.script_steps.specs.Rulings.{asked_operations};
 ghost use Rattle.transcript_reader.specs.Entries.{clients_from};
 ghost use Rattle.run_audit.specs.Counts.{IsMiscounted, IsMiscountedAt, distinct};
-ghost use Rattle.run_audit.specs.Steps.{AreOf, IsFirstBroken, asking, place_of, seen};
+ghost use Rattle.run_audit.specs.Steps.{AreOf, IsFirstBroken, asking, place_of, piece_kept};
 
 use crate::asking::AskedOp;
 use crate::places::{PieceShown, shown_pieces, take_place};
@@ -19,8 +19,8 @@ use transcript_reader::Shown;
 
 /// How many operations a client asks for, denied or not.
 fn count_operations(steps: &[Step]) -> u32
-    requires { length (asked steps.now) < 2 ^ 32 }
-    ensures { result ≡ length (asked steps.now) }
+    requires { length (asked_operations steps.now) < 2 ^ 32 }
+    ensures { result ≡ length (asked_operations steps.now) }
 {
     let mut count = 0;
     for step in steps {
@@ -46,7 +46,7 @@ fn count_client_lines(scripts: &[Steps]) -> u32
 
 /// How many different places pieces are shown with.
 fn distinct_places(alloc: Global, pieces: &[PieceShown]) -> Result<usize, NoMemory>
-    ensures { IfOk result (λ count. count ≡ distinct (map place_of (map seen pieces.now))) }
+    ensures { IfOk result (λ count. count ≡ distinct (map place_of (map piece_kept pieces.now))) }
 {
     let mut places = BTreeSet::new(alloc);
     let mut last = None;
@@ -66,7 +66,7 @@ fn ended(replied: u64, timed_out: u64, lost: u64) -> Option<u64>
 
 /// Whether the line of a board counts other places than these pieces are shown with, or its numbers do not add up.
 fn is_miscounted(alloc: Global, pieces: &[PieceShown], told: &BoardLine) -> Result<bool, NoMemory>
-    ensures { IfOk result (λ wrong. IsTrue wrong ↔ IsMiscounted (map seen pieces.now) told.now) }
+    ensures { IfOk result (λ wrong. IsTrue wrong ↔ IsMiscounted (map piece_kept pieces.now) told.now) }
 {
     match told {
         BoardLine::Live {

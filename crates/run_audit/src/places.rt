@@ -13,7 +13,7 @@ ghost use Rattle.transcript_reader.specs.declared.shown.Shown.{Shown as ShownVal
 ghost use Rattle.run_audit.specs.AskedLines.{with_places};
 ghost use Rattle.run_audit.specs.Places.{AreOfOneBody, HasMisplaced, IsMisplaced, IsMisplacedAt, IsPartialAt};
 ghost use Rattle.run_audit.specs.Steps.{AreOf, IsFirstBroken, StandsBefore, asking, disagrees, earliest_of};
-ghost use Rattle.run_audit.specs.Steps.{planned_shown, seen};
+ghost use Rattle.run_audit.specs.Steps.{planned_shown, piece_kept};
 
 use crate::asking::AskedOp;
 use crate::plans::{BoardPlans, pieces_at};
@@ -67,7 +67,7 @@ fn push_pieces(
     asked: &AskedOp,
     pieces: &[PieceAt],
 ) -> Result<(), NoMemory>
-    ensures { OnOk result (map seen all.new.items ≡ map seen all.old.items
+    ensures { OnOk result (map piece_kept all.new.items ≡ map piece_kept all.old.items
         ++ with_places (asking asked.now) pieces.now asked.now.shown.now.1) }
 {
     let shown = asked.shown;
@@ -95,7 +95,7 @@ pub(crate) fn shown_pieces(
     asked: &[AskedOp],
     board: usize,
 ) -> Result<Vec<PieceShown>, NoMemory>
-    ensures { IfOk result (λ all. map seen all.items ≡ planned_shown plans.now board (map asking asked.now)) }
+    ensures { IfOk result (λ all. map piece_kept all.items ≡ planned_shown plans.now board (map asking asked.now)) }
 {
     let mut all = Vec::new(alloc);
     for ask in asked {
@@ -108,7 +108,7 @@ pub(crate) fn shown_pieces(
 
 /// Whether the board's line does not count the place of a piece, or its transaction is another one.
 fn is_misplaced(sent: u64, piece: &PieceShown) -> bool
-    ensures { IsTrue result ↔ IsMisplaced sent (seen piece.now) }
+    ensures { IsTrue result ↔ IsMisplaced sent (piece_kept piece.now) }
 {
     u32::from(piece.transaction) != u32::from(piece.index) + 1
         || piece.place == 0
@@ -117,7 +117,7 @@ fn is_misplaced(sent: u64, piece: &PieceShown) -> bool
 
 /// Whether both stand in one body.
 fn are_of_one_body(one: &PieceShown, other: &PieceShown) -> bool
-    ensures { IsTrue result ↔ AreOfOneBody (seen one.now) (seen other.now) }
+    ensures { IsTrue result ↔ AreOfOneBody (piece_kept one.now) (piece_kept other.now) }
 {
     one.client == other.client && one.body == other.body
 }
@@ -125,7 +125,7 @@ fn are_of_one_body(one: &PieceShown, other: &PieceShown) -> bool
 /// Whether a piece disagrees with one that is shown before it, by the last of these and by whether its place is one of
 /// theirs.
 fn disagrees(last: Option<PieceShown>, is_taken: bool, piece: &PieceShown) -> bool
-    ensures { result ≡ disagrees (option_map seen last) is_taken (seen piece.now) }
+    ensures { result ≡ disagrees (option_map piece_kept last) is_taken (piece_kept piece.now) }
 {
     match last {
         Some(last) if are_of_one_body(&last, piece) => last.place != piece.place,
@@ -162,8 +162,8 @@ fn first_misplaced_of(
     pieces: &[PieceShown],
     sent: u64,
 ) -> Result<Option<u32>, NoMemory>
-    ensures { Rises StandsBefore (map seen pieces.now) →
-        IfOk result (IsFirstBroken (HasMisplaced sent (map seen pieces.now))) }
+    ensures { Rises StandsBefore (map piece_kept pieces.now) →
+        IfOk result (IsFirstBroken (HasMisplaced sent (map piece_kept pieces.now))) }
 {
     let mut taken = BTreeSet::new(alloc);
     let mut last = None;

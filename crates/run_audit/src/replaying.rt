@@ -3,13 +3,13 @@
 ghost use Rattle.std.specs.Prelude.{◌≡◌, ◌++◌, IfOk, List, OnOk, map};
 ghost use Rattle.std.specs.List.{AllByRecursion};
 ghost use Rattle.board_node.specs.declared.spec.BoardSpec.{BoardSpec as SpecValue};
-ghost use Rattle.board_history.specs.Order.{bodies_of, by_place};
-ghost use Rattle.board_history.specs.Runs.{opening_of};
+ghost use Rattle.board_history.specs.Order.{bodies_in, by_place};
+ghost use Rattle.board_history.specs.Runs.{opens_with};
 ghost use Rattle.script_steps.specs.declared.operation.Step.{Step};
 ghost use Rattle.transcript_reader.specs.declared.shown.Shown.{Shown};
 ghost use Rattle.transcript_reader.specs.Entries.{IsHere, IsLinkHere};
 ghost use Rattle.run_audit.specs.Replaying as spec;
-ghost use Rattle.run_audit.specs.Steps.{AreOf, asking, replays_from, seen};
+ghost use Rattle.run_audit.specs.Steps.{AreOf, asking, replays_from, piece_kept};
 
 use crate::asking::AskedOp;
 use crate::places::{PieceShown, shown_pieces};
@@ -51,7 +51,7 @@ impl PlaceRow {
     /// A place of the body of this number, which counts where none was known.
     #[tactic(auto, using(crate::proofs::Marking::mark_is_set, crate::proofs::Marking::mark_is_past))]
     fn mark(&mut self, body: usize, place: u64)
-        ensures { self.new ≡ spec.marked body place self.old }
+        ensures { self.new ≡ spec.with_mark body place self.old }
     {
         if body < self.places.len() {
             self.places[body] = Some(self.places[body].unwrap_or(place));
@@ -65,7 +65,7 @@ fn rows_of(
     plans: &[Planned],
     pieces: &[PieceShown],
 ) -> Result<Vec<PlaceRow>, NoMemory>
-    ensures { IfOk result (λ rows. rows.items ≡ spec.rows_from (map seen pieces.now) 0 plans.now) }
+    ensures { IfOk result (λ rows. rows.items ≡ spec.rows_from (map piece_kept pieces.now) 0 plans.now) }
 {
     let mut rows = Vec::with_capacity(alloc, plans.len())?;
     for planned in plans {
@@ -77,7 +77,7 @@ fn rows_of(
 
 /// Marks the places that pieces show.
 fn mark_all(rows: &mut [PlaceRow], pieces: &[PieceShown])
-    ensures { rows.new ≡ spec.all_marked (map seen pieces.now) rows.old }
+    ensures { rows.new ≡ spec.all_marked (map piece_kept pieces.now) rows.old }
 {
     for piece in pieces {
         mark_in(rows, piece.client, piece.body, piece.place);
@@ -166,7 +166,7 @@ fn replies_of(
     mut bus: Bus,
     order: &[PlacedBody],
 ) -> Result<Vec<PlacedReply>, NoMemory>
-    requires { spec.AreShort (bodies_of (map spec.placed_of order.now)) }
+    requires { spec.AreShort (bodies_in (map spec.placed_of order.now)) }
     ensures { IfOk result (λ replies. replies.items ≡ spec.replies_from bus (map spec.placed_of order.now)) }
 {
     let mut replies = Vec::with_capacity(alloc, order.len())?;
@@ -247,7 +247,7 @@ fn parts_of(
 /// The bus that a board of this process opens with.
 fn opening_bus(alloc: Global, link: &LinkSpec) -> Result<Bus, NoMemory>
     requires { IsLinkHere link.now }
-    ensures { IfOk result (λ bus. bus ≡ opening_of link.now) }
+    ensures { IfOk result (λ bus. bus ≡ opens_with link.now) }
 {
     let LinkSpec::Sim { ranges, .. } = link else {
         unreachable!()
@@ -269,7 +269,7 @@ fn shown_replies(
     requires link { IsLinkHere link.now }
     requires short { AllByRecursion spec.HasShortBodies plans.now }
     ensures replies { IfOk result (λ replies.
-        replies.items ≡ spec.replies_from (opening_of link.now) (by_place (spec.placed_in_rows plans.now rows.now))) }
+        replies.items ≡ spec.replies_from (opens_with link.now) (by_place (spec.placed_in_rows plans.now rows.now))) }
     ensures rising { IfOk result (λ replies. spec.Rise replies.items) }
 {
     let order = placed_in_order(alloc, plans, rows)?;
@@ -285,7 +285,7 @@ fn replayed_run(
 ) -> Result<BoardRun, NoMemory>
     requires here { IsHere board.now }
     requires short { AllByRecursion spec.HasShortBodies plans }
-    ensures { IfOk result (λ run. run ≡ spec.run_of board.now plans (map seen pieces.now)) }
+    ensures { IfOk result (λ run. run ≡ spec.run_of board.now plans (map piece_kept pieces.now)) }
 {
     let rows = rows_of(alloc, plans.as_slice(), pieces)?;
     let replies = shown_replies(alloc, &board.link, plans.as_slice(), rows.as_slice())?;

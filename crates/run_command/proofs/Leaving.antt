@@ -1,9 +1,7 @@
 -- What a run leaves, put together from what its steps say.
 use Rattle.std.proofs.Common.{◌≡◌, inl, inr, ℕ, List, length}
 use Rattle.std.proofs.Common.{Result, Ok, Err, IfOk}
-use Rattle.std.proofs.Common.{sym, ap, ◌∙◌}
 use Rattle.std.specs.List.{AllByRecursion}
-use Rattle.std.specs.Result.{IsErr, IsErrAnd}
 use Rattle.board_node.specs.declared.spec.LinkSpec.{LinkSpec}
 use Rattle.lane_history.specs.Links.{LinkReport, IsUntouched}
 use Rattle.lane_history.specs.Runs.{AreRunsOver}
@@ -11,7 +9,7 @@ use Rattle.script_steps.specs.declared.operation.Step.{Step}
 use Rattle.script_lang.specs.declared.session.Session.{Session}
 use Rattle.session_input.specs.Deserved.{IsRunnable}
 use Rattle.session_run.specs.declared.session.RunFault.{RunFault}
-use Rattle.session_run.specs.declared.session.RunFault.TheVariants.{Rack, NoMemory}
+use Rattle.session_run.specs.declared.session.RunFault.TheVariants.{Rack}
 use Rattle.session_run.specs.Links.{AreLeft, AreMadeFor}
 use Rattle.session_run.specs.Faults.{IsRunFailure}
 use Rattle.script_plans.specs.declared.board_run.BoardRun.{BoardRun}
@@ -22,7 +20,7 @@ use Rattle.command_terms.specs.Leaving.{Leaves}
 use Rattle.command_terms.specs.Numbers.{refused_status}
 use Rattle.command_terms.specs.Outside.{NoneCame, no_pairs}
 use Rattle.command_terms.specs.Terms.{Owes}
-use Rattle.command_terms.proofs.Leaving.{none_came}
+use Rattle.command_terms.proofs.Leaving.{none_came, same_Err}
 use Rattle.command_terms.proofs.Statuses.{done_is_no_refusal, told_is_done}
 use Rattle.run_laws.specs.Runs.{IsSessionRun}
 use Rattle.run_laws.specs.Steps.{CanRunSteps}
@@ -30,22 +28,15 @@ use Rattle.run_command.specs.Headline.{RanSomeOf}
 use Rattle.run_command.specs.Steps.{Prints, RunLeaves}
 use Rattle.run_command.specs.Terms.{run_terms}
 
-failure : Result Answer RunFault → RunFault
-failure (Ok answer) = NoMemory
-failure (Err fault) = fault
-
-pub run_failed : (session : Session) (steps : List (List Step)) (made makes : List LinkSpec)
-    (result : Result Answer RunFault) (fault : RunFault) (links : List LinkReport)
-    → AreLeft 0 session.boards steps links → AreMadeFor session.boards (length links) made makes
-    → IsErr result → IsErrAnd result (λ why. why ≡ fault) → (fault ≡ Rack → AllByRecursion IsUntouched links)
-    → RunLeaves session steps made makes result links
-unfolding failure
-run_failed session steps made makes (Ok answer) fault links left links_made fails is untouched = absurd cc
-run_failed session steps made makes (Err why) fault links left links_made fails is untouched = record {
+pub run_failed : (session : Session) (steps : List (List Step)) (made makes : List LinkSpec) (why : RunFault)
+    (links : List LinkReport) → AreLeft 0 session.boards steps links
+    → AreMadeFor session.boards (length links) made makes → (why ≡ Rack → AllByRecursion IsUntouched links)
+    → RunLeaves session steps made makes (Err why) links
+run_failed session steps made makes why links left links_made untouched = record {
   left = left;
   links_made = links_made;
   prints = tt;
-  untouched = λ rack. untouched (sym is ∙ ap failure rack);
+  untouched = λ is. untouched (same_Err why Rack is);
 }
 
 pub run_printed : (session : Session) (steps : List (List Step)) (made makes : List LinkSpec) (answer : Answer)

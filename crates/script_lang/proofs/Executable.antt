@@ -12,7 +12,7 @@ use Rattle.ipb_base.specs.Word.{IsWord, AreWords}
 use Rattle.address_table.specs.Rules.{first_broken}
 use Rattle.toml.specs.Data.{Members}
 use Rattle.board_node.specs.declared.spec.BoardSpec.{BoardSpec}
-use Rattle.masked_fields.specs.Field.{shifted}
+use Rattle.masked_fields.specs.Field.{shifted_value}
 use Rattle.mtu_packer.specs.Cutting.{HasWords}
 use Rattle.node_tree.specs.Maps.{RegisterMap}
 use Rattle.node_tree.specs.Names.{IsIndexOf}
@@ -48,10 +48,10 @@ at_index (n ∷ numbers) (suc k) are = at_index numbers k are.1
 own_address : (r : Register) → IsSoundRegister r → IsWord r.address
 own_address r is = omega (arith, is.register'.last)
 
-shifted_small : (mask value : ℕ) → IsWord mask → fits_mask mask value ≡ true → IsWord (shifted mask value)
+shifted_small : (mask value : ℕ) → IsWord mask → fits_mask mask value ≡ true → IsWord (shifted_value mask value)
 shifted_small mask value small fits =
-    let same : bit_and (shifted mask value) mask ≡ shifted mask value = grind (arith, nat_tests) in
-    omega (arith, and_le_r (shifted mask value) mask)
+    let same : bit_and (shifted_value mask value) mask ≡ shifted_value mask value = grind (arith, nat_tests) in
+    omega (arith, and_le_r (shifted_value mask value) mask)
 
 by_bool : (P : Type 0) (b : Bool) → (b ≡ true → P) → (b ≡ false → P) → P
 by_bool P true is other = is refl

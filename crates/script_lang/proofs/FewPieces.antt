@@ -236,7 +236,7 @@ module _ (boards : List BoardSpec) (indexes : List RegisterMap) where
   few_of : (steps : List Step) → sum_by op_count (operations steps) ≤ MAX_OPERATIONS + MAX_BLOCK_WORDS
       → HaveFewPieces steps
   few_of steps few ops payload is low =
-      let pieces : length (flat_map (Rattle.mtu_packer.specs.Cutting.cut payload) ops) ≤ sum_by op_count ops =
+      let pieces : length (flat_map (Rattle.mtu_packer.specs.Cutting.cut_pieces payload) ops) ≤ sum_by op_count ops =
       pieces-le payload ops low in
       omega (arith, pieces, selection-le ops (operations steps) is, few)
 

@@ -3,7 +3,7 @@ use Rattle.std.proofs.Common.{◌≡◌, ◌≢◌, ℕ, Bool, true, false, Resu
 use Rattle.std.proofs.Common.{refl, sym, arith}
 use Rattle.std.specs.Result.{is_ok, IsOk}
 use Rattle.std.proofs.lemmas.Bool.Decides.{nat_tests}
-use Rattle.masked_fields.specs.Field.{field, shifted, FitsMask}
+use Rattle.masked_fields.specs.Field.{field, shifted_value, FitsMask}
 use Rattle.masked_fields.specs.declared.fields.BitsOutside.{BitsOutside as Outside}
 use Rattle.masked_fields.proofs.FieldValues.{field-shifted}
 use Rattle.address_table.specs.Rules.{first_broken}
@@ -30,13 +30,13 @@ pub told : (mask value : ℕ) (r : Result (ℕ × ℕ) Outside) → OnOk r (Fits
     → OnErr r ((word : ℕ) → field word mask ≢ value) → is_ok r ≡ fits_mask mask value
 told mask value (Ok terms) good bad = sym (is_fit mask value good)
 told mask value (Err e) good bad =
-    refuses mask value (fits_mask mask value) refl (λ h. bad (shifted mask value) (field-shifted mask value h))
+    refuses mask value (fits_mask mask value) refl (λ h. bad (shifted_value mask value) (field-shifted mask value h))
 
 pub has_terms : (mask value : ℕ) (r : Result (ℕ × ℕ) Outside) → fits_mask mask value ≡ true
     → OnErr r ((word : ℕ) → field word mask ≢ value) → IsOk r
 has_terms mask value (Ok terms) good bad = refl
 has_terms mask value (Err e) good bad =
-    absurd (bad (shifted mask value) (field-shifted mask value (fits mask value good)))
+    absurd (bad (shifted_value mask value) (field-shifted mask value (fits mask value good)))
 
 pub later_kept : (why : ScriptWhy) (kept : Bool) (rest : List (ScriptWhy × Bool))
     → first_broken ((why, kept) ∷ rest) ≡ None → (kept ≡ true) × (first_broken rest ≡ None)

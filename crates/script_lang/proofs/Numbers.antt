@@ -5,14 +5,14 @@ use Rattle.toml.specs.Data.{Members, get_member}
 use Rattle.ipb_base.specs.Digits.{is_between}
 use Rattle.address_table.specs.Numbers.{number}
 use Rattle.std.specs.Option.{option_and_then, unwrap_or}
-use Rattle.script_lang.specs.Texts.{checked}
+use Rattle.script_lang.specs.Texts.{checked_value}
 use Rattle.address_table.specs.Limits.{IsFormat}
 use Rattle.world_model.specs.Settings.{AreLimits}
 use Rattle.script_lang.specs.Sessions.{settings_of, format_of}
 
 pub between-checked : (least most default : ℕ) (o : Option ℕ) → least ≤ default → default ≤ most
-    → (least ≤ unwrap_or (checked (is_between least most) o) default)
-    × (unwrap_or (checked (is_between least most) o) default ≤ most)
+    → (least ≤ unwrap_or (checked_value (is_between least most) o) default)
+    × (unwrap_or (checked_value (is_between least most) o) default ≤ most)
 between-checked least most default None low high = (low, high)
 between-checked least most default (Some n) low high = grind (arith, nat_tests)
 

@@ -17,7 +17,7 @@ use Rattle.script_lang.specs.Operations.{meaning}
 use Rattle.script_lang.specs.Scripts.{ScriptLine, lines_from, all_lines, LineFault, operations_in, block_words_in}
 use Rattle.script_lang.specs.Scripts.{Meaning, count_in, is_over, line_meaning, tally_of, broken_by, faults_after}
 use Rattle.script_lang.specs.Scripts.{script_faults, steps_from, steps_of, TellsLine}
-use Rattle.script_lang.specs.Tallies.{with_step, Run, line_run, joined, then_run, prepended, then_all, run_from}
+use Rattle.script_lang.specs.Tallies.{with_step, Run, line_run, joined_run, then_run, with_steps_before, then_all, run_from}
 use Rattle.script_lang.specs.Tallies.{run_all, StopsAs, nothing}
 
 first_front : (xs ys : List LineFault) (f : LineFault) → slice_get xs 0 ≡ Some f → slice_get (xs ++ ys) 0 ≡ Some f
@@ -66,7 +66,7 @@ module _ (boards : List BoardSpec) (indexes : List RegisterMap) where
       → meaning boards indexes number text ≡ Ok step
       → is_over (tally_of boards indexes (earlier ++ line_at client number text ∷ [])) ≡ false
       → TellsLines client (number + 1) texts (earlier ++ line_at client number text ∷ []) run
-      → TellsLines client number (text ∷ texts) earlier (joined (option_to_list step) run)
+      → TellsLines client number (text ∷ texts) earlier (joined_run (option_to_list step) run)
   with_line client number text texts earlier step (Ok run) means within_it told = (
     rw (means, within_it) told.0,
     ap (λ xs. option_to_list step ++ xs) told.1 ∙ next_first step (steps_from boards indexes (number + 1) texts)
@@ -143,7 +143,7 @@ module _ (boards : List BoardSpec) (indexes : List RegisterMap) where
       → faults_after boards indexes earlier (lines_from client 1 script) ≡ []
       → steps ≡ steps_from boards indexes 1 script
       → TellsAll (client + 1) scripts (earlier ++ lines_from client 1 script) rest
-      → TellsAll client (script ∷ scripts) earlier (prepended (steps ∷ []) rest)
+      → TellsAll client (script ∷ scripts) earlier (with_steps_before (steps ∷ []) rest)
   with_script client script scripts earlier steps (Ok all) none same told = (
     faults_after-append earlier (lines_from client 1 script) (all_lines (client + 1) scripts) ∙ rw none told.0,
     rw (same, told.1) refl,

@@ -8,12 +8,12 @@ use Rattle.address_table.specs.Numbers.{number}
 use Rattle.script_lang.specs.declared.keys.Kind.{Kind}
 use Rattle.script_lang.specs.declared.keys.Kind.TheVariants.{Number}
 use Rattle.script_lang.specs.Keys.{KeyRule, kind_at}
-use Rattle.script_lang.specs.Texts.{checked}
+use Rattle.script_lang.specs.Texts.{checked_value}
 
 -- the number that keeps the rule of its key, or the default
 abbrev pub ruled_number : Option Kind → Option Data → ℕ
 ruled_number (Some (Number least most default)) value =
-    unwrap_or (checked (is_between least most) (option_and_then number value)) default
+    unwrap_or (checked_value (is_between least most) (option_and_then number value)) default
 ruled_number _ value = 0
 
 -- the number under a key of a table

@@ -23,8 +23,8 @@ pub record KeyRule : Type 0 where
   pub kind : Kind
   pub is_needed : Bool
 
-abbrev pub needed : List ℕ → Kind → KeyRule
-needed name kind = record { name = name; kind = kind; is_needed = true }
+abbrev pub needed_key : List ℕ → Kind → KeyRule
+needed_key name kind = record { name = name; kind = kind; is_needed = true }
 
 abbrev pub optional : List ℕ → Kind → KeyRule
 optional name kind = record { name = name; kind = kind; is_needed = false }
@@ -56,9 +56,9 @@ sim_keys =
     ∷ optional (codes "first") (Number 1 IDENTIFIERS 1)
     ∷ optional (codes "link") (Text Link)
     ∷ optional (codes "mtu") (Number least_mtu greatest_mtu 1500)
-    ∷ needed (codes "name") (Text Id)
+    ∷ needed_key (codes "name") (Text Id)
     ∷ optional (codes "ranges") (Array (items.Table Range))
-    ∷ needed (codes "table") (Text Any)
+    ∷ needed_key (codes "table") (Text Any)
     ∷ []
 
 -- a simulated board without `fates` may have `noise`
@@ -68,25 +68,25 @@ sim_keys_with_noise = optional (codes "noise") word ∷ sim_keys
 -- a board behind a UDP port
 abbrev pub udp_keys : List KeyRule
 udp_keys =
-    needed (codes "address") (Text Endpoint)
+    needed_key (codes "address") (Text Endpoint)
     ∷ optional (codes "link") (Text Link)
-    ∷ needed (codes "name") (Text Id)
-    ∷ needed (codes "table") (Text Any)
+    ∷ needed_key (codes "name") (Text Id)
+    ∷ needed_key (codes "table") (Text Any)
     ∷ optional (codes "wait") (Number 1 10000 100)
     ∷ []
 
 -- a range of a simulated board: `kind` is `rw` where it is left out
 abbrev pub range_keys : List KeyRule
 range_keys =
-    needed (codes "base") word
+    needed_key (codes "base") word
     ∷ optional (codes "init") (Array items.Number)
     ∷ optional (codes "kind") (Text RangeWord)
-    ∷ needed (codes "size") word
+    ∷ needed_key (codes "size") word
     ∷ []
 
 -- a client
 abbrev pub client_keys : List KeyRule
-client_keys = needed (codes "script") (Array items.Text) ∷ []
+client_keys = needed_key (codes "script") (Array items.Text) ∷ []
 
 -- a board is simulated unless its `link` is `udp`
 abbrev pub is_udp : Members → Bool

@@ -13,7 +13,7 @@ use Rattle.address_table.specs.declared.kinds.Permission.TheVariants.{R, W, Rw}
 use Rattle.address_table.specs.declared.kinds.Mode.{Mode}
 use Rattle.address_table.specs.declared.kinds.Mode.TheVariants.{Port, Hierarchical}
 use Rattle.board_node.specs.declared.spec.BoardSpec.{BoardSpec}
-use Rattle.masked_fields.specs.Field.{shifted}
+use Rattle.masked_fields.specs.Field.{shifted_value}
 use Rattle.node_tree.specs.Maps.{RegisterMap}
 use Rattle.node_tree.specs.declared.register.Register.{Register}
 use Rattle.transaction_codec.specs.declared.request.Op.{Op}
@@ -71,7 +71,7 @@ fits_size r count = nat_le count r.size || (is_port r.mode && (r.size == 1))
 
 -- the value has no bit outside the mask
 abbrev pub fits_mask : ℕ → ℕ → Bool
-fits_mask mask value = bit_and (shifted mask value) mask == shifted mask value
+fits_mask mask value = bit_and (shifted_value mask value) mask == shifted_value mask value
 
 -- only a single value is written under a mask
 abbrev pub fits_field : Register → Verb → List ℕ → Bool
@@ -99,7 +99,7 @@ use_rules r call =
 
 -- one read-modify-write, which puts the value under the mask and leaves the other bits as they are
 abbrev pub masked_write : ℕ → ℕ → ℕ → Op
-masked_write base mask value = ops.RmwBits base (bit_not w32 mask) (shifted mask value)
+masked_write base mask value = ops.RmwBits base (bit_not w32 mask) (shifted_value mask value)
 
 -- a single value is written as it is under the full mask
 abbrev pub write_op : Register → List ℕ → Op
@@ -159,15 +159,15 @@ abbrev pub as_step : Result RegOp ScriptWhy → Result (Option Step) ScriptWhy
 as_step (Ok op) = Ok (Some (Do op))
 as_step (Err why) = Err why
 
-abbrev pub asked : List BoardSpec → List RegisterMap → ℕ → Call → Result (Option Step) ScriptWhy
-asked boards indexes line call = as_step (use_on indexes line call (board_from 0 call.board boards))
+abbrev pub step_asked : List BoardSpec → List RegisterMap → ℕ → Call → Result (Option Step) ScriptWhy
+step_asked boards indexes line call = as_step (use_on indexes line call (board_from 0 call.board boards))
 
 -- what a line means that says this
 abbrev pub step_of : List BoardSpec → List RegisterMap → ℕ → Option Command → Result (Option Step) ScriptWhy
 step_of boards indexes line None = Err BadLine
 step_of boards indexes line (Some says.Nothing) = Ok None
 step_of boards indexes line (Some says.Dispatch) = Ok (Some Dispatch)
-step_of boards indexes line (Some (says.Ask call)) = asked boards indexes line call
+step_of boards indexes line (Some (says.Ask call)) = step_asked boards indexes line call
 
 -- What a line means: nothing, a dispatch or an operation, or the first of the rules on single lines that it breaks.
 abbrev pub meaning : List BoardSpec → List RegisterMap → ℕ → List ℕ → Result (Option Step) ScriptWhy

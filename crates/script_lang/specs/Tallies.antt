@@ -27,31 +27,31 @@ within tally = if is_over tally then None else Some tally
 abbrev pub Run : Type 0
 Run = Result (List Step × Tally) LineFault
 
-abbrev pub counted : ℕ → ℕ → Option Step → Option Tally → Result (Option Step × Tally) LineFault
-counted client number step None = Err (client, number, TooMany)
-counted client number step (Some tally) = Ok (step, tally)
+abbrev pub counted_step : ℕ → ℕ → Option Step → Option Tally → Result (Option Step × Tally) LineFault
+counted_step client number step None = Err (client, number, TooMany)
+counted_step client number step (Some tally) = Ok (step, tally)
 
 -- the step of a line that means this, and the tally after it
 abbrev pub line_run : ℕ → ℕ → Tally → Meaning → Result (Option Step × Tally) LineFault
 line_run client number tally (Err why) = Err (client, number, why)
-line_run client number tally (Ok step) = counted client number step (within (with_step tally step))
+line_run client number tally (Ok step) = counted_step client number step (within (with_step tally step))
 
 -- steps before those of a run
-abbrev pub joined : List Step → Run → Run
-joined steps (Ok run) = Ok (steps ++ run.0, run.1)
-joined steps (Err fault) = Err fault
+abbrev pub joined_run : List Step → Run → Run
+joined_run steps (Ok run) = Ok (steps ++ run.0, run.1)
+joined_run steps (Err fault) = Err fault
 
 abbrev pub then_run : Result (Option Step × Tally) LineFault → (Tally → Run) → Run
 then_run (Err fault) rest = Err fault
-then_run (Ok next) rest = joined (option_to_list next.0) (rest next.1)
+then_run (Ok next) rest = joined_run (option_to_list next.0) (rest next.1)
 
-abbrev pub prepended : List (List Step) → Result (List (List Step)) LineFault → Result (List (List Step)) LineFault
-prepended steps (Ok run) = Ok (steps ++ run)
-prepended steps (Err fault) = Err fault
+abbrev pub with_steps_before : List (List Step) → Result (List (List Step)) LineFault → Result (List (List Step)) LineFault
+with_steps_before steps (Ok run) = Ok (steps ++ run)
+with_steps_before steps (Err fault) = Err fault
 
 abbrev pub then_all : Run → (Tally → Result (List (List Step)) LineFault) → Result (List (List Step)) LineFault
 then_all (Err fault) rest = Err fault
-then_all (Ok run) rest = prepended (run.0 ∷ []) (rest run.1)
+then_all (Ok run) rest = with_steps_before (run.0 ∷ []) (rest run.1)
 
 module _ (boards : List BoardSpec) (indexes : List RegisterMap) where
   -- the lines of a client, from a number on, after lines of this tally

@@ -13,9 +13,9 @@ use Rattle.script_lang.specs.declared.keys.TextRule.{TextRule}
 use Rattle.script_lang.specs.declared.keys.TextRule.TheVariants.{Any, Id, Link, RangeWord, Fates, Endpoint}
 
 -- the value, if the test holds of it
-abbrev pub checked : {A : Type 0} → (A → Bool) → Option A → Option A
-checked test None = None
-checked test (Some x) = if test x then Some x else None
+abbrev pub checked_value : {A : Type 0} → (A → Bool) → Option A → Option A
+checked_value test None = None
+checked_value test (Some x) = if test x then Some x else None
 
 -- `d`, `l`, `r`, or `1` to `9`
 abbrev pub is_fate : ℕ → Bool
@@ -32,7 +32,7 @@ is_decimal (byte ∷ rest) = (is_digit byte && list_all is_digit rest) && (not (
 -- the number from `least` to `most` that such digits write
 abbrev pub decimal_between : ℕ → ℕ → List ℕ → Option ℕ
 decimal_between least most text =
-    if is_decimal text then checked (is_between least most) (number_in_text text) else None
+    if is_decimal text then checked_value (is_between least most) (number_in_text text) else None
 
 -- what stands before and after the first such byte
 abbrev pub cut_at : ℕ → List ℕ → Option (List ℕ × List ℕ)

@@ -81,7 +81,7 @@ fn asked(
 ) -> Result<Result<Option<Step>, ScriptWhy>, NoMemory>
     requires few { length boards.now ≤ MAX_BOARDS }
     requires taken { takes call.verb call.numbers ≡ true }
-    ensures step { IfOk result (λ step. step ≡ op.asked boards.now indexes.now line call.entry) }
+    ensures step { IfOk result (λ step. step ≡ op.step_asked boards.now indexes.now line call.entry) }
     ensures packed { IfOk result (λ step. IfOk step (λ step. IfSome step CanBePacked)) }
 {
     let Some(board) = board_at(boards, call.board.as_str().as_bytes()) else {

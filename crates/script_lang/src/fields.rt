@@ -9,7 +9,7 @@ ghost use Rattle.toml.specs.View.{view, table_view, array_view};
 ghost use Rattle.script_lang.specs.Forms.{form_keys};
 ghost use Rattle.script_lang.specs.Fields as spec;
 ghost use Rattle.script_lang.specs.Keys as keys;
-ghost use Rattle.script_lang.specs.Texts.{checked};
+ghost use Rattle.script_lang.specs.Texts.{checked_value};
 
 use crate::keys::{Form, Kind, kind_at};
 use address_table::number;
@@ -95,7 +95,7 @@ pub(crate) fn number_at(form: Form, members: &Table, name: &str) -> u32
 /// The number under a key, if it lies between two others.
 fn number_between(members: &Table, name: &str, least: u32, most: u32) -> Option<u32>
     ensures { let found = option_and_then number_of (get_member name.now (table_view members.now)) in
-        result ≡ checked (is_between least most) found }
+        result ≡ checked_value (is_between least most) found }
 {
     let found = number(value_at(members, name)?)?;
     if least <= found && found <= most {

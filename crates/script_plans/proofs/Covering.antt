@@ -6,7 +6,7 @@ use Rattle.std.proofs.lemmas.List.Sums.{sum_by-append}
 use Rattle.script_steps.specs.declared.operation.RegOp.{RegOp}
 use Rattle.script_steps.specs.declared.operation.Step.{Step}
 use Rattle.script_steps.specs.declared.operation.Step.TheVariants.{Do, Denied, Dispatch}
-use Rattle.script_plans.specs.Plan.{operations, count_on, ClientBodies, no_bodies, moved, begun, dispatches, ops_on}
+use Rattle.script_plans.specs.Plan.{operations, count_on, ClientBodies, no_bodies, piece_behind, into_next_dispatch, dispatches, ops_on}
 use Rattle.script_plans.specs.Plan.{plan, with_dispatch, all_dispatches}
 use Rattle.std.proofs.lemmas.Bool.{cases_Bool}
 use Rattle.std.proofs.lemmas.List.{length-map}
@@ -15,7 +15,7 @@ use Rattle.transaction_codec.specs.declared.request.Op.{Op}
 use Rattle.mtu_packer.specs.declared.packed.Piece.{Piece}
 use Rattle.mtu_packer.specs.Cutting.{piece_count}
 use Rattle.mtu_packer.specs.Packing.{parts_of, body_words}
-use Rattle.mtu_packer.specs.Packed.{Contents, packed, places_in, places_from, deal}
+use Rattle.mtu_packer.specs.Packed.{Contents, packed_contents, places_in, places_from, deal}
 use Rattle.script_plans.specs.declared.planned.PieceAt.{PieceAt}
 use Rattle.script_plans.specs.Claims.{HaveBodies}
 use Rattle.script_plans.proofs.PlanLemmas.{one_and_more}
@@ -33,24 +33,24 @@ length-deal : {T : Type 0} (counts : List ℕ) (xs : List T) → length (deal co
 length-deal [] xs = refl
 length-deal (n ∷ counts) xs = ap suc (length-deal counts (drop n xs))
 
-packed_length : (payload : ℕ) (ops : List Op) → length (packed payload ops).pieces ≡ length ops
+packed_length : (payload : ℕ) (ops : List Op) → length (packed_contents payload ops).pieces ≡ length ops
 packed_length payload ops =
     length-deal (map (piece_count payload) ops) (places_from 0 (parts_of payload ops))
     ∙ length-map ops (piece_count payload)
 
 length_from : (payload board : ℕ) (ds : List (List RegOp)) (all : ClientBodies)
-    → length (fold with_dispatch all (map (λ dispatch. packed payload (ops_on board dispatch)) ds)).pieces
+    → length (fold with_dispatch all (map (λ dispatch. packed_contents payload (ops_on board dispatch)) ds)).pieces
     ≡ length all.pieces + length (flat_map (ops_on board) ds)
 length_from payload board [] all = omega arith
 length_from payload board (d ∷ ds) all =
-    let next = with_dispatch all (packed payload (ops_on board d)) in
-    let more : length (fold with_dispatch next (map (λ dispatch. packed payload (ops_on board dispatch)) ds)).pieces
+    let next = with_dispatch all (packed_contents payload (ops_on board d)) in
+    let more : length (fold with_dispatch next (map (λ dispatch. packed_contents payload (ops_on board dispatch)) ds)).pieces
     ≡ length next.pieces + length (flat_map (ops_on board) ds) = length_from payload board ds next in
     let here : length next.pieces ≡ length all.pieces + length (ops_on board d) =
-    length-append all.pieces (map (λ pieces. map (moved (length all.bodies)) pieces)
-    (packed payload (ops_on board d)).pieces)
-    ∙ ap (λ n. length all.pieces + n) (length-map (packed payload (ops_on board d)).pieces
-    (λ pieces. map (moved (length all.bodies)) pieces)
+    length-append all.pieces (map (λ pieces. map (piece_behind (length all.bodies)) pieces)
+    (packed_contents payload (ops_on board d)).pieces)
+    ∙ ap (λ n. length all.pieces + n) (length-map (packed_contents payload (ops_on board d)).pieces
+    (λ pieces. map (piece_behind (length all.bodies)) pieces)
     ∙ packed_length payload (ops_on board d)) in
     omega (arith, length-append (ops_on board d) (flat_map (ops_on board) ds))
 
@@ -62,7 +62,7 @@ counted_one board op =
     ]
 
 begun_length : (board : ℕ) (op : RegOp) (ds : List (List RegOp))
-    → length (flat_map (ops_on board) (begun op ds))
+    → length (flat_map (ops_on board) (into_next_dispatch op ds))
     ≡ length (ops_on board (op ∷ [])) + length (flat_map (ops_on board) ds)
 begun_length board op [] = length-append (ops_on board (op ∷ [])) []
 begun_length board op (d ∷ later) =
@@ -126,23 +126,23 @@ places_below most body (part ∷ parts) below =
     (one_body most body 0 (length part) (omega arith)) (places_below most (body + 1) parts (omega arith))
 
 packed_below : (payload : ℕ) (ops : List Op)
-    → AllByRecursion (AllByRecursion (IsBelow (length (packed payload ops).bodies))) (packed payload ops).pieces
+    → AllByRecursion (AllByRecursion (IsBelow (length (packed_contents payload ops).bodies))) (packed_contents payload ops).pieces
 packed_below payload ops =
-    dealt_all (IsBelow (length (packed payload ops).bodies)) (map (piece_count payload) ops)
+    dealt_all (IsBelow (length (packed_contents payload ops).bodies)) (map (piece_count payload) ops)
     (places_from 0 (parts_of payload ops))
-    (places_below (length (packed payload ops).bodies) 0 (parts_of payload ops)
+    (places_below (length (packed_contents payload ops).bodies) 0 (parts_of payload ops)
     (omega (arith, length-map (parts_of payload ops) body_words)))
 
 abbrev pub IsUnder : ℕ → PieceAt → Type 0
 IsUnder most piece = piece.body < most
 
 moved_under : (first most : ℕ) (ps : List Piece) → AllByRecursion (IsBelow most) ps
-    → AllByRecursion (IsUnder (first + most)) (map (moved first) ps)
+    → AllByRecursion (IsUnder (first + most)) (map (piece_behind first) ps)
 moved_under first most [] all = tt
 moved_under first most (p ∷ ps) all = (omega (arith, all.0), moved_under first most ps all.1)
 
 each_under : (first most : ℕ) (pieces : List (List Piece)) → AllByRecursion (AllByRecursion (IsBelow most)) pieces
-    → AllByRecursion (AllByRecursion (IsUnder (first + most))) (map (λ pieces. map (moved first) pieces) pieces)
+    → AllByRecursion (AllByRecursion (IsUnder (first + most))) (map (λ pieces. map (piece_behind first) pieces) pieces)
 each_under first most [] all = tt
 each_under first most (ps ∷ pieces) all = (moved_under first most ps all.0, each_under first most pieces all.1)
 
@@ -162,15 +162,15 @@ next_under all c have more =
     AllByRecursion-append (AllByRecursion (IsUnder (length (all.bodies ++ c.bodies)))) all.pieces _
     (still_under (length all.bodies) (length (all.bodies ++ c.bodies)) all.pieces (omega arith) have)
     (subst (λ n. AllByRecursion (AllByRecursion (IsUnder n))
-    (map (λ pieces. map (moved (length all.bodies)) pieces) c.pieces)) (sym long)
+    (map (λ pieces. map (piece_behind (length all.bodies)) pieces) c.pieces)) (sym long)
     (each_under (length all.bodies) (length c.bodies) c.pieces more))
 
 under_from : (payload board : ℕ) (ds : List (List RegOp)) (all : ClientBodies) → HaveBodies all
-    → HaveBodies (fold with_dispatch all (map (λ dispatch. packed payload (ops_on board dispatch)) ds))
+    → HaveBodies (fold with_dispatch all (map (λ dispatch. packed_contents payload (ops_on board dispatch)) ds))
 under_from payload board [] all have = have
 under_from payload board (d ∷ ds) all have =
-    under_from payload board ds (with_dispatch all (packed payload (ops_on board d)))
-    (next_under all (packed payload (ops_on board d)) have (packed_below payload (ops_on board d)))
+    under_from payload board ds (with_dispatch all (packed_contents payload (ops_on board d)))
+    (next_under all (packed_contents payload (ops_on board d)) have (packed_below payload (ops_on board d)))
 
 pub each_has_its_body : (payload board : ℕ) (steps : List Step) → HaveBodies (all_dispatches (plan payload board steps))
 each_has_its_body payload board steps = under_from payload board (dispatches steps) no_bodies tt

@@ -6,7 +6,7 @@ use Rattle.std.proofs.lemmas.Bool.{cases_Bool}
 use Rattle.std.proofs.lemmas.List.Sums.{sum_by-append, sum_by-cons}
 use Rattle.transaction_codec.specs.declared.request.Op.{Op}
 use Rattle.transaction_codec.specs.Request.{op_count}
-use Rattle.mtu_packer.specs.Packed.{Contents, IsPacked, packed, words_with_answer}
+use Rattle.mtu_packer.specs.Packed.{Contents, IsPacked, packed_contents, words_with_answer}
 use Rattle.script_steps.specs.Executable.{AreExecutable}
 use Rattle.script_steps.specs.Packing.{all_operations}
 use Rattle.script_steps.specs.Packing as script
@@ -14,7 +14,7 @@ use Rattle.script_steps.specs.declared.operation.RegOp.{RegOp}
 use Rattle.script_steps.specs.declared.operation.Step.{Step}
 use Rattle.script_steps.specs.declared.operation.Step.TheVariants.{Do, Denied, Dispatch}
 use Rattle.script_plans.specs.declared.greeting.Greeting.TheVariants.{Live}
-use Rattle.script_plans.specs.Plan.{all_bodies, begun, bodies_in, dispatches, ops_on, plan, planned_on, plans_on}
+use Rattle.script_plans.specs.Plan.{all_bodies, into_next_dispatch, bodies_in, dispatches, ops_on, plan, planned_on, plans_on}
 use Rattle.script_plans.proofs.DispatchLemmas.{bodies_are}
 use Rattle.script_plans.proofs.PackedDispatches.{AreDispatchesPacked, PacksWords, dispatched, dispatches_packed}
 
@@ -33,7 +33,7 @@ module _ (measure : Op → ℕ) (board : ℕ) where
         | inr away ↦ rw away (omega arith)
       ]
 
-  begun_measure : (op : RegOp) (ds : List (List RegOp)) → on_board (begun op ds) ≤ measure op.op + on_board ds
+  begun_measure : (op : RegOp) (ds : List (List RegOp)) → on_board (into_next_dispatch op ds) ≤ measure op.op + on_board ds
   begun_measure op [] =
       omega (arith, one_more op [], sum_by-cons (λ dispatch. sum_by measure (ops_on board dispatch)) (op ∷ []) [])
   begun_measure op (d ∷ ds) =
@@ -74,13 +74,13 @@ module _ (packs : PacksWords) (size : List ℕ → ℕ) (measure : Op → ℕ) (
     (low : 16 ≤ payload) (high : payload ≤ 2243)
   where
     abbrev packings : List (List RegOp) → List (List ℕ)
-    packings ds = flat_map (λ bodies. bodies) (bodies_in (map (λ dispatch. packed payload (ops_on board dispatch)) ds))
+    packings ds = flat_map (λ bodies. bodies) (bodies_in (map (λ dispatch. packed_contents payload (ops_on board dispatch)) ds))
 
     by_dispatches : (ds : List (List RegOp)) → AreDispatchesPacked payload board ds
         → sum_by size (packings ds) ≤ on_board measure board ds
     by_dispatches [] packings_all = omega arith
     by_dispatches (d ∷ ds) packings_all =
-        let here = packed payload (ops_on board d) in
+        let here = packed_contents payload (ops_on board d) in
         omega (
           arith,
           law (ops_on board d) payload here low packings_all.0,

@@ -4,7 +4,7 @@ use Rattle.std.specs.List.{flat_map}
 use Rattle.std.proofs.lemmas.List.Sums.{sum_by-cons}
 use Rattle.transaction_codec.specs.declared.request.Op.{Op}
 use Rattle.transaction_codec.specs.Request.{op_count}
-use Rattle.mtu_packer.specs.Cutting.{cut}
+use Rattle.mtu_packer.specs.Cutting.{cut_pieces}
 use Rattle.mtu_packer.specs.declared.packing.TheConstants.{MIN_PAYLOAD}
 use Rattle.script_steps.specs.declared.operation.Step.{Step}
 use Rattle.script_steps.specs.Packing.{operations, IsSelection, HaveFewPieces}
@@ -22,7 +22,7 @@ selected_words (op ∷ ops) (first ∷ all) (inr is) =
 -- what mtu_packer promises
 abbrev pub NoMorePieces : Type 0
 NoMorePieces = (ops : List Op) (payload : ℕ) → MIN_PAYLOAD ≤ payload
-    → length (flat_map (cut payload) ops) ≤ sum_by op_count ops
+    → length (flat_map (cut_pieces payload) ops) ≤ sum_by op_count ops
 
 pub few_pieces : NoMorePieces → (steps : List Step) → sum_by op_count (operations steps) ≤ 2 ^ 31 → HaveFewPieces steps
 few_pieces law steps few ops payload is low =

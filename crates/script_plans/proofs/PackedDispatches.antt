@@ -4,18 +4,18 @@ use Rattle.std.specs.List.{AllByRecursion}
 use Rattle.std.proofs.lemmas.Bool.{cases_Bool}
 use Rattle.transaction_codec.specs.declared.request.Op.{Op}
 use Rattle.mtu_packer.specs.Cutting.{CanBeCut, HasWords}
-use Rattle.mtu_packer.specs.Packed.{IsPacked, packed}
+use Rattle.mtu_packer.specs.Packed.{IsPacked, packed_contents}
 use Rattle.script_steps.specs.Executable.{CanBeAsked, AreExecutable}
 use Rattle.script_steps.specs.declared.operation.RegOp.{RegOp}
 use Rattle.script_steps.specs.declared.operation.Step.{Step}
 use Rattle.script_steps.specs.declared.operation.Step.TheVariants.{Do, Denied, Dispatch}
-use Rattle.script_plans.specs.Plan.{begun, dispatches, ops_on}
+use Rattle.script_plans.specs.Plan.{into_next_dispatch, dispatches, ops_on}
 
 abbrev pub CanAllBeAsked : List RegOp → Type 0
 CanAllBeAsked ops = AllByRecursion CanBeAsked ops
 
 begun_asked : (op : RegOp) (ds : List (List RegOp)) → CanBeAsked op → AllByRecursion CanAllBeAsked ds
-    → AllByRecursion CanAllBeAsked (begun op ds)
+    → AllByRecursion CanAllBeAsked (into_next_dispatch op ds)
 begun_asked op [] can all = ((can, tt), tt)
 begun_asked op (d ∷ ds) can all = ((can, all.0), all.1)
 
@@ -38,11 +38,11 @@ ops_all P board (op ∷ ops) each all =
 abbrev pub PacksWords : Type 0
 PacksWords =
     (ops : List Op) (payload : ℕ) → 16 ≤ payload → payload ≤ 2243 → AllByRecursion CanBeCut ops
-    → AllByRecursion HasWords ops → IsPacked ops payload (packed payload ops)
+    → AllByRecursion HasWords ops → IsPacked ops payload (packed_contents payload ops)
 
 abbrev pub AreDispatchesPacked : ℕ → ℕ → List (List RegOp) → Type 0
 AreDispatchesPacked payload board ds =
-    AllByRecursion (λ dispatch. IsPacked (ops_on board dispatch) payload (packed payload (ops_on board dispatch))) ds
+    AllByRecursion (λ dispatch. IsPacked (ops_on board dispatch) payload (packed_contents payload (ops_on board dispatch))) ds
 
 pub dispatches_packed : PacksWords → (payload board : ℕ) (ds : List (List RegOp)) → 16 ≤ payload → payload ≤ 2243
     → AllByRecursion CanAllBeAsked ds → AreDispatchesPacked payload board ds

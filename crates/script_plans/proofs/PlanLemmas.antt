@@ -9,18 +9,18 @@ use Rattle.ipb_base.proofs.AllLemmas.{AllByRecursion-append, all_of_each}
 use Rattle.transaction_codec.specs.declared.request.Op.{Op}
 use Rattle.transaction_codec.specs.Request.{AreRequests}
 use Rattle.mtu_packer.specs.declared.packed.Piece.{Piece}
-use Rattle.mtu_packer.specs.Cutting.{CanBeCut, cut}
+use Rattle.mtu_packer.specs.Cutting.{CanBeCut, cut_pieces}
 use Rattle.mtu_packer.specs.Packing.{AreReadable, requests_from}
-use Rattle.mtu_packer.specs.Packed.{Contents, FitsPackets, IsPacked, packed, places_in, places_from}
+use Rattle.mtu_packer.specs.Packed.{Contents, FitsPackets, IsPacked, packed_contents, places_in, places_from}
 use Rattle.script_steps.specs.Packing.{CanBePacked, IsSelection, HaveFewPieces}
 use Rattle.script_steps.specs.Packing as script
 use Rattle.mtu_packer.specs.declared.packing.TheConstants.{MIN_PAYLOAD}
 use Rattle.script_steps.specs.declared.operation.RegOp.{RegOp}
 use Rattle.script_steps.specs.declared.operation.Step.{Step}
 use Rattle.script_steps.specs.declared.operation.Step.TheVariants.{Do, Denied, Dispatch}
-use Rattle.script_plans.specs.Plan.{ClientBodies, no_bodies, AreSound, IsWithinBody, moved, begun, dispatches, ops_on}
+use Rattle.script_plans.specs.Plan.{ClientBodies, no_bodies, AreSound, IsWithinBody, piece_behind, into_next_dispatch, dispatches, ops_on}
 use Rattle.script_plans.specs.Plan.{with_dispatch}
-use Rattle.script_plans.specs.Steps.{continued, HaveFewBehind, IsPlanning}
+use Rattle.script_plans.specs.Steps.{dispatches_left, HaveFewBehind, IsPlanning}
 
 -- ---- indices
 
@@ -57,12 +57,12 @@ pieces_small ops payload contents is =
     (places_small 0 is.parts is.readable))
 
 one_moved : (first : ℕ) (pieces : List Piece) → AllByRecursion HasSmallIndex pieces
-    → AllByRecursion IsWithinBody (map (moved first) pieces)
+    → AllByRecursion IsWithinBody (map (piece_behind first) pieces)
 one_moved first [] all = tt
 one_moved first (piece ∷ pieces) all = (all.0, one_moved first pieces all.1)
 
 pub all_moved : (first : ℕ) (pieces : List (List Piece)) → AllByRecursion (AllByRecursion HasSmallIndex) pieces
-    → AllByRecursion (AllByRecursion IsWithinBody) (map (λ pieces. map (moved first) pieces) pieces)
+    → AllByRecursion (AllByRecursion IsWithinBody) (map (λ pieces. map (piece_behind first) pieces) pieces)
 all_moved first [] all = tt
 all_moved first (some ∷ more) all = (one_moved first some all.0, all_moved first more all.1)
 
@@ -106,23 +106,23 @@ few_without payload queued op steps few ops is = few ops (selected_later ops op.
 
 module _ (payload board : ℕ) where
   queued_on : (queued : List Op) (op : RegOp) (later : List (List RegOp))
-      → continued payload board queued (begun op later)
-      ≡ continued payload board (queued ++ ops_on board (op ∷ [])) later
+      → dispatches_left payload board queued (into_next_dispatch op later)
+      ≡ dispatches_left payload board (queued ++ ops_on board (op ∷ [])) later
   queued_on queued op [] = refl
   queued_on queued op (dispatch ∷ later) =
-      ap (λ ops. packed payload ops ∷ map (λ ops. packed payload (ops_on board ops)) later)
+      ap (λ ops. packed_contents payload ops ∷ map (λ ops. packed_contents payload (ops_on board ops)) later)
       (ap (λ ops. queued ++ ops) (one_and_more board op dispatch)
       ∙ sym (append_assoc queued (ops_on board (op ∷ [])) (ops_on board dispatch)))
 
   begun_anew : (op : RegOp) (later : List (List RegOp))
-      → map (λ ops. packed payload (ops_on board ops)) (begun op later) ≡ continued payload board [] (begun op later)
+      → map (λ ops. packed_contents payload (ops_on board ops)) (into_next_dispatch op later) ≡ dispatches_left payload board [] (into_next_dispatch op later)
   begun_anew op [] = refl
   begun_anew op (dispatch ∷ later) = refl
 
   -- with nothing waiting, there is a dispatch at least, and each is packed
   begins_anew : (steps : List Step)
-      → map (λ ops. packed payload (ops_on board ops)) (dispatches steps)
-      ≡ continued payload board [] (dispatches steps)
+      → map (λ ops. packed_contents payload (ops_on board ops)) (dispatches steps)
+      ≡ dispatches_left payload board [] (dispatches steps)
   begins_anew [] = refl
   begins_anew (Do op ∷ steps) = begun_anew op (dispatches steps)
   begins_anew (Denied rule op ∷ steps) = begins_anew steps
@@ -134,9 +134,9 @@ module _ (payload board : ℕ) (steps : List Step) (i : ℕ) (all : ClientBodies
     left : drop i steps ≡ step ∷ drop (i + 1) steps
     left = drop-cons steps i step within ∙ (ap (λ s. s ∷ drop (suc i) steps) (sym is) ∙ rw add-one)
 
-    pub after_dispatch : step ≡ Dispatch → AreSound (with_dispatch all (packed payload queued))
-        → AllByRecursion (FitsPackets payload) (with_dispatch all (packed payload queued)).bodies
-        → IsPlanning payload board steps (i + 1) (with_dispatch all (packed payload queued)) []
+    pub after_dispatch : step ≡ Dispatch → AreSound (with_dispatch all (packed_contents payload queued))
+        → AllByRecursion (FitsPackets payload) (with_dispatch all (packed_contents payload queued)).bodies
+        → IsPlanning payload board steps (i + 1) (with_dispatch all (packed_contents payload queued)) []
     after_dispatch none sound room =
         let rest : drop i steps ≡ Dispatch ∷ drop (i + 1) steps = left ∙ ap (λ s. s ∷ drop (i + 1) steps) none in
         let planned = rw rest at so_far.planned in
@@ -145,10 +145,10 @@ module _ (payload board : ℕ) (steps : List Step) (i : ℕ) (all : ClientBodies
         let can = rw rest at so_far.can_later in
         record {
           planned =
-              ap (fold with_dispatch (with_dispatch all (packed payload queued)))
+              ap (fold with_dispatch (with_dispatch all (packed_contents payload queued)))
               (sym (begins_anew payload board (drop (i + 1) steps)))
-              ∙ (ap (λ ops. fold with_dispatch (with_dispatch all (packed payload ops))
-              (map (λ ops. packed payload (ops_on board ops)) (dispatches (drop (i + 1) steps))))
+              ∙ (ap (λ ops. fold with_dispatch (with_dispatch all (packed_contents payload ops))
+              (map (λ ops. packed_contents payload (ops_on board ops)) (dispatches (drop (i + 1) steps))))
               (sym (append-nil queued)) ∙ planned);
           sound = sound;
           room = room;
@@ -208,6 +208,6 @@ at_start payload board steps can low few = record {
 
 -- what waits alone is few
 pub few_waiting : (payload : ℕ) (queued : List Op) (steps : List Step) → HaveFewBehind payload queued steps
-    → length (flat_map (cut payload) queued) ≤ 2 ^ 31
+    → length (flat_map (cut_pieces payload) queued) ≤ 2 ^ 31
 few_waiting payload queued steps few =
-    subst (λ ops. length (flat_map (cut payload) ops) ≤ 2 ^ 31) (append-nil queued) (few [] tt)
+    subst (λ ops. length (flat_map (cut_pieces payload) ops) ≤ 2 ^ 31) (append-nil queued) (few [] tt)

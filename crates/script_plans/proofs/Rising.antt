@@ -7,10 +7,10 @@ use Rattle.transaction_codec.specs.declared.request.Op.{Op}
 use Rattle.mtu_packer.specs.declared.packed.Piece.{Piece}
 use Rattle.mtu_packer.specs.Packing.{parts_of}
 use Rattle.mtu_packer.specs.Cutting.{piece_count}
-use Rattle.mtu_packer.specs.Packed.{packed, places_in, places_from, deal}
+use Rattle.mtu_packer.specs.Packed.{packed_contents, places_in, places_from, deal}
 use Rattle.script_steps.specs.declared.operation.RegOp.{RegOp}
 use Rattle.script_steps.specs.declared.operation.Step.{Step}
-use Rattle.script_plans.specs.Plan.{ClientBodies, no_bodies, moved, ops_on, dispatches, plan, with_dispatch}
+use Rattle.script_plans.specs.Plan.{ClientBodies, no_bodies, piece_behind, ops_on, dispatches, plan, with_dispatch}
 use Rattle.script_plans.specs.Plan.{all_dispatches}
 use Rattle.script_plans.specs.Claims.{IsBefore, Rises}
 
@@ -88,39 +88,39 @@ places_rise body (part ∷ parts) =
     (in_one_body body 0 (length part))
     (places_rise (body + 1) parts) (all_later body 0 (length part) parts)
 
-packed_rise : (payload : ℕ) (ops : List Op) → AllByRecursion (Rises PieceBefore) (packed payload ops).pieces
+packed_rise : (payload : ℕ) (ops : List Op) → AllByRecursion (Rises PieceBefore) (packed_contents payload ops).pieces
 packed_rise payload ops = dealt_rise PieceBefore (map (piece_count payload) ops) (places_from 0 (parts_of payload ops))
     (places_rise 0 (parts_of payload ops))
 
 -- ---- through all dispatches
 
-moved_before : (first : ℕ) (p q : Piece) → PieceBefore p q → IsBefore (moved first p) (moved first q)
+moved_before : (first : ℕ) (p q : Piece) → PieceBefore p q → IsBefore (piece_behind first p) (piece_behind first q)
 moved_before first p q (inl before) = inl (omega arith)
 moved_before first p q (inr (same, before)) = inr (ap (λ body. first + body) same, before)
 
 moved_all : (first : ℕ) (p : Piece) (ps : List Piece) → AllByRecursion (PieceBefore p) ps
-    → AllByRecursion (IsBefore (moved first p)) (map (moved first) ps)
+    → AllByRecursion (IsBefore (piece_behind first p)) (map (piece_behind first) ps)
 moved_all first p [] all = tt
 moved_all first p (q ∷ qs) all = (moved_before first p q all.0, moved_all first p qs all.1)
 
-moved_rise : (first : ℕ) (ps : List Piece) → Rises PieceBefore ps → Rises IsBefore (map (moved first) ps)
+moved_rise : (first : ℕ) (ps : List Piece) → Rises PieceBefore ps → Rises IsBefore (map (piece_behind first) ps)
 moved_rise first [] rises = tt
 moved_rise first (p ∷ ps) rises = (moved_all first p ps rises.0, moved_rise first ps rises.1)
 
 each_moved : (first : ℕ) (pieces : List (List Piece)) → AllByRecursion (Rises PieceBefore) pieces
-    → AllByRecursion (Rises IsBefore) (map (λ pieces. map (moved first) pieces) pieces)
+    → AllByRecursion (Rises IsBefore) (map (λ pieces. map (piece_behind first) pieces) pieces)
 each_moved first [] all = tt
 each_moved first (ps ∷ pieces) all = (moved_rise first ps all.0, each_moved first pieces all.1)
 
 from_dispatches : (payload board : ℕ) (ops : List (List RegOp)) (all : ClientBodies)
     → AllByRecursion (Rises IsBefore) all.pieces
     → AllByRecursion (Rises IsBefore) (fold with_dispatch all
-    (map (λ dispatch. packed payload (ops_on board dispatch)) ops)).pieces
+    (map (λ dispatch. packed_contents payload (ops_on board dispatch)) ops)).pieces
 from_dispatches payload board [] all rise = rise
 from_dispatches payload board (dispatch ∷ later) all rise =
-    from_dispatches payload board later (with_dispatch all (packed payload (ops_on board dispatch)))
+    from_dispatches payload board later (with_dispatch all (packed_contents payload (ops_on board dispatch)))
     (AllByRecursion-append (Rises IsBefore) all.pieces _ rise
-    (each_moved (length all.bodies) (packed payload (ops_on board dispatch)).pieces
+    (each_moved (length all.bodies) (packed_contents payload (ops_on board dispatch)).pieces
     (packed_rise payload (ops_on board dispatch))))
 
 pub pieces_rise : (payload board : ℕ) (steps : List Step)

@@ -7,7 +7,7 @@ use Rattle.transaction_codec.specs.declared.request.Op.{Op}
 use Rattle.transaction_codec.specs.Request.{SpellsRequests}
 use Rattle.mtu_packer.specs.declared.packed.Piece.{Piece}
 use Rattle.mtu_packer.specs.declared.packing.TheConstants.{MIN_PAYLOAD, MAX_PAYLOAD}
-use Rattle.mtu_packer.specs.Packed.{Contents, FitsPackets, packed}
+use Rattle.mtu_packer.specs.Packed.{Contents, FitsPackets, packed_contents}
 use Rattle.script_steps.specs.declared.operation.RegOp.{RegOp}
 use Rattle.script_steps.specs.declared.operation.Step.{Step}
 use Rattle.script_steps.specs.declared.operation.Step.TheVariants.{Do, Denied, Dispatch}
@@ -26,14 +26,14 @@ abbrev pub operations : List Step → List RegOp
 operations steps = filter_map operation_in steps
 
 -- an operation joins the dispatch that is next
-abbrev pub begun : RegOp → List (List RegOp) → List (List RegOp)
-begun op [] = (op ∷ []) ∷ []
-begun op (dispatch ∷ later) = (op ∷ dispatch) ∷ later
+abbrev pub into_next_dispatch : RegOp → List (List RegOp) → List (List RegOp)
+into_next_dispatch op [] = (op ∷ []) ∷ []
+into_next_dispatch op (dispatch ∷ later) = (op ∷ dispatch) ∷ later
 
 -- the operations of each dispatch, without those that are denied; the end of a script is one
 abbrev pub dispatches : List Step → List (List RegOp)
 dispatches [] = [] ∷ []
-dispatches (Do op ∷ steps) = begun op (dispatches steps)
+dispatches (Do op ∷ steps) = into_next_dispatch op (dispatches steps)
 dispatches (Denied rule op ∷ steps) = dispatches steps
 dispatches (Dispatch ∷ steps) = [] ∷ dispatches steps
 
@@ -49,7 +49,7 @@ count_on board ops = count_by (λ (op : RegOp). op.board == board) ops
 -- A client's plan on a board that takes packets of `payload` words: for each dispatch the bodies, and where the pieces
 -- of each operation stand in them. One dispatch never shares a body with another.
 abbrev pub plan : ℕ → ℕ → List Step → List Contents
-plan payload board steps = map (λ dispatch. packed payload (ops_on board dispatch)) (dispatches steps)
+plan payload board steps = map (λ dispatch. packed_contents payload (ops_on board dispatch)) (dispatches steps)
 
 -- the bodies of a plan, dispatch by dispatch
 abbrev pub bodies_in : List Contents → List (List (List ℕ))
@@ -68,14 +68,14 @@ abbrev pub no_bodies : ClientBodies
 no_bodies = record { bodies = []; pieces = []; counts = [] }
 
 -- a piece in a dispatch that begins with the body of this number
-abbrev pub moved : ℕ → Piece → PieceAt
-moved first piece = record { body = first + piece.body; index = piece.index }
+abbrev pub piece_behind : ℕ → Piece → PieceAt
+piece_behind first piece = record { body = first + piece.body; index = piece.index }
 
 -- a dispatch more
 abbrev pub with_dispatch : ClientBodies → Contents → ClientBodies
 with_dispatch all dispatch = record {
   bodies = all.bodies ++ dispatch.bodies;
-  pieces = all.pieces ++ map (λ pieces. map (moved (length all.bodies)) pieces) dispatch.pieces;
+  pieces = all.pieces ++ map (λ pieces. map (piece_behind (length all.bodies)) pieces) dispatch.pieces;
   counts = all.counts ++ length dispatch.bodies ∷ [];
 }
 

@@ -7,7 +7,7 @@ ghost use Rattle.mtu_packer.specs.Packed.{Contents, deal, words_with_answer};
 ghost use Rattle.mtu_packer.specs.declared.packing.TheConstants.{MIN_PAYLOAD, MAX_PAYLOAD};
 ghost use Rattle.script_steps.specs.Executable.{AreExecutable};
 ghost use Rattle.script_steps.specs.Packing.{all_operations, operations, HaveFewPieces};
-ghost use Rattle.script_steps.specs.Rulings.{permitted, ruled};
+ghost use Rattle.script_steps.specs.Rulings.{permitted_steps, steps_under_policy};
 ghost use Rattle.script_steps.specs.declared.operation.Decision.{Decision};
 ghost use Rattle.script_steps.specs.declared.operation.Step.{Step};
 ghost use Rattle.script_plans.specs.declared.greeting.Greeting.{Greeting};
@@ -57,7 +57,7 @@ pub fn each_body_of_a_plan_has_a_piece()
 /// transaction of a denied operation is in a body.
 pub fn nothing_is_planned_of_what_is_denied()
     ensures { (board : ℕ) (told : Greeting) (steps : List Step) (decisions : List Decision) →
-        planned_on board told (ruled steps decisions) ≡ planned_on board told (permitted steps decisions) }
+        planned_on board told (steps_under_policy steps decisions) ≡ planned_on board told (permitted_steps steps decisions) }
 {}
 
 /// Operations that read and write at most 2^31 words together are cut into few enough pieces for packing.

@@ -2,7 +2,7 @@
 
 ghost use Rattle.std.specs.Prelude.{◌≡◌, ◌+◌, ◌++◌, ◌∷◌, ◌^◌, ◌<◌, ◌≤◌, [], Some, None, MatchOption, OnOk};
 ghost use Rattle.std.specs.Prelude.{length, map, slice_get, vec_capacity, vec_len};
-ghost use Rattle.script_plans.specs.Plan.{moved};
+ghost use Rattle.script_plans.specs.Plan.{piece_behind};
 
 use crate::planned::PieceAt;
 use ipb_base::NoMemory;
@@ -40,7 +40,7 @@ impl Model for OpPieces {
 fn push_moved(places: &mut Vec<PieceAt>, pieces: &[Piece], first: usize)
     requires few { first < 2 ^ 63 }
     requires room { vec_len places.old + length pieces.now ≤ vec_capacity places.old }
-    ensures { places.new.items ≡ places.old.items ++ map (moved first) pieces.now }
+    ensures { places.new.items ≡ places.old.items ++ map (piece_behind first) pieces.now }
 {
     for piece in pieces {
         places.push_reserved(PieceAt {
@@ -64,7 +64,7 @@ impl OpPieces {
     /// Adds those of an operation in a dispatch that begins with the body of this number.
     pub(crate) fn push(&mut self, pieces: &[Piece], first: usize) -> Result<(), NoMemory>
         requires { first < 2 ^ 63 }
-        ensures { OnOk result (self.new ≡ self.old ++ map (moved first) pieces.now ∷ []) }
+        ensures { OnOk result (self.new ≡ self.old ++ map (piece_behind first) pieces.now ∷ []) }
     {
         self.spans.reserve(1)?;
         self.places.reserve(pieces.len())?;

@@ -2,8 +2,8 @@
 
 ghost use Rattle.std.specs.Prelude.{◌≡◌, ◌+◌, ◌++◌, ◌∷◌, ◌^◌, ◌<◌, ◌≤◌, [], All, IfOk, OnOk, length, map};
 ghost use Rattle.std.specs.List.{AllByRecursion, flat_map};
-ghost use Rattle.mtu_packer.specs.Cutting.{CanBeCut, cut};
-ghost use Rattle.mtu_packer.specs.Packed.{FitsPackets, packed};
+ghost use Rattle.mtu_packer.specs.Cutting.{CanBeCut, cut_pieces};
+ghost use Rattle.mtu_packer.specs.Packed.{FitsPackets, packed_contents};
 ghost use Rattle.mtu_packer.specs.declared.packing.TheConstants.{MIN_PAYLOAD, MAX_PAYLOAD};
 ghost use Rattle.script_steps.specs.Packing.{CanBePacked, HaveFewPieces};
 ghost use Rattle.script_plans.specs.Plan as spec;
@@ -73,7 +73,7 @@ fn push_pieces(
     requires few { first < 2 ^ 63 }
     requires all_of_them { count ≡ length packed.now.pieces }
     ensures { OnOk result (all.new
-        ≡ all.old ++ map (λ pieces. map (spec.moved first) pieces) packed.now.pieces) }
+        ≡ all.old ++ map (λ pieces. map (spec.piece_behind first) pieces) packed.now.pieces) }
 {
     for op in 0..count {
         all.push(packed.pieces(op), first)?;
@@ -107,11 +107,11 @@ fn dispatch(alloc: Global, planning: &mut Planning, payload: u32) -> Result<(), 
     requires payload_low { MIN_PAYLOAD ≤ payload }
     requires payload_high { payload ≤ MAX_PAYLOAD }
     requires can { All CanBeCut planning.old.queued.items }
-    requires few { length (flat_map (cut payload) planning.old.queued.items) ≤ 2 ^ 31 }
+    requires few { length (flat_map (cut_pieces payload) planning.old.queued.items) ≤ 2 ^ 31 }
     requires sound { spec.AreSound (so_far planning.old) }
     requires room { AllByRecursion (FitsPackets payload) planning.old.bodies.items }
     ensures planned { OnOk result (so_far planning.new
-        ≡ spec.with_dispatch (so_far planning.old) (packed payload planning.old.queued.items)) }
+        ≡ spec.with_dispatch (so_far planning.old) (packed_contents payload planning.old.queued.items)) }
     ensures emptied { OnOk result (planning.new.queued.items ≡ []) }
     ensures sound { OnOk result (spec.AreSound (so_far planning.new)) }
     ensures room { OnOk result (AllByRecursion (FitsPackets payload) planning.new.bodies.items) }

@@ -13,7 +13,7 @@ use Rattle.script_steps.specs.declared.operation.Decision.TheVariants as decisio
 use Rattle.script_steps.specs.Executable.{AreExecutable, CanBeDone}
 use Rattle.script_steps.specs.Packing.{AreWithinLimits, CanBePacked, HaveFewPieces, IsSelection, all_operations, operations}
 use Rattle.script_steps.specs.RuledScripts.{AreRuled}
-use Rattle.script_steps.specs.Rulings.{ruled, ruled_step}
+use Rattle.script_steps.specs.Rulings.{steps_under_policy, ruled_step}
 
 -- ---- step by step
 
@@ -29,18 +29,18 @@ packed_still (Do op) (decision.Denied rule) can = tt
 packed_still (Denied rule op) d can = tt
 packed_still Dispatch d can = tt
 
-pub executable : (steps : List Step) (ds : List Decision) → AreExecutable steps → AreExecutable (ruled steps ds)
+pub executable : (steps : List Step) (ds : List Decision) → AreExecutable steps → AreExecutable (steps_under_policy steps ds)
 executable [] ds are = tt
 executable (step ∷ steps) [] are = are
 executable (step ∷ steps) (d ∷ ds) are = (done_still step d are.0, executable steps ds are.1)
 
 pub packed : (steps : List Step) (ds : List Decision) → AllByRecursion CanBePacked steps
-    → AllByRecursion CanBePacked (ruled steps ds)
+    → AllByRecursion CanBePacked (steps_under_policy steps ds)
 packed [] ds are = tt
 packed (step ∷ steps) [] are = are
 packed (step ∷ steps) (d ∷ ds) are = (packed_still step d are.0, packed steps ds are.1)
 
-pub as_many : (steps : List Step) (ds : List Decision) → length (ruled steps ds) ≡ length steps
+pub as_many : (steps : List Step) (ds : List Decision) → length (steps_under_policy steps ds) ≡ length steps
 as_many [] ds = refl
 as_many (step ∷ steps) [] = refl
 as_many (step ∷ steps) (d ∷ ds) = ap suc (as_many steps ds)
@@ -52,7 +52,7 @@ past [] first all is = tt
 past (op ∷ ops) first all is = inr is
 
 -- what is selected of those that are left is selected of all
-selected : (steps : List Step) (ds : List Decision) (ops : List Op) → IsSelection ops (operations (ruled steps ds))
+selected : (steps : List Step) (ds : List Decision) (ops : List Op) → IsSelection ops (operations (steps_under_policy steps ds))
     → IsSelection ops (operations steps)
 selected [] ds ops is = is
 selected (step ∷ steps) [] ops is = is
@@ -65,7 +65,7 @@ selected (Do op ∷ steps) (decision.Denied rule ∷ ds) ops is =
 selected (Denied rule op ∷ steps) (d ∷ ds) ops is = selected steps ds ops is
 selected (Dispatch ∷ steps) (d ∷ ds) ops is = selected steps ds ops is
 
-pub few : (steps : List Step) (ds : List Decision) → HaveFewPieces steps → HaveFewPieces (ruled steps ds)
+pub few : (steps : List Step) (ds : List Decision) → HaveFewPieces steps → HaveFewPieces (steps_under_policy steps ds)
 few steps ds all ops payload is low = all ops payload (selected steps ds ops is) low
 
 -- ---- how many operations and words there are
@@ -74,7 +74,7 @@ op_more : (op : Op) (ops : List Op) → sum_by op_count (op ∷ ops) ≡ op_coun
 op_more op ops = omega (arith, sum_by-append op_count (op ∷ []) ops)
 
 no_more_operations : (steps : List Step) (ds : List Decision)
-    → length (operations (ruled steps ds)) ≤ length (operations steps)
+    → length (operations (steps_under_policy steps ds)) ≤ length (operations steps)
 no_more_operations [] ds = omega arith
 no_more_operations (step ∷ steps) [] = omega arith
 no_more_operations (Do op ∷ steps) (decision.Allowed ∷ ds) = omega (arith, no_more_operations steps ds)
@@ -83,23 +83,23 @@ no_more_operations (Denied rule op ∷ steps) (d ∷ ds) = no_more_operations st
 no_more_operations (Dispatch ∷ steps) (d ∷ ds) = no_more_operations steps ds
 
 no_more_words : (steps : List Step) (ds : List Decision)
-    → sum_by op_count (operations (ruled steps ds)) ≤ sum_by op_count (operations steps)
+    → sum_by op_count (operations (steps_under_policy steps ds)) ≤ sum_by op_count (operations steps)
 no_more_words [] ds = omega arith
 no_more_words (step ∷ steps) [] = omega arith
 no_more_words (Do op ∷ steps) (decision.Allowed ∷ ds) =
-    omega (arith, no_more_words steps ds, op_more op.op (operations steps), op_more op.op (operations (ruled steps ds)))
+    omega (arith, no_more_words steps ds, op_more op.op (operations steps), op_more op.op (operations (steps_under_policy steps ds)))
 no_more_words (Do op ∷ steps) (decision.Denied rule ∷ ds) =
     omega (arith, no_more_words steps ds, op_more op.op (operations steps))
 no_more_words (Denied rule op ∷ steps) (d ∷ ds) = no_more_words steps ds
 no_more_words (Dispatch ∷ steps) (d ∷ ds) = no_more_words steps ds
 
 -- the same of a script that is known to be ruled
-script_operations : (steps now : List Step) (ds : List Decision) → now ≡ ruled steps ds
+script_operations : (steps now : List Step) (ds : List Decision) → now ≡ steps_under_policy steps ds
     → length (operations now) ≤ length (operations steps)
 script_operations steps now ds is =
     subst (λ x. length (operations x) ≤ length (operations steps)) (sym is) (no_more_operations steps ds)
 
-script_words : (steps now : List Step) (ds : List Decision) → now ≡ ruled steps ds
+script_words : (steps now : List Step) (ds : List Decision) → now ≡ steps_under_policy steps ds
     → sum_by op_count (operations now) ≤ sum_by op_count (operations steps)
 script_words steps now ds is =
     subst (λ x. sum_by op_count (operations x) ≤ sum_by op_count (operations steps)) (sym is) (no_more_words steps ds)

@@ -6,8 +6,8 @@ use Rattle.script_steps.specs.declared.operation.Decision.TheVariants as decisio
 use Rattle.script_steps.specs.declared.operation.RegOp.{RegOp}
 use Rattle.script_steps.specs.declared.operation.Step.{Step}
 use Rattle.script_steps.specs.declared.operation.Step.TheVariants.{Do, Denied, Dispatch}
-use Rattle.script_steps.specs.Judging.{denied_after, judged}
-use Rattle.script_steps.specs.Rulings.{Asked, asked, asked_in, ruled, ruled_step}
+use Rattle.script_steps.specs.Judging.{denied_after, judged_operation}
+use Rattle.script_steps.specs.Rulings.{Asked, asked_operations, asked_in, steps_under_policy, ruled_step}
 
 -- an operation that was not denied has the rule of the decision
 one_asked : (op : RegOp) (said : Decision)
@@ -16,10 +16,10 @@ one_asked op decision.Allowed = refl
 one_asked op (decision.Denied rule) = refl
 
 pub still_asked : (judge : Step → Decision) (steps : List Step)
-    → asked (ruled steps (map judge steps)) ≡ map (judged judge) (asked steps)
+    → asked_operations (steps_under_policy steps (map judge steps)) ≡ map (judged_operation judge) (asked_operations steps)
 still_asked judge [] = refl
 still_asked judge (Do op ∷ steps) =
-    ap (λ one. cons_option one (asked (ruled steps (map judge steps)))) (one_asked op (judge (Do op)))
+    ap (λ one. cons_option one (asked_operations (steps_under_policy steps (map judge steps)))) (one_asked op (judge (Do op)))
     ∙ ap (λ (asks : List Asked). record { op = op; denied = denied_after None (judge (Do op)) } ∷ asks)
     (still_asked judge steps)
 still_asked judge (Denied rule op ∷ steps) =

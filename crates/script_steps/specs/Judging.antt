@@ -13,5 +13,5 @@ denied_after None decision.Allowed = None
 denied_after None (decision.Denied rule) = Some rule
 
 -- the same operation, under what the policy says of its step
-abbrev pub judged : (Step → Decision) → Asked → Asked
-judged judge ask = record { op = ask.op; denied = denied_after ask.denied (judge (Do ask.op)) }
+abbrev pub judged_operation : (Step → Decision) → Asked → Asked
+judged_operation judge ask = record { op = ask.op; denied = denied_after ask.denied (judge (Do ask.op)) }

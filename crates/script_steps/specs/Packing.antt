@@ -1,7 +1,7 @@
 -- What packing asks of the operations of steps. Profile.
 use Rattle.std.specs.Prelude.{◌≡◌, ◌⊎◌, ℕ, ◌+◌, ◌^◌, ◌≤◌, List, [], ◌∷◌, length, sum_by, Option, Some, None}
 use Rattle.std.specs.List.{filter_map, flat_map}
-use Rattle.mtu_packer.specs.Cutting.{CanBeCut, cut}
+use Rattle.mtu_packer.specs.Cutting.{CanBeCut, cut_pieces}
 use Rattle.mtu_packer.specs.declared.packing.TheConstants.{MIN_PAYLOAD}
 use Rattle.transaction_codec.specs.declared.request.Op.{Op}
 use Rattle.transaction_codec.specs.Request.{op_count}
@@ -45,4 +45,4 @@ IsSelection (y ∷ ys) (x ∷ xs) = ((y ≡ x) × IsSelection ys xs) ⊎ IsSelec
 abbrev pub HaveFewPieces : List Step → Type 0
 HaveFewPieces steps =
     (ops : List Op) (payload : ℕ) → IsSelection ops (operations steps) → MIN_PAYLOAD ≤ payload
-    → length (flat_map (cut payload) ops) ≤ 2 ^ 31
+    → length (flat_map (cut_pieces payload) ops) ≤ 2 ^ 31

@@ -15,10 +15,10 @@ ruled_step (Denied rule op) decision = Denied rule op
 ruled_step Dispatch decision = Dispatch
 
 -- each step under the decision of its position; steps without one stay as they are
-abbrev pub ruled : List Step → List Decision → List Step
-ruled [] decisions = []
-ruled (step ∷ steps) [] = step ∷ steps
-ruled (step ∷ steps) (decision ∷ decisions) = ruled_step step decision ∷ ruled steps decisions
+abbrev pub steps_under_policy : List Step → List Decision → List Step
+steps_under_policy [] decisions = []
+steps_under_policy (step ∷ steps) [] = step ∷ steps
+steps_under_policy (step ∷ steps) (decision ∷ decisions) = ruled_step step decision ∷ steps_under_policy steps decisions
 
 -- ---- what is left without the denied
 
@@ -30,10 +30,10 @@ permitted_step (Denied rule op) decision = []
 permitted_step Dispatch decision = Dispatch ∷ []
 
 -- the steps without those that are denied, each under the decision of its position; steps without one stay
-abbrev pub permitted : List Step → List Decision → List Step
-permitted [] decisions = []
-permitted (step ∷ steps) [] = step ∷ steps
-permitted (step ∷ steps) (decision ∷ decisions) = permitted_step step decision ++ permitted steps decisions
+abbrev pub permitted_steps : List Step → List Decision → List Step
+permitted_steps [] decisions = []
+permitted_steps (step ∷ steps) [] = step ∷ steps
+permitted_steps (step ∷ steps) (decision ∷ decisions) = permitted_step step decision ++ permitted_steps steps decisions
 
 -- ---- what a client asks for
 
@@ -48,8 +48,8 @@ asked_in (Denied rule op) = Some (record { op = op; denied = Some rule })
 asked_in Dispatch = None
 
 -- all operations of a client, denied or not, in order
-abbrev pub asked : List Step → List Asked
-asked steps = filter_map asked_in steps
+abbrev pub asked_operations : List Step → List Asked
+asked_operations steps = filter_map asked_in steps
 
 abbrev pub unless_denied : Option ℕ → RegOp → Option RegOp
 unless_denied None op = Some op
@@ -59,5 +59,5 @@ abbrev pub allowed_in : Asked → Option RegOp
 allowed_in ask = unless_denied ask.denied ask.op
 
 -- those that no rule denies
-abbrev pub allowed : List Asked → List RegOp
-allowed asks = filter_map allowed_in asks
+abbrev pub allowed_operations : List Asked → List RegOp
+allowed_operations asks = filter_map allowed_in asks

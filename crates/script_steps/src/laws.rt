@@ -4,10 +4,10 @@ ghost use Rattle.std.specs.Prelude.{◌≡◌, List, length, map};
 ghost use Rattle.std.specs.List.{AllByRecursion};
 ghost use Rattle.ipb_base.specs.Numbers.{most_block_words, most_operations};
 ghost use Rattle.script_steps.specs.Executable.{AreExecutable};
-ghost use Rattle.script_steps.specs.Judging.{judged};
+ghost use Rattle.script_steps.specs.Judging.{judged_operation};
 ghost use Rattle.script_steps.specs.Packing.{AreWithinLimits, CanBePacked, HaveFewPieces};
 ghost use Rattle.script_steps.specs.RuledScripts.{AreRuled};
-ghost use Rattle.script_steps.specs.Rulings.{asked, ruled};
+ghost use Rattle.script_steps.specs.Rulings.{asked_operations, steps_under_policy};
 ghost use Rattle.script_steps.specs.declared.limits.TheConstants.{MAX_BLOCK_WORDS, MAX_OPERATIONS};
 ghost use Rattle.script_steps.specs.declared.operation.Decision.{Decision};
 ghost use Rattle.script_steps.specs.declared.operation.Step.{Step};
@@ -22,19 +22,19 @@ pub fn limits_of_scripts()
 /// the limits of a session, they still can; and there are as many of them.
 pub fn what_is_denied_asks_for_less()
     ensures executable { (steps : List Step) (decisions : List Decision)
-        → AreExecutable steps → AreExecutable (ruled steps decisions) }
+        → AreExecutable steps → AreExecutable (steps_under_policy steps decisions) }
     ensures packed { (steps : List Step) (decisions : List Decision)
-        → AllByRecursion CanBePacked steps → AllByRecursion CanBePacked (ruled steps decisions) }
+        → AllByRecursion CanBePacked steps → AllByRecursion CanBePacked (steps_under_policy steps decisions) }
     ensures few { (steps : List Step) (decisions : List Decision)
-        → HaveFewPieces steps → HaveFewPieces (ruled steps decisions) }
+        → HaveFewPieces steps → HaveFewPieces (steps_under_policy steps decisions) }
     ensures limits { (scripts now : List (List Step)) → AreRuled scripts now
         → AreWithinLimits scripts → AreWithinLimits now }
-    ensures count { (steps : List Step) (decisions : List Decision) → length (ruled steps decisions) ≡ length steps }
+    ensures count { (steps : List Step) (decisions : List Decision) → length (steps_under_policy steps decisions) ≡ length steps }
 {}
 
 /// Under a policy that judges steps one by one a client asks for the same operations, in the same order. Each is denied
 /// by the rule that the policy names for its step, unless a rule denied it before.
 pub fn what_is_denied_is_still_asked_for()
     ensures { (judge : Step → Decision) (steps : List Step)
-        → asked (ruled steps (map judge steps)) ≡ map (judged judge) (asked steps) }
+        → asked_operations (steps_under_policy steps (map judge steps)) ≡ map (judged_operation judge) (asked_operations steps) }
 {}

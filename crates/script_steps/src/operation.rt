@@ -1,7 +1,7 @@
 //! What the lines of scripts become.
 
 ghost use Rattle.std.specs.Prelude.{◌≡◌};
-ghost use Rattle.script_steps.specs.Rulings.{ruled, ruled_step};
+ghost use Rattle.script_steps.specs.Rulings.{steps_under_policy, ruled_step};
 
 use ipb_base::Text;
 use std::marker::Model;
@@ -116,7 +116,7 @@ impl Steps {
     /// Puts each step under the decision of its position. It takes no memory.
     #[tactic(auto, using(crate::proofs::Ruling::ruled_to_the_end))]
     pub fn rule(&mut self, decisions: &[Decision])
-        ensures { self.new ≡ ruled self.old decisions.now }
+        ensures { self.new ≡ steps_under_policy self.old decisions.now }
     {
         let count = self.items.len().min(decisions.len());
         for i in 0..count {

@@ -70,13 +70,13 @@ use Rattle.ipb_base.specs.Lists.{IsPrefix}
 use Rattle.ipb_outside.specs.Pairs.{PairReport}
 use Rattle.board_node.specs.declared.spec.BoardSpec.{BoardSpec}
 use Rattle.board_node.specs.declared.spec.LinkSpec.{LinkSpec}
-use Rattle.world_model.specs.Board.{executed}
+use Rattle.world_model.specs.Board.{bodies_executed}
 use Rattle.world_model.specs.Settings.{Limits}
 use Rattle.script_lang.specs.declared.session.Session.{Session}
 use Rattle.transcript.specs.declared.line.BoardLine.{BoardLine}
 use Rattle.transcript.specs.Lines.{board_line}
 use Rattle.transcript.specs.Shown.{places_told}
-use Rattle.board_history.specs.Runs.{greeting_of, opening_of}
+use Rattle.board_history.specs.Runs.{greeting_of, opens_with}
 use Rattle.lane_history.specs.Links.{LinkReport, IsFaithful, board_there}
 use Rattle.board_greeting.specs.Links.{link_specs}
 use Rattle.lane_history.specs.Runs.{RepliesCame, TimeOutsWaited}
@@ -102,7 +102,7 @@ pub record IsServedRightly (settings : Limits) (spec : BoardSpec) (served : Serv
   where
     -- where the link tells, the board executed no more packets than its line tells places
     pub executed_some : IfSome (board_there link.telling)
-        (λ board. length (executed board) ≤ places_told (board_line (run_of spec served)))
+        (λ board. length (bodies_executed board) ≤ places_told (board_line (run_of spec served)))
     -- each place in its line was replied to, timed out or lost
     pub summed : IsAddedUp (board_line (run_of spec served))
     -- with so many timeouts in its line, its link had the quiet receives of their rounds, and where it tells it held a
@@ -136,7 +136,7 @@ pub record AreAnsweredRightly (settings : Limits) (boards : List BoardState) (co
   -- where the link tells, each frame that is answered by code 0 has a place where the board executed its body, and the
   -- reply frame has the words of a bus with a single thread there
   pub replied : IfSome (board_there link.telling) (λ board. OfEachWithCode replied_code position boards
-      (IsAnsweredRightly (opening_of spec.link) (executed board) boards position) conversations)
+      (IsAnsweredRightly (opens_with spec.link) (bodies_executed board) boards position) conversations)
   -- whether the link tells or not, each frame that is answered by code 0 has the words of a control packet that the
   -- link brought behind the greeting, with the identifier of its place
   pub carried : OfEachWithCode replied_code position boards (IsAnsweredAsCarried link boards position) conversations

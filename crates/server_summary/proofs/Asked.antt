@@ -21,7 +21,7 @@ asked_for None NotAsked is = tt
 asked_for None (Refused why) is = absurd is
 asked_for None (Came outcome) is = absurd is
 asked_for (Some request) NotAsked is = absurd is
-asked_for (Some request) (Refused why) is = is
+asked_for (Some request) (Refused why) is = tt
 asked_for (Some request) (Came outcome) is = tt
 
 all_asked_for : (boards : List BoardState) (es : List Exchange) → AllByRecursion (IsExchange boards) es

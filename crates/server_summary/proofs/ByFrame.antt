@@ -9,8 +9,8 @@ use Rattle.lane_record.specs.declared.outcome.Outcome.{Outcome}
 use Rattle.lane_record.specs.declared.outcome.Outcome.TheVariants.{Replied, TimedOut, Unsent, LinkLost}
 use Rattle.hub_lane.specs.declared.answers.BoardState.{BoardState}
 use Rattle.hub_lane.specs.declared.answers.BoardState.TheVariants.{Lane, Silent, Down}
-use Rattle.hub_lane.specs.declared.answers.PlanRefusal.{PlanRefusal}
-use Rattle.hub_lane.specs.declared.answers.PlanRefusal.TheVariants as refusal
+use Rattle.hub_session.specs.declared.got.BodyRefusal.{BodyRefusal}
+use Rattle.hub_session.specs.declared.got.BodyRefusal.TheVariants as refusal
 use Rattle.hub_session.specs.declared.got.Got.{Got}
 use Rattle.hub_session.specs.declared.got.Got.TheVariants.{NotAsked, Refused, Came}
 use Rattle.hub_session.specs.Answers.{control_packet, refusal_code, reply_of_board, reply_of_outcome, reply_of_packet}
@@ -32,12 +32,11 @@ use Rattle.server_summary.proofs.AtIdle.{IsIdle, down_is, silent_is}
 abbrev IsOther : ℕ → Type 0
 IsOther code = (code ≢ bad_packet_code) × (code ≢ no_board_code)
 
-of_refusal : (why : PlanRefusal) → IsOther (refusal_code why)
+of_refusal : (why : BodyRefusal) → IsOther (refusal_code why)
 of_refusal refusal.Sealed = (λ e. absurd cc, λ e. absurd cc)
 of_refusal refusal.TooLong = (λ e. absurd cc, λ e. absurd cc)
 of_refusal refusal.ReplyTooLong = (λ e. absurd cc, λ e. absurd cc)
 of_refusal refusal.Overfull = (λ e. absurd cc, λ e. absurd cc)
-of_refusal refusal.NoMemory = (λ e. absurd cc, λ e. absurd cc)
 
 of_outcome : (board id : ℕ) (order : Order) (o : Outcome) → IsOther (reply_of_outcome board order id o).code
 of_outcome board id order (Replied place words) = (λ e. absurd cc, λ e. absurd cc)

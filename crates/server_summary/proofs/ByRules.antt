@@ -11,7 +11,7 @@ use Rattle.lane_record.specs.Submissions.{Submission}
 use Rattle.hub_lane.specs.Lanes.{FitsBoard}
 use Rattle.hub_lane.specs.declared.answers.BoardState.{BoardState}
 use Rattle.hub_lane.specs.declared.answers.BoardState.TheVariants.{Lane}
-use Rattle.hub_lane.specs.declared.answers.PlanRefusal.TheVariants as refusal
+use Rattle.hub_session.specs.declared.got.BodyRefusal.TheVariants as refusal
 use Rattle.hub_session.specs.declared.got.Got.{Got}
 use Rattle.hub_session.specs.declared.got.Got.TheVariants.{NotAsked, Refused, Came}
 use Rattle.hub_session.specs.Answers.{reply_of_lane, reply_of_outcome, reply_of_packet, reply_to}
@@ -83,7 +83,6 @@ module _ (payload : ℕ) (connections : List (List Submission)) (body : List ℕ
   }
   of_lane board id order (Refused refusal.Overfull) is =
       fitting 8 is.0 (λ e. absurd cc) (λ e. absurd cc) (λ e. is.1)
-  of_lane board id order (Refused refusal.NoMemory) is = absurd is
   of_lane board id order (Came o) is = of_outcome board id order o is
 
 module _ (boards : List BoardState) (position lane payload : ℕ) (connections : List (List Submission))

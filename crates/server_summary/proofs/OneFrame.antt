@@ -1,5 +1,5 @@
 -- What a frame is to the board at one position: a body was submitted there for it, or nothing.
-use Rattle.std.proofs.Common.{◌≡◌, ◌≢◌, ℕ, ◌≤◌, ◌==◌, ◌&&◌, Bool, true, false, if◌then◌else◌}
+use Rattle.std.proofs.Common.{◌≡◌, ℕ, ◌≤◌, ◌==◌, ◌&&◌, Bool, true, false, if◌then◌else◌}
 use Rattle.std.proofs.Common.{List, Option, Some, None, refl, sym, ap, ◌∙◌, inl, inr, arith}
 use Rattle.std.proofs.lemmas.Bool.{and_right}
 use Rattle.std.proofs.lemmas.Bool.Decides.{eqb_tells}
@@ -8,21 +8,21 @@ use Rattle.lane_record.specs.declared.outcome.Outcome.{Outcome}
 use Rattle.lane_record.specs.Submissions.{Submission}
 use Rattle.hub_lane.specs.declared.answers.BoardState.{BoardState}
 use Rattle.hub_lane.specs.declared.answers.BoardState.TheVariants.{Lane, Silent, Down}
-use Rattle.hub_lane.specs.declared.answers.PlanRefusal.{PlanRefusal}
-use Rattle.hub_lane.specs.declared.answers.PlanRefusal.TheVariants as refusal
+use Rattle.hub_session.specs.declared.got.BodyRefusal.{BodyRefusal}
+use Rattle.hub_session.specs.declared.got.BodyRefusal.TheVariants as refusal
 use Rattle.hub_session.specs.declared.got.Got.{Got}
 use Rattle.hub_session.specs.declared.got.Got.TheVariants.{NotAsked, Refused, Came}
 use Rattle.hub_session.specs.Answers.{refusal_code, reply_of_packet}
 use Rattle.hub_session.specs.Exchanges.{Exchange, LaneRequest, request_in, request_of, submission_in}
 use Rattle.server_summary.specs.Frames.{place_in}
 
--- the hub was asked where there is a body for a lane, and nowhere else; it refused the body by a rule, if it did
+-- the hub was asked where there is a body for a lane, and nowhere else
 abbrev pub IsAskedFor : Option LaneRequest → Got → Type 0
 IsAskedFor None NotAsked = Unit {0}
 IsAskedFor None (Refused why) = ⊥
 IsAskedFor None (Came outcome) = ⊥
 IsAskedFor (Some request) NotAsked = ⊥
-IsAskedFor (Some request) (Refused why) = why ≢ refusal.NoMemory
+IsAskedFor (Some request) (Refused why) = Unit {0}
 IsAskedFor (Some request) (Came outcome) = Unit {0}
 
 abbrev pub IsAsked : List BoardState → Exchange → Type 0
@@ -67,12 +67,11 @@ far_code b c code far near = elim (eqb_tells c code) [
   | inr apart ↦ ap (λ (x : Bool). b && x) apart.0 ∙ and_right b false refl
 ]
 
-far_refusal : (why : PlanRefusal) → 4 ≤ refusal_code why
+far_refusal : (why : BodyRefusal) → 4 ≤ refusal_code why
 far_refusal refusal.Sealed = omega arith
 far_refusal refusal.TooLong = omega arith
 far_refusal refusal.ReplyTooLong = omega arith
 far_refusal refusal.Overfull = omega arith
-far_refusal refusal.NoMemory = omega arith
 
 module _ (board lane : ℕ) where
   -- where the frame is for the board at the position, that board has the lane, and no other board has it

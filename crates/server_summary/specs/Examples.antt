@@ -5,7 +5,7 @@ use Rattle.lane_record.specs.declared.outcome.Outcome.TheVariants.{TimedOut}
 use Rattle.board_history.specs.Examples.{read_body, reads_at}
 use Rattle.lane_history.specs.Examples.{status_datagram}
 use Rattle.lane_history.specs.Links.{LinkReport}
-use Rattle.hub_lane.specs.declared.answers.PlanRefusal.TheVariants.{TooLong}
+use Rattle.hub_session.specs.declared.got.BodyRefusal.TheVariants.{TooLong}
 use Rattle.hub_session.specs.declared.got.Got.{Got}
 use Rattle.hub_session.specs.declared.got.Got.TheVariants.{NotAsked, Refused, Came}
 use Rattle.hub_session.specs.Examples.{words}
@@ -28,8 +28,8 @@ abbrev pub given_up : Exchange
 given_up = read_of 0 (Came (TimedOut 3 2))
 
 -- the hub refused it as too long
-abbrev pub refused : Exchange
-refused = read_of 0 (Refused TooLong)
+abbrev pub refused_exchange : Exchange
+refused_exchange = read_of 0 (Refused TooLong)
 
 -- Connection 1 reads the register of the live board, and the hub gives up its second read, whose answer is not written.
 -- Connection 2 reads that of each board.

@@ -13,7 +13,7 @@ ghost use Rattle.hub_session.specs.Codes.{replied_code, unsent_code, link_lost_c
 ghost use Rattle.hub_session.specs.Examples.{three_boards};
 ghost use Rattle.server_summary.specs.Answers.{answers_by};
 ghost use Rattle.server_summary.specs.Examples.{first_connection, given_up, greeted_link, only, quiet_link, read_at};
-ghost use Rattle.server_summary.specs.Examples.{read_of, refused, second_connection, turned_round, two_connections};
+ghost use Rattle.server_summary.specs.Examples.{read_of, refused_exchange, second_connection, turned_round, two_connections};
 ghost use Rattle.server_summary.specs.Examples.{two_rounds, write_body};
 ghost use Rattle.server_summary.specs.Frames.{FramesGivenUpOnlyAfterRounds, HasUnaskedCodes, IsAnsweredAsCarried};
 ghost use Rattle.server_summary.specs.Frames.{IsAnsweredRightly};
@@ -80,6 +80,6 @@ pub fn wrong_answers_are_refused()
     ensures no_datagram { IsAnsweredAsCarried (quiet_link 3) three_boards 0 (read_at 1 7) → ⊥ }
     ensures no_fault { IsLostOnlyWithLink (quiet_link 2) 2 three_boards (only (read_of 2 NotAsked)) → ⊥ }
     ensures there_is_a_board { (spec : BoardSpec) → HasUnaskedCodes (spec ∷ []) [] (read_of 0 NotAsked) → ⊥ }
-    ensures it_fits { HasRuledCodes 100 [] three_boards read_body refused → ⊥ }
+    ensures it_fits { HasRuledCodes 100 [] three_boards read_body refused_exchange → ⊥ }
     ensures silent { NoneWithCode unsent_code 1 three_boards (only (read_of 1 NotAsked)) → ⊥ }
 {}

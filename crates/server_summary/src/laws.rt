@@ -4,9 +4,9 @@ ghost use Rattle.std.specs.Prelude.{◌≡◌, ℕ, ◌≤◌, List, None, IfSom
 ghost use Rattle.std.specs.List.{AllByRecursion};
 ghost use Rattle.ipb_outside.specs.Pairs.{PairReport};
 ghost use Rattle.board_node.specs.declared.spec.BoardSpec.{BoardSpec};
-ghost use Rattle.world_model.specs.Board.{executed};
+ghost use Rattle.world_model.specs.Board.{bodies_executed};
 ghost use Rattle.world_model.specs.Settings.{Limits};
-ghost use Rattle.board_history.specs.Runs.{opening_of};
+ghost use Rattle.board_history.specs.Runs.{opens_with};
 ghost use Rattle.lane_history.specs.Links.{IsFaithful, LinkReport, board_there};
 ghost use Rattle.transcript.specs.declared.line.BoardLine.{BoardLine};
 ghost use Rattle.hub_session.specs.declared.served.Served.{Served};
@@ -79,7 +79,7 @@ pub fn code_0_answers_what_was_executed()
         (is : AreServed settings specs links came back connections lines)
         → OfEachBoard (λ position spec link. IfSome (board_there link.telling)
         (λ board. OfEachWithCode replied_code position (states_of is.boards)
-        (IsAnsweredRightly (opening_of spec.link) (executed board) (states_of is.boards) position) is.conversations))
+        (IsAnsweredRightly (opens_with spec.link) (bodies_executed board) (states_of is.boards) position) is.conversations))
         specs links }
 {
     a_board_that_tells_executed_what_was_replied();

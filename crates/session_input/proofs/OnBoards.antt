@@ -5,13 +5,12 @@ use Rattle.access_policy.specs.Decisions.{decisions, names_of, ruled_from, ruled
 use Rattle.access_policy.specs.declared.policy.Rule.{Rule}
 use Rattle.script_lang.specs.declared.session.Session.{Session}
 use Rattle.script_lang.specs.OnBoards.{StepIsOn, StepsAreOn}
-use Rattle.script_lang.specs.Scripts.{steps_of}
-use Rattle.script_steps.specs.Rulings.{ruled, ruled_step}
+use Rattle.script_steps.specs.Rulings.{steps_under_policy, ruled_step}
 use Rattle.script_steps.specs.declared.operation.Decision.{Decision}
 use Rattle.script_steps.specs.declared.operation.Decision.TheVariants as decision
 use Rattle.script_steps.specs.declared.operation.Step.{Step}
 use Rattle.script_steps.specs.declared.operation.Step.TheVariants.{Do, Denied, Dispatch}
-use Rattle.session_input.specs.Deserved.{AreOnBoards, IsRunnable}
+use Rattle.session_input.specs.Deserved.{AreOnBoards}
 
 -- ---- under a policy
 
@@ -22,7 +21,7 @@ step_ruled boards (Denied rule op) said on = on
 step_ruled boards Dispatch said on = tt
 
 steps_ruled : (boards : ℕ) (steps : List Step) (said : List Decision) → StepsAreOn boards steps
-    → StepsAreOn boards (ruled steps said)
+    → StepsAreOn boards (steps_under_policy steps said)
 steps_ruled boards [] said on = tt
 steps_ruled boards (step ∷ steps) [] on = on
 steps_ruled boards (step ∷ steps) (one ∷ said) on =

@@ -9,14 +9,14 @@ use Rattle.script_steps.specs.declared.operation.Step.{Step}
 use Rattle.script_lang.specs.declared.session.Session.{Session}
 use Rattle.script_lang.specs.Document.{SameSession}
 use Rattle.session_input.specs.declared.refusal.Refusal.{Refusal}
-use Rattle.session_input.specs.declared.refusal.Refusal.TheVariants.{OneBoard, NotSim}
+use Rattle.session_input.specs.declared.refusal.Refusal.TheVariants.{OneBoard}
 use Rattle.session_input.specs.Below.{DocumentLaws, TableLaws}
 use Rattle.session_input.specs.Deserved.{BreaksInRun, Deserves}
 use Rattle.session_input.specs.Recording.{BreaksInRecord, IsOneSimulated, IsRecordable, IsSimulated, TellsNotOne}
 use Rattle.session_input.specs.Recording.{TellsNotSim}
 use Rattle.session_input.proofs.Moved.{break_moved}
 use Rattle.session_input.proofs.OneAnswer.{one_break, runs_unbroken}
-use Rattle.session_input.proofs.OneText.{not_deserved, one_deserved, run_once}
+use Rattle.session_input.proofs.OneText.{not_deserved, one_deserved}
 
 -- ---- one board
 

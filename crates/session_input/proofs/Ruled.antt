@@ -7,10 +7,10 @@ use Rattle.script_steps.specs.declared.operation.Decision.{Decision}
 use Rattle.script_steps.specs.declared.operation.Step.{Step}
 use Rattle.script_steps.specs.RuledScripts.{AreRuled}
 use Rattle.script_steps.specs.Packing.{AreWithinLimits}
-use Rattle.script_steps.specs.Rulings.{ruled}
+use Rattle.script_steps.specs.Rulings.{steps_under_policy}
 
 -- what holds of steps under any decisions, where it held of the steps
-module _ (P : List Step → Type 0) (still : (steps : List Step) (ds : List Decision) → P steps → P (ruled steps ds)) where
+module _ (P : List Step → Type 0) (still : (steps : List Step) (ds : List Decision) → P steps → P (steps_under_policy steps ds)) where
   all_from : (rules : List Rule) (names : List (List ℕ)) (client : ℕ) (scripts : List (List Step))
       → AllByRecursion P scripts → AllByRecursion P (ruled_from rules names client scripts)
   all_from rules names client [] are = tt
@@ -49,6 +49,6 @@ module _ (limits : (scripts now : List (List Step)) → AreRuled scripts now →
       subst (λ (all : List (List Step)). AreWithinLimits all) (sym is) (within_under policy names scripts within)
 
 -- no script has more steps than before
-pub short_still : ((steps : List Step) (ds : List Decision) → length (ruled steps ds) ≡ length steps) → (most : ℕ)
-    → (steps : List Step) (ds : List Decision) → length steps ≤ most → length (ruled steps ds) ≤ most
+pub short_still : ((steps : List Step) (ds : List Decision) → length (steps_under_policy steps ds) ≡ length steps) → (most : ℕ)
+    → (steps : List Step) (ds : List Decision) → length steps ≤ most → length (steps_under_policy steps ds) ≤ most
 short_still count most steps ds few = subst (λ n. n ≤ most) (sym (count steps ds)) few

@@ -11,7 +11,7 @@ use Rattle.node_tree.specs.declared.refusal.CompileRefusal.TheVariants.{At}
 use Rattle.node_tree.specs.Maps.{Name, TableMap, RegisterMap}
 use Rattle.node_tree.specs.Names.{IsIndexOf}
 use Rattle.node_tree.specs.Refusals.{KeepsRules, IsRefusal}
-use Rattle.script_steps.specs.Rulings.{Asked, asked}
+use Rattle.script_steps.specs.Rulings.{Asked, asked_operations}
 use Rattle.script_steps.specs.declared.operation.Step.{Step}
 use Rattle.script_lang.specs.declared.refusal.DocWhy.TheVariants.{NotToml}
 use Rattle.script_lang.specs.declared.session.Session.{Session}
@@ -192,7 +192,7 @@ Deserves Breaks bytes refusal = DeservesUnread bytes refusal ⊎ BreaksRule Brea
 
 -- each operation of a client, denied or not, is on one of so many boards
 abbrev pub AreOnBoards : ℕ → List Step → Type 0
-AreOnBoards boards steps = AllByRecursion (λ (ask : Asked). ask.op.board < boards) (asked steps)
+AreOnBoards boards steps = AllByRecursion (λ (ask : Asked). ask.op.board < boards) (asked_operations steps)
 
 -- the bytes stand for a session that can be run, by these steps under its policy
 pub record IsRunnable (bytes : List ℕ) (session : Session) (steps : List (List Step)) : Type 0 where

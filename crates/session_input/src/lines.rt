@@ -41,7 +41,7 @@ impl Refusal {
 
 /// An empty path is shown as a hyphen.
 fn shown(path: &str) -> &str
-    ensures { result.now ≡ spec.shown path.now }
+    ensures { result.now ≡ spec.shown_path path.now }
 {
     if path.is_empty() { "-" } else { path }
 }
@@ -81,7 +81,7 @@ fn document_line(alloc: Global, path: &str, rule: &str) -> Result<String, NoMemo
 
 fn table_line(alloc: Global, table: &str, path: &[u64], rule: &str) -> Result<String, NoMemory>
     ensures { IfOk result (λ text. string_bytes text
-        ≡ codes "refused: table " ++ (table.now ++ (codes " " ++ (spec.shown (spec.positions path.now)
+        ≡ codes "refused: table " ++ (table.now ++ (codes " " ++ (spec.shown_path (spec.positions path.now)
         ++ (codes " " ++ (rule.now ++ codes "\n")))))) }
 {
     let path = positions(alloc, path)?;

@@ -1,6 +1,6 @@
 -- Lanes that came back from a hub, and the parts of the clients that ran there.
 use Rattle.std.proofs.Common.{◌≡◌, inl, inr, ℕ, suc, ◌+◌, ◌∙◌, List, [], ◌∷◌, ◌++◌, length, map}
-use Rattle.std.proofs.Common.{sum}
+use Rattle.std.proofs.Common.{drop, sum, take}
 use Rattle.std.proofs.Common.{Option, Some, refl, sym, ap, subst}
 use Rattle.std.specs.List.{AllByRecursion, slice_get}
 use Rattle.std.proofs.lemmas.List.{length-map}
@@ -14,11 +14,11 @@ use Rattle.world_model.specs.Settings.{Limits}
 use Rattle.lane_record.specs.declared.outcome.Outcome.{Outcome}
 use Rattle.lane_record.specs.declared.item.Item.{Item}
 use Rattle.lane_record.specs.Coding.{Head, record_of}
-use Rattle.lane_record.specs.Dispatches.{joined}
+use Rattle.lane_record.specs.Dispatches.{outcomes_in_order}
 use Rattle.hub_lane.specs.Lanes.{BoardStatus, LaneState, opening_of}
 use Rattle.hub_lane.specs.Records.{record_shown}
 use Rattle.hub_multiplexer.specs.Ends.{AreEnded, Ends}
-use Rattle.hub_multiplexer.specs.Lanes.{shown}
+use Rattle.hub_multiplexer.specs.Lanes.{shown_record}
 use Rattle.client_threads.specs.Clients.{AreOfClientsFrom, AwaitClients, HaveGoneOn, HaveRunOn, HoldsPlans, OnEachLane}
 use Rattle.client_threads.specs.Clients.{AreResultsFor, OnLanesFrom, TookIn, counts_on}
 use Rattle.client_threads.specs.declared.plan.ClientPlan.{ClientPlan}
@@ -32,11 +32,12 @@ use Rattle.lane_history.specs.Records.{IsPartlyPlanned}
 use Rattle.client_history.specs.Clients.{AskAll, LeftByClients, came_with, sealed_plans}
 use Rattle.session_run.specs.Parts.{HasLanes, outcomes_on_lane, parts_from}
 use Rattle.session_run.specs.Plans.{AskAllFrom, counts_by_client}
-use Rattle.session_run.specs.Clients.{HasItsCounts, bodies_of}
+use Rattle.session_run.specs.Clients.{HasItsCounts, bodies_of_plans}
 use Rattle.session_run.specs.Hubs.{CameBack, HoldsAll, RanAtHub}
 use Rattle.board_greeting.specs.Boards.{head_shown}
 use Rattle.session_run.specs.Lanes.{AllFour, AllThree, HasGoneOn, IsPlannedOn, IsRunOn, plans_over}
 use Rattle.session_run.proofs.DispatchParts.{each_counts, parts_of_dispatches}
+use Rattle.session_run.proofs.Sides.{three_long, written_back}
 
 -- ---- the laws of a lane at a hub
 
@@ -70,7 +71,7 @@ TellsLaw = (settings other_settings : Limits) (status other_status : BoardStatus
 
 sums_of : (counts : List (List ℕ)) (planned : List ClientBodies) → counts ≡ counts_by_client planned
     → AllByRecursion HasItsCounts planned
-    → map (λ (c : List ℕ). sum c) counts ≡ map (λ (b : List (List ℕ)). length b) (bodies_of planned)
+    → map (λ (c : List ℕ). sum c) counts ≡ map (λ (b : List (List ℕ)). length b) (bodies_of_plans planned)
 sums_of [] [] is all = refl
 sums_of [] (p ∷ planned) is all = absurd cc
 sums_of (c ∷ counts) [] is all = absurd cc
@@ -88,7 +89,7 @@ sum_counts lane (plan ∷ plans) = ap (λ (ns : List ℕ). sum (counts_on lane p
 
 ask_all : (lane : ℕ) (plans : List ClientPlan) (planned : List ClientBodies)
     → map (counts_on lane) plans ≡ counts_by_client planned → AllByRecursion HasItsCounts planned
-    → AskAll lane plans (bodies_of planned)
+    → AskAll lane plans (bodies_of_plans planned)
 ask_all lane plans planned is all = sum_counts lane plans ∙ sums_of (map (counts_on lane) plans) planned is all
 
 planned_counts : {L : Type 0} (scripts : List (List Step)) (position : ℕ) (old new : LaneState L)
@@ -98,9 +99,9 @@ planned_counts scripts position old new planned is = subst (AllByRecursion HasIt
 
 planned_items : {L : Type 0} (scripts : List (List Step)) (position : ℕ) (old new : LaneState L)
     (planned : List ClientBodies) → old.items ≡ [] → IsPlannedOn scripts position old new planned
-    → new.items ≡ sealed_plans (bodies_of planned)
+    → new.items ≡ sealed_plans (bodies_of_plans planned)
 planned_items scripts position old new planned none is =
-    ap (λ (l : LaneState _). l.items) is.lane' ∙ ap (λ (items : List Item). items ++ sealed_plans (bodies_of planned))
+    ap (λ (l : LaneState _). l.items) is.lane' ∙ ap (λ (items : List Item). items ++ sealed_plans (bodies_of_plans planned))
     none
 
 -- each lane holds all that the clients ask of it
@@ -118,7 +119,7 @@ hold_all scripts plans lane (p ∷ positions) (o ∷ olds) [] all none planned a
 hold_all scripts plans lane (p ∷ positions) (o ∷ olds) (m ∷ mids) [] none planned asked = absurd planned
 hold_all scripts plans lane (p ∷ positions) (o ∷ olds) (m ∷ mids) (w ∷ all) none planned asked = (
   record {
-    bodies = bodies_of w;
+    bodies = bodies_of_plans w;
     opens = planned_items scripts p o m w none.0 planned.0;
     asked = ask_all lane plans w asked.0 (planned_counts scripts p o m w planned.0);
   },
@@ -126,7 +127,7 @@ hold_all scripts plans lane (p ∷ positions) (o ∷ olds) (m ∷ mids) (w ∷ a
 )
 
 few_bodies : (position payload : ℕ) (scripts : List (List Step))
-    → length (bodies_of (plans_on position (Live payload) scripts)) ≡ length scripts
+    → length (bodies_of_plans (plans_on position (Live payload) scripts)) ≡ length scripts
 few_bodies position payload scripts = length-map (plans_on position (Live payload) scripts)
     (λ (p : ClientBodies). p.bodies)
     ∙ length-map scripts (planned_on position (Live payload))
@@ -136,7 +137,7 @@ few_bodies position payload scripts = length-map (plans_on position (Live payloa
 -- lanes with the same records
 pub gone_same : {L : Type 0} → TellsLaw → (tells : L → Option Telling) (scripts : List (List Step)) (positions : List ℕ)
     (olds mids news : List (LaneState L)) → AllThree (HasGoneOn tells scripts) positions olds mids
-    → map (shown tells) news ≡ map (shown tells) mids → AllThree (HasGoneOn tells scripts) positions olds news
+    → map (shown_record tells) news ≡ map (shown_record tells) mids → AllThree (HasGoneOn tells scripts) positions olds news
 gone_same law tells scripts [] [] [] [] gone same = tt
 gone_same law tells scripts [] [] [] (n ∷ news) gone same = absurd cc
 gone_same law tells scripts [] [] (m ∷ mids) news gone same = absurd gone
@@ -145,8 +146,8 @@ gone_same law tells scripts (p ∷ positions) [] mids news gone same = absurd go
 gone_same law tells scripts (p ∷ positions) (o ∷ olds) [] news gone same = absurd gone
 gone_same law tells scripts (p ∷ positions) (o ∷ olds) (m ∷ mids) [] gone same = absurd cc
 gone_same {L} law tells scripts (p ∷ positions) (o ∷ olds) (m ∷ mids) (n ∷ news) gone same =
-    let head : shown tells n ≡ shown tells m = cc in
-    let tail : map (shown tells) news ≡ map (shown tells) mids = cc in
+    let head : shown_record tells n ≡ shown_record tells m = cc in
+    let tail : map (shown_record tells) news ≡ map (shown_record tells) mids = cc in
     let told = law n.settings m.settings n.status m.status (tells n.link) (tells m.link) n.items m.items head in
     let settings : n.settings ≡ m.settings = told.0 in
     let status : n.status ≡ m.status = told.1 in
@@ -154,7 +155,7 @@ gone_same {L} law tells scripts (p ∷ positions) (o ∷ olds) (m ∷ mids) (n �
     let heads : head_shown tells n ≡ head_shown tells m = cc in (
       record {
         head = heads ∙ gone.0.head;
-        some = subst (IsPartlyPlanned (bodies_of (plans_over scripts p o))) (sym told.3) gone.0.some;
+        some = subst (IsPartlyPlanned (bodies_of_plans (plans_over scripts p o))) (sym told.3) gone.0.some;
       },
       gone_same law tells scripts positions olds mids news gone.1 tail,
     )
@@ -164,8 +165,8 @@ pub gone_at_hub : {L : Type 0} → BackLaw → PartlyLaw → (tells : L → Opti
     (plans : List ClientPlan) (seats lane : ℕ) (positions : List ℕ) (olds mids news : List (LaneState L))
     (afters : List Knowledge) → AreOfClientsFrom 1 plans → length plans ≡ length scripts
     → AllThree (HasGoneOn tells scripts) positions olds mids
-    → OnEachLane lane (λ at. HaveGoneOn plans seats) (map first_knowledge (map (shown tells) mids)) afters
-    → AreEnded afters (map (shown tells) news) → AllThree (HasGoneOn tells scripts) positions olds news
+    → OnEachLane lane (λ at. HaveGoneOn plans seats) (map first_knowledge (map (shown_record tells) mids)) afters
+    → AreEnded afters (map (shown_record tells) news) → AllThree (HasGoneOn tells scripts) positions olds news
 gone_at_hub back partly tells scripts plans seats lane [] [] [] [] [] of' many gone at ended = tt
 gone_at_hub back partly tells scripts plans seats lane [] [] [] (n ∷ news) [] of' many gone at ended = absurd ended
 gone_at_hub back partly tells scripts plans seats lane [] [] [] news (k ∷ afters) of' many gone at ended = absurd at
@@ -186,13 +187,13 @@ gone_at_hub back partly tells scripts plans seats lane (p ∷ positions) (o ∷ 
 gone_at_hub back partly tells scripts plans seats lane (p ∷ positions) (o ∷ olds) (m ∷ mids) (n ∷ news) (k ∷ afters)
     of' many
     gone at ended =
-    let bodies = bodies_of (plans_over scripts p o) in
+    let bodies = bodies_of_plans (plans_over scripts p o) in
     let few : length plans ≡ length bodies = many ∙ sym (few_bodies p (payload_of o.status.mtu) scripts) in
-    let head = back (head_shown tells m) (head_shown tells n) m.items n.items at.0.passes k (shown tells n) at.0.took_in
+    let head = back (head_shown tells m) (head_shown tells n) m.items n.items at.0.passes k (shown_record tells n) at.0.took_in
     ended.0 refl in (
       record {
         head = head.0 ∙ gone.0.head;
-        some = partly plans seats bodies (head_shown tells m) (head_shown tells n) m.items n.items k (shown tells n) of'
+        some = partly plans seats bodies (head_shown tells m) (head_shown tells n) m.items n.items k (shown_record tells n) of'
             few gone.0.some at.0 ended.0 refl;
       },
       gone_at_hub back partly tells scripts plans seats (lane + 1) positions olds mids news afters of' many gone.1 at.1
@@ -204,18 +205,18 @@ gone_at_hub back partly tells scripts plans seats lane (p ∷ positions) (o ∷ 
 -- what is shown of each client's bodies, and what became of them
 outcomes_shown : (lane : ℕ) (results : List ClientResult) (dispatches : List (List (List Outcome)))
     → map (λ (r : ClientResult). slice_get r.lanes lane) results
-    ≡ map (λ (d : List (List Outcome)). Some (joined d)) dispatches
-    → outcomes_on_lane lane results ≡ map joined dispatches
+    ≡ map (λ (d : List (List Outcome)). Some (outcomes_in_order d)) dispatches
+    → outcomes_on_lane lane results ≡ map outcomes_in_order dispatches
 outcomes_shown lane [] [] is = refl
 outcomes_shown lane [] (d ∷ dispatches) is = absurd cc
 outcomes_shown lane (r ∷ results) [] is = absurd cc
 outcomes_shown lane (r ∷ results) (d ∷ dispatches) is =
-    let head : slice_get r.lanes lane ≡ Some (joined d) = cc in
+    let head : slice_get r.lanes lane ≡ Some (outcomes_in_order d) = cc in
     let tail : map (λ (x : ClientResult). slice_get x.lanes lane) results
-    ≡ map (λ (x : List (List Outcome)). Some (joined x)) dispatches = cc in
-    ap (λ (os : List Outcome). os ∷ outcomes_on_lane lane results) (get_or_from_slice_get r.lanes lane (joined d) []
+    ≡ map (λ (x : List (List Outcome)). Some (outcomes_in_order x)) dispatches = cc in
+    ap (λ (os : List Outcome). os ∷ outcomes_on_lane lane results) (get_or_from_slice_get r.lanes lane (outcomes_in_order d) []
     head)
-    ∙ ap (λ (l : List (List Outcome)). joined d ∷ l) (outcomes_shown lane results dispatches tail)
+    ∙ ap (λ (l : List (List Outcome)). outcomes_in_order d ∷ l) (outcomes_shown lane results dispatches tail)
 
 same_heads : {L : Type 0} (tells : L → Option Telling) (a b : LaneState L) → head_shown tells a ≡ head_shown tells b
     → a.status ≡ b.status
@@ -227,15 +228,15 @@ ran_on_lane : {L : Type 0} → BackLaw → RunLaw → (tells : L → Option Tell
     (planned : List ClientBodies) (after : Knowledge) → AreOfClientsFrom 1 plans → old.items ≡ []
     → IsPlannedOn scripts position old mid planned → map (counts_on lane) plans ≡ counts_by_client planned
     → head_shown tells new ≡ head_shown tells old
-    → HaveRunOn plans results lane (first_knowledge (shown tells mid)) after → Ends after (shown tells new)
+    → HaveRunOn plans results lane (first_knowledge (shown_record tells mid)) after → Ends after (shown_record tells new)
     → IsRunOn scripts position new (parts_with planned (outcomes_on_lane lane results) [])
 ran_on_lane {L} back run tells scripts plans results lane position old mid new planned after of' none is counts heads
     ran
     ended =
-    let bodies = bodies_of planned in
+    let bodies = bodies_of_plans planned in
     let own = planned_counts scripts position old mid planned is in
     let opens = planned_items scripts position old mid planned none is in
-    let left = run lane plans results bodies (head_shown tells mid) (head_shown tells new) new.items after (shown
+    let left = run lane plans results bodies (head_shown tells mid) (head_shown tells new) new.items after (shown_record
     tells new)
     of' (ask_all lane plans planned counts own)
     (subst (λ (items : List Item). HaveRunOn plans results lane (came_with (head_shown tells mid) items) after) opens
@@ -258,8 +259,8 @@ pub ran_at_hub : {L : Type 0} → BackLaw → RunLaw → (tells : L → Option T
     → AreOfClientsFrom 1 plans → AllByRecursion (λ (l : LaneState L). l.items ≡ []) olds
     → AllFour (IsPlannedOn scripts) positions olds mids all → AskAllFrom lane plans all
     → AllThree (HasGoneOn tells scripts) positions olds news
-    → OnEachLane lane (HaveRunOn plans results) (map first_knowledge (map (shown tells) mids)) afters
-    → AreEnded afters (map (shown tells) news)
+    → OnEachLane lane (HaveRunOn plans results) (map first_knowledge (map (shown_record tells) mids)) afters
+    → AreEnded afters (map (shown_record tells) news)
     → AllThree (IsRunOn scripts) positions news (parts_from lane all results)
 ran_at_hub back run tells scripts plans results lane [] [] [] [] [] [] of' none planned asked gone ran ended = tt
 ran_at_hub back run tells scripts plans results lane [] [] [] news [] (k ∷ afters) of' none planned asked gone ran
@@ -316,7 +317,7 @@ Holds lane plan k = HoldsPlans plan.client (sum (counts_on lane plan)) k
 pub each_awaits : {L : Type 0} → AwaitLaw → (tells : L → Option Telling) (plans : List ClientPlan) (lane : ℕ)
     (lanes : List (LaneState L)) → AreOfClientsFrom 1 plans → OnLanesFrom lane (HoldsAll plans) lanes
     → OnLanesFrom lane (λ at k. AllByRecursion (λ (plan : ClientPlan). Holds at plan k) plans)
-    (map first_knowledge (map (shown tells) lanes))
+    (map first_knowledge (map (shown_record tells) lanes))
 each_awaits law tells plans lane [] of' hold = tt
 each_awaits {L} law tells plans lane (l ∷ lanes) of' hold = (
   subst (λ (items : List Item). AllByRecursion (λ (plan : ClientPlan). Holds lane plan
@@ -360,32 +361,65 @@ results_lanes lanes (p ∷ plans) (r ∷ results) are = (are.0.1, results_lanes 
 
 -- ---- all of it
 
--- the lanes that came back
-pub lanes_gone : {L : Type 0} → TellsLaw → BackLaw → PartlyLaw → (tells : L
-    → Option Telling) (scripts : List (List Step))
+all_gone : {L : Type 0} → TellsLaw → BackLaw → PartlyLaw → (tells : L → Option Telling) (scripts : List (List Step))
     (plans : List ClientPlan) (positions : List ℕ) (olds mids news : List (LaneState L)) → AreOfClientsFrom 1 plans
     → length plans ≡ length scripts → AllThree (HasGoneOn tells scripts) positions olds mids
     → CameBack tells plans mids news → AllThree (HasGoneOn tells scripts) positions olds news
-lanes_gone law back partly tells scripts plans positions olds mids news of' many gone (inl same) =
+all_gone law back partly tells scripts plans positions olds mids news of' many gone (inl same) =
     gone_same law tells scripts positions olds mids news gone same
-lanes_gone law back partly tells scripts plans positions olds mids news of' many gone (inr at) =
+all_gone law back partly tells scripts plans positions olds mids news of' many gone (inr at) =
     gone_at_hub back partly tells scripts plans at.taken_in.made 0 positions olds mids news at.hub.after.knows of'
     many gone
     (subst (λ (knows : List Knowledge). OnEachLane 0 (λ on. HaveGoneOn plans at.taken_in.made) knows at.hub.after.knows)
     at.hub.opened at.taken_in.lanes) at.hub.ended
 
+-- what was planned on a slice of all lanes, which was written back
+pub record PlannedLanes {L : Type 0} (tells : L → Option Telling) (scripts : List (List Step)) (positions : List ℕ)
+    (olds mids back : List (LaneState L)) (all : List (List ClientBodies)) : Type 0 where
+  pub planned : AllFour (IsPlannedOn scripts) positions olds mids all
+  pub gone : AllThree (HasGoneOn tells scripts) positions olds mids
+  pub written : back ≡ mids
+
+pub planned_lanes : {L : Type 0} {olds slice : List (LaneState L)} {many : ℕ} (tells : L → Option Telling)
+    (scripts : List (List Step)) (positions : List ℕ) (mids : List (LaneState L)) (all : List (List ClientBodies))
+    → length slice ≡ many → slice ≡ olds → AllFour (IsPlannedOn scripts) positions slice mids all
+    → AllThree (HasGoneOn tells scripts) positions slice mids
+    → PlannedLanes tells scripts positions olds mids (take many (mids ++ drop (length mids) olds)) all
+planned_lanes {L} {olds} {slice} {many} tells scripts positions mids all len same planned gone =
+    let here = subst (λ (l : List (LaneState L)). AllThree (HasGoneOn tells scripts) positions l mids) same gone in
+    record {
+      planned = subst (λ (l : List (LaneState L)). AllFour (IsPlannedOn scripts) positions l mids all) same planned;
+      gone = here;
+      written = written_back many olds mids (sym len ∙ ap (λ (l : List (LaneState L)). length l) same)
+          (three_long (HasGoneOn tells scripts) positions olds mids here);
+    }
+
+-- the lanes that came back
+pub lanes_gone : {L : Type 0} {tells : L → Option Telling} {scripts : List (List Step)} {plans asked : List ClientPlan}
+    {positions : List ℕ} {olds mids back : List (LaneState L)} {all : List (List ClientBodies)} → TellsLaw → BackLaw
+    → PartlyLaw → PlannedLanes tells scripts positions olds mids back all → asked ≡ plans → (news : List (LaneState L))
+    → AreOfClientsFrom 1 plans → length plans ≡ length scripts → CameBack tells asked back news
+    → AllThree (HasGoneOn tells scripts) positions olds news
+lanes_gone {L} {tells} {scripts} {plans} {asked} {positions} {olds} {mids} law back_law partly on same news of' many
+    came =
+    all_gone law back_law partly tells scripts plans positions olds mids news of' many on.gone
+    (subst (λ (l : List ClientPlan). CameBack tells l mids news) same
+    (subst (λ (l : List (LaneState L)). CameBack tells asked l news) on.written came))
+
 -- the parts of clients that ran there to their end
-pub parts_ran : {L : Type 0} → BackLaw → RunLaw → (tells : L → Option Telling) (scripts : List (List Step))
-    (plans : List ClientPlan) (results : List ClientResult) (positions : List ℕ) (olds mids news : List (LaneState L))
-    (all : List (List ClientBodies)) (parts : List (List ClientPart)) → AreOfClientsFrom 1 plans
-    → AllByRecursion (λ (l : LaneState L). l.items ≡ []) olds → AllFour (IsPlannedOn scripts) positions olds mids all
-    → AskAllFrom 0 plans all → AllThree (HasGoneOn tells scripts) positions olds news
-    → RanAtHub tells plans results mids news → parts ≡ parts_from 0 all results
-    → AllThree (IsRunOn scripts) positions news parts
-parts_ran back run tells scripts plans results positions olds mids news all parts of' none planned asked gone ran is =
+pub parts_ran : {L : Type 0} {tells : L → Option Telling} {scripts : List (List Step)} {plans asked : List ClientPlan}
+    {results : List ClientResult} {positions : List ℕ} {olds mids back news : List (LaneState L)}
+    {all : List (List ClientBodies)} → BackLaw → RunLaw → PlannedLanes tells scripts positions olds mids back all
+    → asked ≡ plans → (parts : List (List ClientPart)) → AreOfClientsFrom 1 plans
+    → AllByRecursion (λ (l : LaneState L). l.items ≡ []) olds → AskAllFrom 0 plans all
+    → AllThree (HasGoneOn tells scripts) positions olds news → RanAtHub tells asked results back news
+    → parts ≡ parts_from 0 all results → AllThree (IsRunOn scripts) positions news parts
+parts_ran {L} {tells} {scripts} {plans} {asked} {results} {positions} {olds} {mids} {back} {news} {all} back_law run on
+    same parts of' none counts gone came is =
+    let ran = subst (λ (l : List ClientPlan). RanAtHub tells l results mids news) same
+    (subst (λ (l : List (LaneState L)). RanAtHub tells asked results l news) on.written came) in
     subst (AllThree (IsRunOn scripts) positions news) (sym is)
-    (ran_at_hub back run tells scripts plans results 0 positions olds mids news all ran.hub.after.knows of' none
-    planned asked
-    gone
+    (ran_at_hub back_law run tells scripts plans results 0 positions olds mids news all ran.hub.after.knows of' none
+    on.planned counts gone
     (subst (λ (knows : List Knowledge). OnEachLane 0 (HaveRunOn plans results) knows ran.hub.after.knows) ran.hub.opened
     ran.ran.lanes) ran.hub.ended)

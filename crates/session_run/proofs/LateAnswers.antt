@@ -1,8 +1,7 @@
 -- What came late on a lane, in the parts of its clients.
 use Rattle.std.proofs.Common.{◌≡◌, ◌||◌, ℕ, ◌∙◌, Bool, true, false, List, [], ◌∷◌, map, Option, refl, sym, ap, subst}
-use Rattle.std.specs.Prelude.{is_some, IfSome}
+use Rattle.std.specs.Prelude.{is_some}
 use Rattle.std.specs.List.{AllByRecursion, list_any}
-use Rattle.std.specs.Option.{IsSomeAnd}
 use Rattle.lane_record.specs.declared.outcome.Outcome.{Outcome}
 use Rattle.script_steps.specs.declared.operation.Step.{Step}
 use Rattle.script_plans.specs.declared.board_run.ClientPart.{ClientPart}

@@ -3,7 +3,7 @@ use Rattle.std.proofs.Common.{◌≡◌, ℕ, zero, suc, Bool, false, List, [], 
 use Rattle.std.specs.Prelude.{IfSome}
 use Rattle.ipb_base.specs.Lists.{IsPrefix}
 use Rattle.world_model.specs.declared.datagram.Datagram.{Datagram}
-use Rattle.world_model.specs.Board.{Board, executed}
+use Rattle.world_model.specs.Board.{Board, bodies_executed}
 use Rattle.world_model.specs.Facts.{IsStart, bodies_of}
 use Rattle.world_model.specs.Hub.{Hub, new_hub, none_handed_out}
 use Rattle.world_model.specs.Settings.{Limits}
@@ -68,8 +68,8 @@ FirstLaw = (spec : BoardSpec) (board : ℕ) (scripts : List (List Step)) (first 
 
 pub executed_asked : TrueLaw → FirstLaw → (spec : BoardSpec) (board : ℕ) (scripts : List (List Step))
     (telling : Option Telling) → IfSome telling (HasStood spec board scripts)
-    → IfSome (board_there telling) (λ there. IsMergeOfAsked spec board scripts (executed there))
+    → IfSome (board_there telling) (λ there. IsMergeOfAsked spec board scripts (bodies_executed there))
 executed_asked true_law first_law spec board scripts None stood = tt
 executed_asked true_law first_law spec board scripts (Some t) stood =
-    first_law spec board scripts (executed t.told.board) (bodies_of stood.hub.sent)
+    first_law spec board scripts (bodies_executed t.told.board) (bodies_of stood.hub.sent)
     (true_law stood.stopped stood.limits stood.hub stood.outcomes stood.lates t stood.standing).in_order stood.sent

@@ -17,7 +17,7 @@ use Rattle.session_run.specs.Parts.{HasClients}
 use Rattle.session_run.specs.Plans.{ArePlansOnBoard, HasFewBodies}
 use Rattle.session_run.proofs.PartLists.{get_behind}
 use Rattle.lane_history.specs.Records.{IsPartlyPlanned}
-use Rattle.session_run.specs.Clients.{KeepsLane, bodies_of}
+use Rattle.session_run.specs.Clients.{KeepsLane, bodies_of_plans}
 use Rattle.board_greeting.specs.Boards.{HasNoEntry, head_shown}
 use Rattle.session_run.specs.Lanes.{AllFour, AllThree, HasGoneOn, IsPlannedOn, plans_over}
 use Rattle.session_run.proofs.PlansMade.{PartlyAll, PartlyFront, partly_none}
@@ -43,9 +43,9 @@ keeps_head {L} tells old new keeps =
     cc
 
 -- a lane whose clients were planned, or on the way there
-pub planned_gone : {L : Type 0} (tells : L → Option Telling) (scripts : List (List Step)) (position : ℕ)
+planned_gone : {L : Type 0} (tells : L → Option Telling) (scripts : List (List Step)) (position : ℕ)
     (old new : LaneState L) → KeepsLane old new (tells old.link) (tells new.link)
-    → IsPartlyPlanned (bodies_of (plans_over scripts position old)) new.items → HasGoneOn tells scripts position old new
+    → IsPartlyPlanned (bodies_of_plans (plans_over scripts position old)) new.items → HasGoneOn tells scripts position old new
 planned_gone tells scripts position old new keeps some = record { head = keeps_head tells old new keeps; some = some }
 
 -- lanes that nobody asked anything of
@@ -58,7 +58,7 @@ unused_gone front all tells scripts (p ∷ positions) [] long none = absurd cc
 unused_gone front all tells scripts (p ∷ positions) (lane ∷ lanes) long none = (
   record {
     head = refl;
-    some = partly_none front all (bodies_of (plans_over scripts p lane)) lane.items none.0;
+    some = partly_none front all (bodies_of_plans (plans_over scripts p lane)) lane.items none.0;
   },
   unused_gone front all tells scripts positions lanes (omega (arith, long)) none.1,
 )
@@ -84,60 +84,101 @@ pub none_planned : {L : Type 0} (tells : L → Option Telling) (scripts : List (
 none_planned tells scripts positions olds =
     record { front = []; whole = refl; long = refl; planned = tt; gone = tt }
 
--- the lane that is planned next is as it was
-pub next_lane : {L : Type 0} (tells : L → Option Telling) (scripts : List (List Step)) (k : ℕ) (positions : List ℕ)
-    (olds nows : List (LaneState L)) (all : List (List ClientBodies)) (lane : LaneState L)
-    → PlannedSoFar tells scripts k positions olds nows all → k < length olds → lane ≡ get_or nows k lane
-    → lane ≡ get_or olds k lane
-next_lane {L} tells scripts k positions olds nows all lane so_far within is =
-    is ∙ (ap (λ (l : List (LaneState L)). get_or l k lane) so_far.whole
-    ∙ (get_behind so_far.front (drop k olds) k lane so_far.long
-    ∙ ap (λ (l : List (LaneState L)). get_or l 0 lane) (drop_more olds k lane within)))
+-- the lane that is planned next is as it was, and nobody asked anything of it
+pub record NextLane {L : Type 0} (tells : L → Option Telling) (scripts : List (List Step)) (k : ℕ) (positions : List ℕ)
+    (olds nows : List (LaneState L)) (all : List (List ClientBodies)) (lane : LaneState L) : Type 0 where
+  pub so_far : PlannedSoFar tells scripts k positions olds nows all
+  pub within : k < length positions
+  pub same : length positions ≡ length olds
+  pub was : lane ≡ get_or olds k lane
+  pub unused : AllByRecursion HasNoEntry olds
 
--- and nobody asked anything of it
-pub next_unused : {L : Type 0} (k : ℕ) (olds : List (LaneState L)) (lane : LaneState L) → k < length olds
+pub next_lane : {L : Type 0} {tells : L → Option Telling} {scripts : List (List Step)} {k : ℕ} {positions : List ℕ}
+    {olds nows : List (LaneState L)} {all : List (List ClientBodies)} {lane : LaneState L}
+    → PlannedSoFar tells scripts k positions olds nows all → k < length olds → length positions ≡ length olds
+    → AllByRecursion HasNoEntry olds → lane ≡ get_or nows k lane
+    → NextLane tells scripts k positions olds nows all (get_or nows k lane)
+next_lane {L} {k = k} {olds = olds} {lane = lane} so_far inside same unused is =
+    let was : lane ≡ get_or olds k lane = is ∙ (ap (λ (l : List (LaneState L)). get_or l k lane) so_far.whole
+    ∙ (get_behind so_far.front (drop k olds) k lane so_far.long
+    ∙ ap (λ (l : List (LaneState L)). get_or l 0 lane) (drop_more olds k lane inside))) in
+    record {
+      so_far = so_far;
+      within = omega (arith, inside, same);
+      same = same;
+      was = subst (λ (l : LaneState L). l ≡ get_or olds k l) is was;
+      unused = unused;
+    }
+
+no_entry_at : {L : Type 0} (k : ℕ) (olds : List (LaneState L)) (lane : LaneState L) → k < length olds
     → lane ≡ get_or olds k lane → AllByRecursion HasNoEntry olds → lane.items ≡ []
-next_unused k [] lane within is none = absurd (omega (arith, within))
-next_unused zero (o ∷ olds) lane within is none = ap (λ (l : LaneState _). l.items) is ∙ none.0
-next_unused (suc k) (o ∷ olds) lane within is none = next_unused k olds lane (omega (arith, within)) is none.1
+no_entry_at k [] lane within is none = absurd (omega (arith, within))
+no_entry_at zero (o ∷ olds) lane within is none = ap (λ (l : LaneState _). l.items) is ∙ none.0
+no_entry_at (suc k) (o ∷ olds) lane within is none = no_entry_at k olds lane (omega (arith, within)) is none.1
+
+pub next_unused : {L : Type 0} {tells : L → Option Telling} {scripts : List (List Step)} {k : ℕ} {positions : List ℕ}
+    {olds nows : List (LaneState L)} {all : List (List ClientBodies)} {lane : LaneState L}
+    → NextLane tells scripts k positions olds nows all lane → lane.items ≡ []
+next_unused {k = k} {olds = olds} {lane = lane} next =
+    let within = next.within in
+    let same = next.same in
+    no_entry_at k olds lane (omega (arith, within, same)) next.was next.unused
+
+-- the lanes from it on, and all lanes once it was written
+next_begins : {L : Type 0} {tells : L → Option Telling} {scripts : List (List Step)} {k : ℕ} {positions : List ℕ}
+    {olds nows : List (LaneState L)} {all : List (List ClientBodies)} {old : LaneState L}
+    → NextLane tells scripts k positions olds nows all old → drop k olds ≡ old ∷ drop (k + 1) olds
+next_begins {k = k} {olds = olds} {old = old} next =
+    let within = next.within in
+    let same = next.same in
+    drop_more olds k old (omega (arith, within, same)) ∙ ap (λ l. l ∷ drop (k + 1) olds) (sym next.was)
+
+next_written : {L : Type 0} {tells : L → Option Telling} {scripts : List (List Step)} {k : ℕ} {positions : List ℕ}
+    {olds nows : List (LaneState L)} {all : List (List ClientBodies)} {old : LaneState L} (new : LaneState L)
+    (later : List (LaneState L)) (next : NextLane tells scripts k positions olds nows all old)
+    → later ≡ set nows k new → later ≡ next.so_far.front ++ new ∷ drop (k + 1) olds
+next_written {L} {k = k} {olds = olds} {old = old} new later next put =
+    let so_far = next.so_far in
+    put ∙ (ap (λ (l : List (LaneState L)). set l k new) (so_far.whole ∙ ap (λ l. so_far.front ++ l) (next_begins next))
+    ∙ set_at so_far.front old (drop (k + 1) olds) new k so_far.long)
 
 -- one more lane was planned
-pub lane_planned : {L : Type 0} (tells : L → Option Telling) (scripts : List (List Step)) (k position : ℕ)
-    (positions : List ℕ) (olds nows later : List (LaneState L)) (all more : List (List ClientBodies))
-    (old new : LaneState L) (planned : List ClientBodies) → PlannedSoFar tells scripts k positions olds nows all
-    → k < length positions → length positions ≡ length olds → position ≡ get_or positions k position
-    → old ≡ get_or olds k old → later ≡ set nows k new → more ≡ all ++ planned ∷ []
-    → IsPlannedOn scripts position old new planned → HasGoneOn tells scripts position old new
+pub lane_planned : {L : Type 0} {tells : L → Option Telling} {scripts : List (List Step)} {k : ℕ} {positions : List ℕ}
+    {olds nows : List (LaneState L)} {all : List (List ClientBodies)} {old : LaneState L} (new : LaneState L)
+    (later : List (LaneState L)) (more : List (List ClientBodies)) (planned : List ClientBodies)
+    → NextLane tells scripts k positions olds nows all old → later ≡ set nows k new → more ≡ all ++ planned ∷ []
+    → IsPlannedOn scripts (get_or positions k 0) old new planned
+    → KeepsLane old new (tells old.link) (tells new.link)
+    → IsPartlyPlanned (bodies_of_plans (plans_over scripts (get_or positions k 0) old)) new.items
     → PlannedSoFar tells scripts (k + 1) positions olds later more
-lane_planned {L} tells scripts k position positions olds nows later all more old new planned so_far within same is was
-    put push
-    plans gone =
+lane_planned {L} {tells} {scripts} {k} {positions} {olds} {nows} {all} {old} new later more planned next put push plans
+    keeps some =
+    let within = next.within in
+    let same = next.same in
     let inside : k < length olds = omega (arith, within, same) in
-    let rest = drop (k + 1) olds in
-    let begins : drop k olds ≡ old ∷ rest = drop_more olds k old inside ∙ ap (λ l. l ∷ rest) (sym was) in
+    let position = get_or positions k 0 in
+    let so_far = next.so_far in
     let fronts : take (k + 1) olds ≡ take k olds ++ old ∷ [] =
-    take_more olds k old inside ∙ ap (λ l. take k olds ++ l ∷ []) (sym was) in
-    let places : take (k + 1) positions ≡ take k positions ++ position ∷ [] =
-    take_more positions k position within ∙ ap (λ (n : ℕ). take k positions ++ n ∷ []) (sym is) in
+    take_more olds k old inside ∙ ap (λ l. take k olds ++ l ∷ []) (sym next.was) in
+    let places : take (k + 1) positions ≡ take k positions ++ position ∷ [] = take_more positions k 0 within in
     let front = so_far.front in
     record {
       front = front ++ new ∷ [];
-      whole = put ∙ (ap (λ (l : List (LaneState L)). set l k new) (so_far.whole ∙ ap (λ l. front ++ l) begins)
-          ∙ (set_at front old rest new k so_far.long ∙ sym (append_assoc front (new ∷ []) rest)));
+      whole = next_written new later next put ∙ sym (append_assoc front (new ∷ []) (drop (k + 1) olds));
       long = (let e = length-append front (new ∷ []) in let f = so_far.long in omega (arith, e, f));
       planned = rw (places, fronts, push) (four_append (IsPlannedOn scripts) (take k positions) (position ∷ [])
           (take k olds) (old ∷ []) front (new ∷ []) all (planned ∷ []) so_far.planned (plans, tt));
       gone = rw (places, fronts) (three_append (HasGoneOn tells scripts) (take k positions) (position ∷ []) (take k
           olds)
-          (old ∷ []) front (new ∷ []) so_far.gone (gone, tt));
+          (old ∷ []) front (new ∷ []) so_far.gone (planned_gone tells scripts position old new keeps some, tt));
     }
 
 -- the lanes at any moment between two
-pub gone_between : {L : Type 0} → PartlyFront → PartlyAll → (tells : L → Option Telling) (scripts : List (List Step))
-    (k : ℕ) (positions : List ℕ) (olds nows : List (LaneState L)) (all : List (List ClientBodies))
+pub gone_between : {L : Type 0} {tells : L → Option Telling} {scripts : List (List Step)} {k : ℕ} {positions : List ℕ}
+    {olds nows : List (LaneState L)} {all : List (List ClientBodies)} → PartlyFront → PartlyAll
     → PlannedSoFar tells scripts k positions olds nows all → length positions ≡ length olds
     → AllByRecursion HasNoEntry olds → AllThree (HasGoneOn tells scripts) positions olds nows
-gone_between {L} front every tells scripts k positions olds nows all so_far same none =
+gone_between {L} {tells} {scripts} {k} {positions} {olds} front every so_far same none =
     rw so_far.whole
     (subst (λ (l : List ℕ). AllThree (HasGoneOn tells scripts) l olds (so_far.front ++ drop k olds))
     (take-append-drop k positions)
@@ -151,28 +192,25 @@ gone_between {L} front every tells scripts k positions olds nows all so_far same
     none)))))
 
 -- and within one, which may be no lane that was planned whole
-pub gone_within : {L : Type 0} → PartlyFront → PartlyAll → (tells : L → Option Telling) (scripts : List (List Step))
-    (k position : ℕ) (positions : List ℕ) (olds nows later : List (LaneState L)) (all : List (List ClientBodies))
-    (old new : LaneState L) → PlannedSoFar tells scripts k positions olds nows all → k < length positions
-    → length positions ≡ length olds → position ≡ get_or positions k position → old ≡ get_or olds k old
-    → later ≡ set nows k new → HasGoneOn tells scripts position old new → AllByRecursion HasNoEntry olds
+pub gone_within : {L : Type 0} {tells : L → Option Telling} {scripts : List (List Step)} {k : ℕ} {positions : List ℕ}
+    {olds nows : List (LaneState L)} {all : List (List ClientBodies)} {old : LaneState L} → PartlyFront → PartlyAll
+    → (new : LaneState L) (later : List (LaneState L)) → NextLane tells scripts k positions olds nows all old
+    → later ≡ set nows k new → KeepsLane old new (tells old.link) (tells new.link)
+    → IsPartlyPlanned (bodies_of_plans (plans_over scripts (get_or positions k 0) old)) new.items
     → AllThree (HasGoneOn tells scripts) positions olds later
-gone_within {L} front every tells scripts k position positions olds nows later all old new so_far within same is was
-    put gone
-    none =
-    let inside : k < length olds = omega (arith, within, same) in
+gone_within {L} {tells} {scripts} {k} {positions} {olds} {nows} {all} {old} front every new later next put keeps some =
+    let same = next.same in
+    let position = get_or positions k 0 in
     let rest = drop (k + 1) olds in
-    let begins : drop k olds ≡ old ∷ rest = drop_more olds k old inside ∙ ap (λ l. l ∷ rest) (sym was) in
-    let places : drop k positions ≡ position ∷ drop (k + 1) positions =
-    drop_more positions k position within ∙ ap (λ (n : ℕ). n ∷ drop (k + 1) positions) (sym is) in
+    let so_far = next.so_far in
+    let gone = planned_gone tells scripts position old new keeps some in
+    let places : drop k positions ≡ position ∷ drop (k + 1) positions = drop_more positions k 0 next.within in
     let behind = unused_gone front every tells scripts (drop (k + 1) positions) rest
     (let a = length-drop (k + 1) positions in let b = length-drop (k + 1) olds in omega (arith, a, b, same))
-    (none_behind (k + 1) olds none) in
-    let now : later ≡ so_far.front ++ new ∷ rest = put
-    ∙ (ap (λ (l : List (LaneState L)). set l k new) (so_far.whole ∙ ap (λ l. so_far.front ++ l) begins)
-    ∙ set_at so_far.front old rest new k so_far.long) in
+    (none_behind (k + 1) olds next.unused) in
+    let now = next_written new later next put in
     let whole : take k olds ++ old ∷ rest ≡ olds =
-    ap (λ (l : List (LaneState L)). take k olds ++ l) (sym begins) ∙ take-append-drop k olds in
+    ap (λ (l : List (LaneState L)). take k olds ++ l) (sym (next_begins next)) ∙ take-append-drop k olds in
     let all_places : take k positions ++ position ∷ drop (k + 1) positions ≡ positions =
     ap (λ (l : List ℕ). take k positions ++ l) (sym places) ∙ take-append-drop k positions in
     rw now
@@ -184,12 +222,12 @@ gone_within {L} front every tells scripts k position positions olds nows later a
     (three_append (HasGoneOn tells scripts) (take k positions) (position ∷ drop (k + 1) positions) (take k olds)
     (old ∷ rest) so_far.front (new ∷ rest) so_far.gone (gone, behind))))
 
-pub all_planned : {L : Type 0} (tells : L → Option Telling) (scripts : List (List Step)) (k : ℕ) (positions : List ℕ)
-    (olds nows : List (LaneState L)) (all : List (List ClientBodies))
-    → PlannedSoFar tells scripts k positions olds nows all → length positions ≤ k → length positions ≡ length olds
+pub all_planned : {L : Type 0} {tells : L → Option Telling} {scripts : List (List Step)} {k : ℕ} {positions : List ℕ}
+    {olds nows : List (LaneState L)} {all : List (List ClientBodies)}
+    → PlannedSoFar tells scripts k positions olds nows all → length olds ≤ k → length positions ≡ length olds
     → AllFour (IsPlannedOn scripts) positions olds nows all
-all_planned {L} tells scripts k positions olds nows all so_far done same =
-    let past : length olds ≤ k = omega (arith, done, same) in
+all_planned {L} {scripts = scripts} {k} {positions} {olds} {nows} {all} so_far past same =
+    let done : length positions ≤ k = omega (arith, past, same) in
     let now : nows ≡ so_far.front = so_far.whole ∙ (ap (λ l. so_far.front ++ l) (drop_all k olds past)
     ∙ append-nil so_far.front) in
     rw now

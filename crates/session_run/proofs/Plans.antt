@@ -6,7 +6,7 @@ use Rattle.std.specs.Prelude.{option_and_then, unwrap_or}
 use Rattle.std.proofs.lemmas.List.{length-map, length-take-le, map-append, take_more}
 use Rattle.std.proofs.lemmas.List.FromFn.{map-range_with_len_more}
 use Rattle.std.specs.Prelude.{fold}
-use Rattle.mtu_packer.specs.Packed.{Contents, packed}
+use Rattle.mtu_packer.specs.Packed.{Contents, packed_contents}
 use Rattle.script_steps.specs.declared.operation.RegOp.{RegOp}
 use Rattle.script_steps.specs.declared.operation.Step.{Step}
 use Rattle.script_steps.specs.declared.operation.Step.TheVariants.{Do, Denied, Dispatch as dispatch_step}
@@ -14,7 +14,7 @@ use Rattle.client_threads.specs.Clients.{AreOfClientsFrom, AreRisingFrom, IsPlan
 use Rattle.client_threads.specs.declared.plan.Dispatch.{Dispatch}
 use Rattle.client_threads.specs.declared.plan.ClientPlan.{ClientPlan}
 use Rattle.script_plans.specs.declared.greeting.Greeting.TheVariants.{Live}
-use Rattle.script_plans.specs.Plan.{ClientBodies, begun, dispatches, no_bodies, plan, planned_on, plans_on}
+use Rattle.script_plans.specs.Plan.{ClientBodies, into_next_dispatch, dispatches, no_bodies, plan, planned_on, plans_on}
 use Rattle.script_plans.specs.Plan.{ops_on, with_dispatch}
 use Rattle.session_run.specs.Plans.{ArePlansOnBoard, AskAllFrom, HasFewBodies, count_at, counts_by_client, ends_in}
 use Rattle.session_run.specs.Plans.{dispatch_over, pair_of, pairs_from, plan_over, plans_over}
@@ -22,7 +22,7 @@ use Rattle.session_run.proofs.Pairs.{bodies_at, pairs_more, pairs_rise}
 
 -- ---- the dispatches of a script
 
-some_begun : (op : RegOp) (ds : List (List RegOp)) → 0 < length ds → length (begun op ds) ≡ length ds
+some_begun : (op : RegOp) (ds : List (List RegOp)) → 0 < length ds → length (into_next_dispatch op ds) ≡ length ds
 some_begun op [] some = absurd (omega (arith, some))
 some_begun op (d ∷ ds) some = refl
 
@@ -63,7 +63,7 @@ folded_counts all (d ∷ ds) n e =
 planned_counts : (position payload : ℕ) (steps : List Step)
     → length (planned_on position (Live payload) steps).counts ≡ length (dispatches steps)
 planned_counts position payload steps =
-    let same = length-map (dispatches steps) (λ (d : List RegOp). packed payload (ops_on position d)) in
+    let same = length-map (dispatches steps) (λ (d : List RegOp). packed_contents payload (ops_on position d)) in
     folded_counts no_bodies (plan payload position steps) 0 refl ∙ omega (arith, same)
 
 abbrev pub dispatch_counts : List (List Step) → List ℕ

@@ -7,25 +7,25 @@ use Rattle.std.proofs.lemmas.Bool.Decides.{nat_tests}
 use Rattle.std.proofs.lemmas.List.{append-nil, take-append-drop, take_more}
 use Rattle.ipb_base.specs.Lists.{IsPrefix}
 use Rattle.lane_record.specs.declared.item.Item.{Item}
-use Rattle.lane_record.specs.Items.{is_sealed, numbers, plan_in, planned}
+use Rattle.lane_record.specs.Items.{is_sealed, numbers, plan_in, planned_count}
 use Rattle.lane_record.specs.NextEntry.{plan_of, the_seal}
 use Rattle.lane_record.proofs.Lookups.{numbers_append, sealed_append}
 use Rattle.hub_lane.specs.Lanes.{LaneState, with_item}
-use Rattle.hub_lane.specs.Calls.{sealed}
+use Rattle.hub_lane.specs.Calls.{with_seal}
 use Rattle.script_steps.specs.declared.operation.Step.{Step}
 use Rattle.script_plans.specs.declared.greeting.Greeting.{Greeting}
 use Rattle.script_plans.specs.Plan.{ClientBodies, planned_on, plans_on}
 use Rattle.lane_record.specs.Dispatches.{all_plans_from, plans_from}
 use Rattle.board_history.proofs.Lists.{begins_at}
 use Rattle.lane_history.specs.Records.{IsPartlyPlanned}
-use Rattle.session_run.specs.Clients.{PlannedSome, bodies_of, with_items}
+use Rattle.session_run.specs.Clients.{PlannedSome, bodies_of_plans, with_items}
 
 -- ---- what Plans are
 
 self : (n : ℕ) → (n == n) ≡ true
 self n = eq-eqb n n refl
 
-pub plans_count : (client seq : ℕ) (bodies : List (List ℕ)) → planned client (plans_from client seq bodies)
+pub plans_count : (client seq : ℕ) (bodies : List (List ℕ)) → planned_count client (plans_from client seq bodies)
     ≡ length bodies
 plans_count client seq [] = refl
 plans_count client seq (b ∷ bs) =
@@ -50,8 +50,8 @@ no_later_plans client from (bs ∷ later) le =
     (no_plans client from 0 bs (grind (arith, nat_tests, le)))
     ∙ no_later_plans client (from + 1) later (omega (arith, le)))
 
-pub planned_plans : (client : ℕ) (items : List Item) (bodies : List (List ℕ)) → planned client items ≡ 0
-    → planned client (items ++ plans_from client 0 bodies) ≡ length bodies
+pub planned_plans : (client : ℕ) (items : List Item) (bodies : List (List ℕ)) → planned_count client items ≡ 0
+    → planned_count client (items ++ plans_from client 0 bodies) ≡ length bodies
 planned_plans client items bodies none =
     let c = plans_count client 0 bodies in
     ap length (numbers_append plan_in client items (plans_from client 0 bodies))
@@ -112,23 +112,23 @@ PlanLaw = (client seq : ℕ) (bodies : List (List ℕ)) (body : List ℕ) → pl
     ≡ plans_from client seq bodies ++ plan_of client (seq + length bodies) body ∷ []
 
 pub plan_more : {L : Type 0} (law : PlanLaw) (before old new : LaneState L) (client k : ℕ) (bodies : List (List ℕ))
-    (body : List ℕ) → planned client before.items ≡ 0
+    (body : List ℕ) → planned_count client before.items ≡ 0
     → old ≡ with_items before (plans_from client 0 (take k bodies)) → k < length bodies → body ≡ get_or bodies k body
-    → new ≡ with_items old (plans_from client (planned client old.items) (body ∷ []))
+    → new ≡ with_items old (plans_from client (planned_count client old.items) (body ∷ []))
     → new ≡ with_items before (plans_from client 0 (take (k + 1) bodies))
 plan_more {L} law before old new client k bodies body none was within is after =
     let front = take k bodies in
     let plans = plans_from client 0 front in
-    let many : planned client old.items ≡ length front =
-    ap (λ (l : LaneState L). planned client l.items) was ∙ planned_plans client before.items front none in
-    let next : planned client old.items ≡ 0 + length front = omega (arith, many) in
-    let one : plans ++ plan_of client (planned client old.items) body ∷ [] ≡ plans_from client 0 (take (k + 1) bodies) =
+    let many : planned_count client old.items ≡ length front =
+    ap (λ (l : LaneState L). planned_count client l.items) was ∙ planned_plans client before.items front none in
+    let next : planned_count client old.items ≡ 0 + length front = omega (arith, many) in
+    let one : plans ++ plan_of client (planned_count client old.items) body ∷ [] ≡ plans_from client 0 (take (k + 1) bodies) =
     ap (λ n. plans ++ plan_of client n body ∷ []) next
     ∙ (sym (law client 0 front body)
     ∙ ap (plans_from client 0) (ap (λ (b : List ℕ). front ++ b ∷ []) is ∙ sym (take_more bodies k body within))) in
-    after ∙ (ap (λ (l : LaneState L). with_items l (plan_of client (planned client old.items) body ∷ [])) was
+    after ∙ (ap (λ (l : LaneState L). with_items l (plan_of client (planned_count client old.items) body ∷ [])) was
     ∙ (ap (λ (items : List Item). record before { items = items })
-    (append_assoc before.items plans (plan_of client (planned client old.items) body ∷ []))
+    (append_assoc before.items plans (plan_of client (planned_count client old.items) body ∷ []))
     ∙ ap (with_items before) one))
 
 plans_append : (client seq : ℕ) (front back : List (List ℕ))
@@ -155,7 +155,7 @@ abbrev pub PartlyAll : Type 0
 PartlyAll = (bodies : List (List (List ℕ))) → IsPartlyPlanned bodies (all_plans_from 1 bodies)
 
 abbrev pub told_bodies : ℕ → Greeting → List (List Step) → List (List (List ℕ))
-told_bodies board told scripts = bodies_of (plans_on board told scripts)
+told_bodies board told scripts = bodies_of_plans (plans_on board told scripts)
 
 bodies_append : (board : ℕ) (told : Greeting) (front back : List (List Step))
     → told_bodies board told (front ++ back) ≡ told_bodies board told front ++ told_bodies board told back
@@ -228,7 +228,7 @@ client_more {L} before old new client bodies here was after who =
 
 pub sealed_last : {L : Type 0} (before old : LaneState L) (bodies : List (List (List ℕ))) → before.items ≡ []
     → old ≡ with_items before (all_plans_from 1 bodies)
-    → sealed old ≡ with_items before (all_plans_from 1 bodies ++ the_seal ∷ [])
+    → with_seal old ≡ with_items before (all_plans_from 1 bodies ++ the_seal ∷ [])
 sealed_last {L} before old bodies none was =
     let unsealed : is_sealed old.items ≡ false = ap is_sealed (unsealed_so_far before old bodies none was)
     ∙ all_unsealed 1 bodies in
@@ -237,8 +237,8 @@ sealed_last {L} before old bodies none was =
     ∙ ap (λ (items : List Item). record before { items = items })
     (append_assoc before.items (all_plans_from 1 bodies) (the_seal ∷ [])))
 
-bodies_of_append : (xs : List ClientBodies) (p : ClientBodies) → bodies_of (xs ++ p ∷ [])
-    ≡ bodies_of xs ++ p.bodies ∷ []
+bodies_of_append : (xs : List ClientBodies) (p : ClientBodies) → bodies_of_plans (xs ++ p ∷ [])
+    ≡ bodies_of_plans xs ++ p.bodies ∷ []
 bodies_of_append [] p = refl
 bodies_of_append (x ∷ xs) p = ap (λ (l : List (List (List ℕ))). x.bodies ∷ l) (bodies_of_append xs p)
 
@@ -246,7 +246,7 @@ bodies_of_append (x ∷ xs) p = ap (λ (l : List (List (List ℕ))). x.bodies �
 pub record PlanningClients {L : Type 0} (board : ℕ) (told : Greeting) (scripts : List (List Step))
     (plans : List ClientBodies) (before now : LaneState L) : Type 0 where
   pub plans' : plans ≡ plans_on board told scripts
-  pub lane' : now ≡ with_items before (all_plans_from 1 (bodies_of plans))
+  pub lane' : now ≡ with_items before (all_plans_from 1 (bodies_of_plans plans))
 
 pub plans_more : (board : ℕ) (told : Greeting) (front : List (List Step)) (s : List Step)
     → plans_on board told (front ++ s ∷ []) ≡ plans_on board told front ++ planned_on board told s ∷ []
@@ -254,55 +254,71 @@ plans_more board told [] s = refl
 plans_more board told (f ∷ front) s = ap (λ (l : List ClientBodies). planned_on board told f ∷ l) (plans_more board
     told front s)
 
-length_of_bodies : (xs : List ClientBodies) → length (bodies_of xs) ≡ length xs
+length_of_bodies : (xs : List ClientBodies) → length (bodies_of_plans xs) ≡ length xs
 length_of_bodies [] = refl
 length_of_bodies (x ∷ xs) = ap suc (length_of_bodies xs)
 
-pub client_planned : {L : Type 0} (board : ℕ) (told : Greeting) (k client : ℕ) (scripts : List (List Step))
-    (steps : List Step) (plans pushed : List ClientBodies) (planned : ClientBodies) (before old new : LaneState L)
-    → PlanningClients board told (take k scripts) plans before old → k < length scripts
-    → steps ≡ get_or scripts k steps → planned ≡ planned_on board told steps → client ≡ length plans + 1
-    → new ≡ with_items old (plans_from client 0 planned.bodies) → pushed ≡ plans ++ planned ∷ []
+-- the client that is planned next, and its plan
+pub record NextClient {L : Type 0} (board : ℕ) (told : Greeting) (k : ℕ) (scripts : List (List Step))
+    (steps : List Step) (plans : List ClientBodies) (planned : ClientBodies) (before old : LaneState L) : Type 0 where
+  pub so_far : PlanningClients board told (take k scripts) plans before old
+  pub within : k < length scripts
+  pub is : steps ≡ get_or scripts k steps
+  pub made : planned ≡ planned_on board told steps
+
+pub next_client : {L : Type 0} {steps slice : List Step} {plans : List ClientBodies} {planned : ClientBodies}
+    {before old : LaneState L} (board : ℕ) (told : Greeting) (k : ℕ) (scripts : List (List Step))
+    → PlanningClients board told (take k scripts) plans before old → k < length scripts → steps ≡ get_or scripts k steps
+    → slice ≡ steps → planned ≡ planned_on board told slice
+    → NextClient board told k scripts steps plans planned before old
+next_client board told k scripts so_far within is same made =
+    record { so_far = so_far; within = within; is = is; made = made ∙ ap (planned_on board told) same }
+
+pub client_planned : {L : Type 0} {board : ℕ} {told : Greeting} {k : ℕ} {scripts : List (List Step)} {steps : List Step}
+    {plans : List ClientBodies} {planned : ClientBodies} {before old : LaneState L} (client : ℕ)
+    (here : List (List ℕ)) (pushed : List ClientBodies) (new : LaneState L)
+    → NextClient board told k scripts steps plans planned before old → here ≡ planned.bodies
+    → client ≡ length plans + 1 → new ≡ with_items old (plans_from client 0 here) → pushed ≡ plans ++ planned ∷ []
     → PlanningClients board told (take (k + 1) scripts) pushed before new
-client_planned {L} board told k client scripts steps plans pushed planned before old new so_far within is made who after
-    push =
+client_planned {L} {board} {told} {k} {scripts} {steps} {plans} {planned} {before} {old} client here pushed new next
+    bodies who after push =
     let few = length_of_bodies plans in
+    let so_far = next.so_far in
     record {
       plans' = push ∙ (ap (λ (l : List ClientBodies). l ++ planned ∷ []) so_far.plans'
-          ∙ (ap (λ (p : ClientBodies). plans_on board told (take k scripts) ++ p ∷ []) made
+          ∙ (ap (λ (p : ClientBodies). plans_on board told (take k scripts) ++ p ∷ []) next.made
           ∙ (sym (plans_more board told (take k scripts) steps)
-          ∙ ap (plans_on board told) (ap (λ (s : List Step). take k scripts ++ s ∷ []) is
-          ∙ sym (take_more scripts k steps within)))));
-      lane' = client_more before old new client (bodies_of plans) planned.bodies so_far.lane' after
+          ∙ ap (plans_on board told) (ap (λ (s : List Step). take k scripts ++ s ∷ []) next.is
+          ∙ sym (take_more scripts k steps next.within)))));
+      lane' = client_more before old new client (bodies_of_plans plans) planned.bodies so_far.lane'
+          (after ∙ ap (λ (bs : List (List ℕ)). with_items old (plans_from client 0 bs)) bodies)
           (omega (arith, who, few))
           ∙ ap (λ (bs : List (List (List ℕ))). with_items before (all_plans_from 1 bs))
-          (sym (bodies_of_append plans planned) ∙ ap bodies_of (sym push));
+          (sym (bodies_of_append plans planned) ∙ ap bodies_of_plans (sym push));
     }
 
 pub no_plans_yet : (items : List Item) (plans : List ClientBodies) (client : ℕ)
-    → items ≡ all_plans_from 1 (bodies_of plans) → client ≡ length plans + 1 → planned client items ≡ 0
+    → items ≡ all_plans_from 1 (bodies_of_plans plans) → client ≡ length plans + 1 → planned_count client items ≡ 0
 no_plans_yet items plans client is who =
     let few = length_of_bodies plans in
-    ap (planned client) is ∙ ap length (no_later_plans client 1 (bodies_of plans) (omega (arith, who, few)))
+    ap (planned_count client) is ∙ ap length (no_later_plans client 1 (bodies_of_plans plans) (omega (arith, who, few)))
 
-pub partly_stopped : {L : Type 0} → PartlyFront → PartlyAll → (board : ℕ) (told : Greeting) (k client : ℕ)
-    (scripts : List (List Step)) (steps asked' : List Step) (plans : List ClientBodies) (planned : ClientBodies)
-    (here : List (List ℕ)) (before old new : LaneState L)
-    → PlanningClients board told (take k scripts) plans before old → before.items ≡ [] → k < length scripts
-    → steps ≡ get_or scripts k steps → asked' ≡ steps → planned ≡ planned_on board told asked' → here ≡ planned.bodies
+pub partly_stopped : {L : Type 0} {board : ℕ} {told : Greeting} {k : ℕ} {scripts : List (List Step)} {steps : List Step}
+    {plans : List ClientBodies} {planned : ClientBodies} {before old : LaneState L} → PartlyFront → PartlyAll
+    → (client : ℕ) (here : List (List ℕ)) (new : LaneState L)
+    → NextClient board told k scripts steps plans planned before old → before.items ≡ [] → here ≡ planned.bodies
     → client ≡ length plans + 1 → PlannedSome client here old new
     → IsPartlyPlanned (told_bodies board told scripts) new.items
-partly_stopped {L} front all board told k client scripts steps asked' plans planned here before old new so_far none
-    within
-    is same made bodies who some =
+partly_stopped {L} {board} {told} {k} {scripts} {steps} {plans} {planned} {before} {old} front all client here new next
+    none bodies who some =
     let firsts = take k scripts in
-    let began = unsealed_so_far before old (bodies_of plans) none so_far.lane'
-    ∙ ap (λ (p : List ClientBodies). all_plans_from 1 (bodies_of p)) so_far.plans' in
+    let so_far = next.so_far in
+    let began = unsealed_so_far before old (bodies_of_plans plans) none so_far.lane'
+    ∙ ap (λ (p : List ClientBodies). all_plans_from 1 (bodies_of_plans p)) so_far.plans' in
     let many : length plans ≡ length firsts = sym (length_of_bodies plans)
-    ∙ (ap (λ (p : List ClientBodies). length (bodies_of p)) so_far.plans' ∙ length_bodies board told firsts) in
-    let asked_bodies : here ≡ (planned_on board told steps).bodies = bodies
-    ∙ (ap (λ (p : ClientBodies). p.bodies) made ∙ ap (λ (s : List Step). (planned_on board told s).bodies) same) in
+    ∙ (ap (λ (p : List ClientBodies). length (bodies_of_plans p)) so_far.plans' ∙ length_bodies board told firsts) in
     partly_within front all board told k client scripts steps new.items some.front
-    (begins_at scripts k steps within is) (omega (arith, who, many))
-    (subst (λ (bs : List (List ℕ)). IsPrefix some.front (plans_from client 0 bs)) asked_bodies some.is_front)
+    (begins_at scripts k steps next.within next.is) (omega (arith, who, many))
+    (subst (λ (bs : List (List ℕ)). IsPrefix some.front (plans_from client 0 bs))
+    (bodies ∙ ap (λ (p : ClientBodies). p.bodies) next.made) some.is_front)
     (ap (λ (l : LaneState L). l.items) some.became ∙ ap (λ (l : List Item). l ++ some.front) began)

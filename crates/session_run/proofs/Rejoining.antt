@@ -1,5 +1,5 @@
 -- Boards put together again, and what came of each.
-use Rattle.std.proofs.Common.{◌≡◌, ◌⊎◌, inl, inr, ℕ, suc, ◌+◌, ◌≤◌, List, [], ◌∷◌, length, map, Option}
+use Rattle.std.proofs.Common.{◌≡◌, ◌∙◌, ◌⊎◌, inl, inr, ℕ, suc, ◌+◌, ◌≤◌, List, [], ◌∷◌, length, map, Option}
 use Rattle.std.proofs.Common.{refl, sym, ap, subst, arith}
 use Rattle.std.specs.List.{AllByRecursion}
 use Rattle.ipb_base.specs.Numbers.{payload_of}
@@ -19,9 +19,10 @@ use Rattle.lane_history.specs.Links.{LinkReport}
 use Rattle.lane_history.specs.Records.{IsPartlyPlanned}
 use Rattle.board_greeting.specs.Boards.{AreReached, HasMemory, IsReached}
 use Rattle.board_greeting.specs.Reports.{shown_by}
-use Rattle.session_run.specs.Clients.{bodies_of}
+use Rattle.session_run.specs.Clients.{bodies_of_plans}
 use Rattle.session_run.specs.Lanes.{AllThree, HasGoneOn, IsRunOn, IsStoppedLane}
-use Rattle.board_greeting.specs.Places.{HaveLanes, lanes_in, place_of, positions_from, rejoined}
+use Rattle.board_greeting.specs.Places.{IsApart, lanes_in, place_of, positions_from, boards_in_order}
+use Rattle.board_greeting.specs.declared.split.Split.{Split}
 use Rattle.session_run.specs.Places.{AreCameOf}
 use Rattle.board_greeting.proofs.Lanes.{lane_back}
 
@@ -62,25 +63,20 @@ stopped {L} tells shows settings scripts position spec old new reached same_link
       settings' = to.settings';
       board' = to.board';
       some = subst (λ (s : BoardStatus). IsPartlyPlanned
-          (bodies_of (plans_on position (greeting.Live (payload_of s.mtu)) scripts)) new.items) (sym status) gone.some;
+          (bodies_of_plans (plans_on position (greeting.Live (payload_of s.mtu)) scripts)) new.items) (sym status) gone.some;
     }
 
--- ---- every board
+-- the lanes of boards that were taken apart, with the positions beside them
+pub gone_apart : {L : Type 0} {boards : List (Greeted L)} {split : Split L} {positions : List ℕ}
+    (tells : L → Option Telling) (scripts : List (List Step)) (news : List (LaneState L)) → IsApart boards split
+    → positions ≡ split.positions.items → AllThree (HasGoneOn tells scripts) positions split.lanes.items news
+    → AllThree (HasGoneOn tells scripts) (positions_from 0 boards) (lanes_in boards) news
+gone_apart {L} {boards} {split} tells scripts news apart beside gone =
+    subst (λ (l : List (LaneState L)). AllThree (HasGoneOn tells scripts) (positions_from 0 boards) l news) apart.lanes'
+    (subst (λ (l : List ℕ). AllThree (HasGoneOn tells scripts) l split.lanes.items news) (beside ∙ apart.positions')
+    gone)
 
-pub have_lanes : {L : Type 0} (tells : L → Option Telling) (scripts : List (List Step)) (position : ℕ)
-    (boards : List (Greeted L)) (news : List (LaneState L))
-    → AllThree (HasGoneOn tells scripts) (positions_from position boards) (lanes_in boards) news
-    → HaveLanes (map place_of boards) news
-have_lanes tells scripts position [] news gone = tt
-have_lanes tells scripts position (Ready lane ∷ boards) [] gone = absurd gone
-have_lanes tells scripts position (Ready lane ∷ boards) (n ∷ news) gone =
-    have_lanes tells scripts (position + 1) boards news gone.1
-have_lanes tells scripts position (Silent link rounds ∷ boards) news gone =
-    have_lanes tells scripts (position + 1) boards news gone
-have_lanes tells scripts position (Down link ∷ boards) news gone =
-    have_lanes tells scripts (position + 1) boards news gone
-have_lanes tells scripts position (NoMemory link ∷ boards) news gone =
-    have_lanes tells scripts (position + 1) boards news gone
+-- ---- every board
 
 -- where clients ran to their end there are parts for each lane; elsewhere none
 abbrev pub HaveParts : {L : Type 0} → List (List Step) → List ℕ → List (LaneState L) → List (List ClientPart) → Type 0
@@ -92,7 +88,7 @@ none_came : {L : Type 0} (seen : Ghosts L) (settings : Limits) (scripts : List (
     → AreReached (shown_by seen) settings specs boards
     → AllThree (HasGoneOn seen.telling scripts) (positions_from position boards) (lanes_in boards) news
     → AreCameOf (shown_by seen) settings scripts position specs
-    (rejoined (map place_of boards) news [])
+    (boards_in_order (map place_of boards) news [])
 none_came seen settings scripts position [] [] news long memory are gone = tt
 none_came seen settings scripts position [] (b ∷ boards) news long memory are gone = absurd cc
 none_came seen settings scripts position (s ∷ specs) [] news long memory are gone = absurd cc
@@ -123,7 +119,7 @@ all_came : {L : Type 0} (seen : Ghosts L) (settings : Limits) (scripts : List (L
     → AllThree (HasGoneOn seen.telling scripts) (positions_from position boards) (lanes_in boards) news
     → AllThree (IsRunOn scripts) (positions_from position boards) news parts
     → AreCameOf (shown_by seen) settings scripts position specs
-    (rejoined (map place_of boards) news parts)
+    (boards_in_order (map place_of boards) news parts)
 all_came seen settings scripts position [] [] news parts long memory are gone ran = tt
 all_came seen settings scripts position [] (b ∷ boards) news parts long memory are gone ran =
     absurd cc
@@ -172,7 +168,7 @@ pub boards_came : {L : Type 0} (seen : Ghosts L) (settings : Limits) (scripts : 
     → AllThree (HasGoneOn seen.telling scripts) (positions_from 0 boards) (lanes_in boards) news
     → HaveParts scripts (positions_from 0 boards) news parts
     → AreCameOf (shown_by seen) settings scripts 0 specs
-    (rejoined (map place_of boards) news parts)
+    (boards_in_order (map place_of boards) news parts)
 boards_came seen settings scripts specs boards news parts long memory are gone (inl none) =
     rw none (none_came seen settings scripts 0 specs boards news long memory are gone)
 boards_came seen settings scripts specs boards news parts long memory are gone (inr ran) =

@@ -4,6 +4,10 @@ use Rattle.std.proofs.Common.{refl, sym, ap, ◌∙◌, arith, take, drop, get_o
 use Rattle.std.specs.List.{AllByRecursion}
 use Rattle.std.proofs.lemmas.List.{drop_more, take-append-drop}
 use Rattle.std.proofs.lemmas.List.Sums.{sum_by-append, sum_by-cons}
+use Rattle.ipb_base.specs.Numbers.{payload_of}
+use Rattle.world_model.specs.Hub.{Hub}
+use Rattle.world_model.specs.Settings.{Limits}
+use Rattle.hub_lane.specs.Lanes.{BoardStatus, KnowsBoard}
 use Rattle.transaction_codec.specs.Answer.{reply_room}
 use Rattle.transaction_codec.specs.Request.{op_count}
 use Rattle.mtu_packer.specs.Packed.{words_with_answer}
@@ -17,7 +21,7 @@ use Rattle.script_plans.specs.declared.greeting.Greeting.{Greeting}
 use Rattle.script_plans.specs.declared.greeting.Greeting.TheVariants.{Live}
 use Rattle.script_plans.specs.Plan.{ClientBodies, all_bodies, planned_on, plans_on}
 use Rattle.lane_record.specs.Dispatches.{all_plans_from, plans_from}
-use Rattle.session_run.specs.Clients.{bodies_of}
+use Rattle.session_run.specs.Clients.{bodies_of_plans}
 use Rattle.session_run.specs.Room.{HasRoomFor}
 
 -- ---- what is planned already
@@ -55,26 +59,26 @@ words_planned client seq (b ∷ bs) =
     omega (arith, rest, sum_by-cons words_with_answer b bs)
 
 all_bodies_planned : (from : ℕ) (plans : List ClientBodies)
-    → planned_bodies (all_plans_from from (bodies_of plans)) ≡ length (all_bodies plans)
+    → planned_bodies (all_plans_from from (bodies_of_plans plans)) ≡ length (all_bodies plans)
 all_bodies_planned from [] = refl
 all_bodies_planned from (p ∷ plans) =
     omega (
       arith,
       all_bodies_planned (from + 1) plans,
       bodies_planned from 0 p.bodies,
-      bodies_append (plans_from from 0 p.bodies) (all_plans_from (from + 1) (bodies_of plans)),
+      bodies_append (plans_from from 0 p.bodies) (all_plans_from (from + 1) (bodies_of_plans plans)),
       length-append p.bodies (all_bodies plans),
     )
 
 all_words_planned : (from : ℕ) (plans : List ClientBodies)
-    → planned_words (all_plans_from from (bodies_of plans)) ≡ sum_by words_with_answer (all_bodies plans)
+    → planned_words (all_plans_from from (bodies_of_plans plans)) ≡ sum_by words_with_answer (all_bodies plans)
 all_words_planned from [] = refl
 all_words_planned from (p ∷ plans) =
     omega (
       arith,
       all_words_planned (from + 1) plans,
       words_planned from 0 p.bodies,
-      words_append (plans_from from 0 p.bodies) (all_plans_from (from + 1) (bodies_of plans)),
+      words_append (plans_from from 0 p.bodies) (all_plans_from (from + 1) (bodies_of_plans plans)),
       sum_by-append words_with_answer p.bodies (all_bodies plans),
     )
 
@@ -123,6 +127,12 @@ room_for_next items client i bodies body room within is =
 
 -- ---- client by client
 
+-- what a board told is within the limits of packets
+pub payload_within : {settings : Limits} {status : BoardStatus} {hub : Hub} (payload : ℕ)
+    → KnowsBoard settings status hub → payload ≡ payload_of status.mtu → (16 ≤ payload) × (payload ≤ 2243)
+payload_within payload knows is =
+    let mtu = knows.mtu in (omega (arith, is, mtu.0), omega (arith, is, mtu.1))
+
 -- what transcript promises of the bodies on one board
 abbrev pub FewBodies : Type 0
 FewBodies = (payload board : ℕ) (scripts : List (List Step)) → 16 ≤ payload → payload ≤ 2243
@@ -148,7 +158,7 @@ pub room_for_client : FewBodies → ShortBodies → (payload board k : ℕ) (scr
     (items : List Item) (plans : List ClientBodies) → 16 ≤ payload → payload ≤ 2243
     → AllByRecursion AreExecutable scripts → AreWithinLimits scripts → k < length scripts
     → steps ≡ get_or scripts k steps → plans ≡ plans_on board (Live payload) (take k scripts)
-    → items ≡ all_plans_from 1 (bodies_of plans) → HasRoomFor items (planned_on board (Live payload) steps).bodies
+    → items ≡ all_plans_from 1 (bodies_of_plans plans) → HasRoomFor items (planned_on board (Live payload) steps).bodies
 room_for_client few_law short_law payload board k scripts steps items plans low high can limits within is so_far are =
     let told = Live payload in
     let front = all_bodies (plans_on board told (take k scripts)) in

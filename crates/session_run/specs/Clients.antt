@@ -3,7 +3,7 @@ use Rattle.std.specs.Prelude.{◌≡◌, ℕ, List, ◌++◌, length, map, sum, 
 use Rattle.ipb_base.specs.Lists.{IsPrefix}
 use Rattle.world_core.specs.Telling.{Telling}
 use Rattle.lane_record.specs.declared.item.Item.{Item}
-use Rattle.lane_record.specs.Dispatches.{joined, plans_from}
+use Rattle.lane_record.specs.Dispatches.{outcomes_in_order, plans_from}
 use Rattle.hub_lane.specs.Lanes.{LaneState, board_of}
 use Rattle.board_history.specs.History.{dispatches_of}
 use Rattle.script_plans.specs.declared.board_run.ClientPart.{ClientPart}
@@ -34,12 +34,12 @@ abbrev pub HasItsCounts : ClientBodies → Type 0
 HasItsCounts plan = sum plan.counts ≡ length plan.bodies
 
 -- the bodies of each plan
-abbrev pub bodies_of : List ClientBodies → List (List (List ℕ))
-bodies_of plans = map (λ (p : ClientBodies). p.bodies) plans
+abbrev pub bodies_of_plans : List ClientBodies → List (List (List ℕ))
+bodies_of_plans plans = map (λ (p : ClientBodies). p.bodies) plans
 
 -- ---- parts
 
 -- what became of each body of a client stands in its part, dispatch by dispatch
 pub record IsWholePart (part : ClientPart) : Type 0 where
   pub each : length part.outcomes ≡ length part.planned.bodies
-  pub cut : joined (dispatches_of part) ≡ part.outcomes
+  pub cut : outcomes_in_order (dispatches_of part) ≡ part.outcomes

@@ -4,7 +4,7 @@ use Rattle.world_core.specs.Telling.{Telling}
 use Rattle.turn_pass.specs.Pass.{first_knowledge}
 use Rattle.hub_lane.specs.Lanes.{LaneState}
 use Rattle.hub_multiplexer.specs.Ends.{AreEnded}
-use Rattle.hub_multiplexer.specs.Lanes.{shown}
+use Rattle.hub_multiplexer.specs.Lanes.{shown_record}
 use Rattle.hub_multiplexer.specs.Seats.{MasterState}
 use Rattle.client_history.specs.Clients.{AskAll, sealed_plans}
 use Rattle.client_threads.specs.Clients.{HaveRun, WereTakenIn}
@@ -21,8 +21,8 @@ pub record HoldsAll {L : Type 0} (clients : List ClientPlan) (number : ℕ) (lan
 pub record AtHub {L : Type 0} (tells : L → Option Telling) (olds news : List (LaneState L)) : Type 0 where
   pub before : MasterState
   pub after : MasterState
-  pub opened : before.knows ≡ map first_knowledge (map (shown tells) olds)
-  pub ended : AreEnded after.knows (map (shown tells) news)
+  pub opened : before.knows ≡ map first_knowledge (map (shown_record tells) olds)
+  pub ended : AreEnded after.knows (map (shown_record tells) news)
 
 -- some clients, the first ones, were given seats and were taken in
 pub record WereAtHub {L : Type 0} (tells : L → Option Telling) (clients : List ClientPlan)
@@ -40,4 +40,4 @@ pub record RanAtHub {L : Type 0} (tells : L → Option Telling) (clients : List 
 abbrev pub CameBack : {L : Type 0} → (L → Option Telling) → List ClientPlan → List (LaneState L) → List (LaneState L)
     → Type 0
 CameBack tells clients olds news =
-    (map (shown tells) news ≡ map (shown tells) olds) ⊎ WereAtHub tells clients olds news
+    (map (shown_record tells) news ≡ map (shown_record tells) olds) ⊎ WereAtHub tells clients olds news

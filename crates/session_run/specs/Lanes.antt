@@ -16,7 +16,7 @@ use Rattle.board_history.specs.History.{dispatches_of}
 use Rattle.lane_history.specs.Records.{IsClientsRecord, IsPartlyPlanned}
 use Rattle.session_run.specs.Plans.{HasFewBodies}
 use Rattle.board_greeting.specs.Boards.{IsKnownAs, head_shown}
-use Rattle.session_run.specs.Clients.{IsWholePart, bodies_of, with_items}
+use Rattle.session_run.specs.Clients.{IsWholePart, bodies_of_plans, with_items}
 
 -- ---- side by side
 
@@ -43,13 +43,13 @@ pub record IsPlannedOn {L : Type 0} (scripts : List (List Step)) (position : ℕ
     (planned : List ClientBodies) : Type 0 where
   pub plans : planned ≡ plans_over scripts position old
   pub few : AllByRecursion HasFewBodies planned
-  pub lane' : new ≡ with_items old (sealed_plans (bodies_of planned))
+  pub lane' : new ≡ with_items old (sealed_plans (bodies_of_plans planned))
 
 -- The lane has the head of its record, and entries of the clients whose scripts these are, whatever they had come to.
 pub record HasGoneOn {L : Type 0} (tells : L → Option Telling) (scripts : List (List Step)) (position : ℕ)
     (old new : LaneState L) : Type 0 where
   pub head : head_shown tells new ≡ head_shown tells old
-  pub some : IsPartlyPlanned (bodies_of (plans_over scripts position old)) new.items
+  pub some : IsPartlyPlanned (bodies_of_plans (plans_over scripts position old)) new.items
 
 -- ---- at the end
 
@@ -65,4 +65,4 @@ pub record IsStoppedLane {L : Type 0} (settings : Limits) (scripts : List (List 
     (spec : BoardSpec) (telling : Option Telling) (lane : LaneState L) : Type 0 where
   pub settings' : lane.settings ≡ settings
   pub board' : IsKnownAs spec.link lane.status (opening_of telling)
-  pub some : IsPartlyPlanned (bodies_of (plans_over scripts position lane)) lane.items
+  pub some : IsPartlyPlanned (bodies_of_plans (plans_over scripts position lane)) lane.items

@@ -1,7 +1,7 @@
 //! Laws of the links that a session leaves. These functions do nothing when they run: their clauses are what is proved.
 
 ghost use Rattle.std.specs.Prelude.{ℕ, List, IfSome};
-ghost use Rattle.world_model.specs.Board.{executed};
+ghost use Rattle.world_model.specs.Board.{bodies_executed};
 ghost use Rattle.world_model.specs.Settings.{Limits};
 ghost use Rattle.board_node.specs.declared.spec.BoardSpec.{BoardSpec};
 ghost use Rattle.script_steps.specs.declared.operation.Step.{Step};
@@ -19,7 +19,7 @@ use world_core::laws::each_event_leads_to_a_state_of_a_run;
 pub fn a_board_left_executed_a_merge()
     ensures { (spec : BoardSpec) (board : ℕ) (scripts : List (List Step)) (link : LinkReport) →
         IsLeft spec board scripts link →
-        IfSome (board_there link.telling) (λ there. IsMergeOfAsked spec board scripts (executed there)) }
+        IfSome (board_there link.telling) (λ there. IsMergeOfAsked spec board scripts (bodies_executed there)) }
 {
     a_lane_over_a_link_that_tells_is_true();
     a_lane_sends_a_merge_at_any_moment();

@@ -4,7 +4,7 @@ ghost use Rattle.std.specs.Prelude.{◌≡◌, ◌≤◌, ◌++◌, ◌∷◌, [
 ghost use Rattle.std.specs.List.{AllByRecursion};
 ghost use Rattle.ipb_base.specs.Numbers.{payload_of};
 ghost use Rattle.mtu_packer.specs.Packed.{FitsPackets};
-ghost use Rattle.lane_record.specs.Items.{is_sealed, planned};
+ghost use Rattle.lane_record.specs.Items.{is_sealed, planned_count};
 ghost use Rattle.lane_record.specs.NextEntry.{the_seal};
 ghost use Rattle.script_plans.specs.declared.greeting.Greeting.TheVariants.{Live};
 ghost use Rattle.script_plans.specs.Plan.{plans_on};
@@ -12,7 +12,7 @@ ghost use Rattle.lane_record.specs.Dispatches.{all_plans_from, plans_from};
 ghost use Rattle.lane_history.specs.Records.{IsPartlyPlanned};
 ghost use Rattle.session_run.specs.Scripts.{CanBeRun};
 ghost use Rattle.session_run.specs.Plans.{HasFewBodies};
-ghost use Rattle.session_run.specs.Clients.{KeepsLane, PlannedSome, bodies_of, with_items};
+ghost use Rattle.session_run.specs.Clients.{KeepsLane, PlannedSome, bodies_of_plans, with_items};
 ghost use Rattle.session_run.specs.Room.{HasRoomFor};
 
 use hub_lane::{Lane, PlanRefusal};
@@ -38,7 +38,7 @@ fn plan_body<L: Link>(
     requires fits { FitsPackets (payload_of lane.old.status.mtu) body.now }
     requires room { HasRoomFor lane.old.items (body.now ∷ []) }
     ensures planned { OnOk result (lane.new
-        ≡ with_items lane.old (plans_from client (planned client lane.old.items) (body.now ∷ []))) }
+        ≡ with_items lane.old (plans_from client (planned_count client lane.old.items) (body.now ∷ []))) }
     ensures unchanged { OnErr result (lane.new ≡ lane.old) }
 {
     lane.is_sound();
@@ -65,7 +65,7 @@ fn plan_bodies<L: Link>(
 ) -> Result<(), NoMemory>
     requires client { 1 ≤ client }
     requires unsealed { is_sealed lane.old.items ≡ false }
-    requires none { planned client lane.old.items ≡ 0 }
+    requires none { planned_count client lane.old.items ≡ 0 }
     requires fit { AllByRecursion (FitsPackets (payload_of lane.old.status.mtu)) bodies.now }
     requires room { HasRoomFor lane.old.items bodies.now }
     ensures planned { OnOk result (lane.new ≡ with_items lane.old (plans_from client 0 bodies.now)) }
@@ -92,8 +92,8 @@ pub(crate) fn plan_clients<L: Link>(
         ≡ plans_on position (Live (payload_of lane.old.status.mtu)) scripts.now) }
     ensures few { IfOk result (λ plans. AllByRecursion HasFewBodies plans.items) }
     ensures planned { IfOk result (λ plans. lane.new
-        ≡ with_items lane.old (all_plans_from 1 (bodies_of plans.items) ++ the_seal ∷ [])) }
-    ensures some { IsPartlyPlanned (bodies_of (plans_on position (Live (payload_of lane.old.status.mtu)) scripts.now))
+        ≡ with_items lane.old (all_plans_from 1 (bodies_of_plans plans.items) ++ the_seal ∷ [])) }
+    ensures some { IsPartlyPlanned (bodies_of_plans (plans_on position (Live (payload_of lane.old.status.mtu)) scripts.now))
         lane.new.items }
     ensures keeps { KeepsLane lane.old lane.new (L.telling lane.old.link) (L.telling lane.new.link) }
 {

@@ -22,7 +22,7 @@ use Rattle.hub_lane.specs.Lanes.{BoardStatus, LaneState, opening_of}
 use Rattle.hub_lane.specs.Records.{record_shown}
 use Rattle.hub_lane.specs.declared.answers.BoardState.{BoardState}
 use Rattle.hub_multiplexer.specs.Ends.{AreEnded, Ends}
-use Rattle.hub_multiplexer.specs.Lanes.{shown}
+use Rattle.hub_multiplexer.specs.Lanes.{shown_record}
 use Rattle.hub_multiplexer.specs.OwnItems.{planned_by}
 use Rattle.hub_multiplexer.specs.Seats.{MasterState, SeatState}
 use Rattle.client_threads.specs.Clients.{TookIn}
@@ -55,7 +55,7 @@ use Rattle.session_serve.proofs.Rules.{all_by_rules, all_filled_before, all_plan
 -- ---- before
 
 pub opens_all : {L : Type 0} (tells : L → Option Telling) (lanes : List (LaneState L)) → AllByRecursion HasNoEntry lanes
-    → AllByRecursion IsOpen (map first_knowledge (map (shown tells) lanes))
+    → AllByRecursion IsOpen (map first_knowledge (map (shown_record tells) lanes))
 opens_all tells [] unused = tt
 opens_all tells (lane ∷ lanes) unused = (
   record {
@@ -75,7 +75,7 @@ TellsLaw = (settings other_settings : Limits) (status other_status : BoardStatus
     → (settings ≡ other_settings) × (status ≡ other_status) × (opening_of telling ≡ opening_of other_telling)
     × (items ≡ other_items)
 
-same_head : {L : Type 0} → TellsLaw → (tells : L → Option Telling) (m n : LaneState L) → shown tells n ≡ shown tells m
+same_head : {L : Type 0} → TellsLaw → (tells : L → Option Telling) (m n : LaneState L) → shown_record tells n ≡ shown_record tells m
     → KeepsHead tells m n
 same_head law tells m n is =
     let told = law n.settings m.settings n.status m.status (tells n.link) (tells m.link) n.items m.items is in
@@ -85,29 +85,29 @@ same_head law tells m n is =
     cc
 
 pub shown_at : {L : Type 0} (tells : L → Option Telling) (ms ns : List (LaneState L)) (i : ℕ) (m n : LaneState L)
-    → map (shown tells) ns ≡ map (shown tells) ms → slice_get ms i ≡ Some m → slice_get ns i ≡ Some n
-    → shown tells n ≡ shown tells m
+    → map (shown_record tells) ns ≡ map (shown_record tells) ms → slice_get ms i ≡ Some m → slice_get ns i ≡ Some n
+    → shown_record tells n ≡ shown_record tells m
 shown_at tells [] ns i m n is em en = absurd (none-some m em)
 shown_at tells (x ∷ ms) [] i m n is em en = absurd (none-some n en)
 shown_at tells (x ∷ ms) (y ∷ ns) zero m n is em en =
-    let head : shown tells y ≡ shown tells x = cc in
-    ap (shown tells) (sym (same_Some y n en)) ∙ (head ∙ ap (shown tells) (same_Some x m em))
+    let head : shown_record tells y ≡ shown_record tells x = cc in
+    ap (shown_record tells) (sym (same_Some y n en)) ∙ (head ∙ ap (shown_record tells) (same_Some x m em))
 shown_at tells (x ∷ ms) (y ∷ ns) (suc i) m n is em en =
-    let tail : map (shown tells) ns ≡ map (shown tells) ms = cc in shown_at tells ms ns i m n tail em en
+    let tail : map (shown_record tells) ns ≡ map (shown_record tells) ms = cc in shown_at tells ms ns i m n tail em en
 
 -- the entries of a lane are told by what is shown of it
 pub same_items : {L : Type 0} → TellsLaw → (tells : L → Option Telling) (m n : LaneState L)
-    → shown tells n ≡ shown tells m → n.items ≡ m.items
+    → shown_record tells n ≡ shown_record tells m → n.items ≡ m.items
 same_items law tells m n is =
     (law n.settings m.settings n.status m.status (tells n.link) (tells m.link) n.items m.items is).3
 
 pub returned_long : {L : Type 0} (tells : L → Option Telling) (olds news : List (LaneState L))
-    → map (shown tells) news ≡ map (shown tells) olds → length news ≡ length olds
+    → map (shown_record tells) news ≡ map (shown_record tells) olds → length news ≡ length olds
 returned_long tells olds news is =
-    sym (length-map news (shown tells)) ∙ (ap (λ (l : List Record). length l) is ∙ length-map olds (shown tells))
+    sym (length-map news (shown_record tells)) ∙ (ap (λ (l : List Record). length l) is ∙ length-map olds (shown_record tells))
 
 pub heads_returned : {L : Type 0} → TellsLaw → (tells : L → Option Telling) (olds news : List (LaneState L))
-    → map (shown tells) news ≡ map (shown tells) olds → AtEach olds news (λ lane. KeepsHead tells)
+    → map (shown_record tells) news ≡ map (shown_record tells) olds → AtEach olds news (λ lane. KeepsHead tells)
 heads_returned law tells olds news is = record {
   long = returned_long tells olds news is;
   each = λ i m n em en. same_head law tells m n (shown_at tells olds news i m n is em en);
@@ -127,9 +127,9 @@ pub record LaneBack {L : Type 0} (tells : L → Option Telling) (lane : ℕ) (se
     (old new : LaneState L) : Type 0 where
   pub after : Knowledge
   pub passes : List Joined
-  pub took : TookIn passes (first_knowledge (shown tells old)) after
+  pub took : TookIn passes (first_knowledge (shown_record tells old)) after
   pub of_seats : ArePassesOn lane seats passes
-  pub ended : Ends after (shown tells new)
+  pub ended : Ends after (shown_record tells new)
 
 map_at : {A B : Type 0} (f : A → B) (xs : List A) (i : ℕ) (x : A) → slice_get xs i ≡ Some x
     → slice_get (map f xs) i ≡ Some (f x)
@@ -146,29 +146,29 @@ zip_at P (a ∷ xs) (b ∷ ys) zero x y all ex ey =
 zip_at P (a ∷ xs) (b ∷ ys) (suc i) x y all ex ey = zip_at P xs ys i x y all.1 ex ey
 
 pub ended_long : {L : Type 0} (tells : L → Option Telling) (olds news : List (LaneState L)) (seats : List SeatState)
-    (m end' : MasterState) → m.knows ≡ map first_knowledge (map (shown tells) olds)
-    → AreTakenIn (with_seats m (length seats)) end' seats → AreEnded end'.knows (map (shown tells) news)
+    (m end' : MasterState) → m.knows ≡ map first_knowledge (map (shown_record tells) olds)
+    → AreTakenIn (with_seats m (length seats)) end' seats → AreEnded end'.knows (map (shown_record tells) news)
     → length news ≡ length olds
 ended_long tells olds news seats m end' opened taken ended =
-    let a = zip_long Ends end'.knows (map (shown tells) news) ended in
-    let b = length-map news (shown tells) in
+    let a = zip_long Ends end'.knows (map (shown_record tells) news) ended in
+    let b = length-map news (shown_record tells) in
     let c = taken.lanes.long in
     let d = length-map m.knows (made_more (length seats)) in
     let e = ap (λ (l : List Knowledge). length l) opened in
-    let f = length-map (map (shown tells) olds) first_knowledge in
-    let h = length-map olds (shown tells) in
+    let f = length-map (map (shown_record tells) olds) first_knowledge in
+    let h = length-map olds (shown_record tells) in
     omega (arith, a, b, c, d, e, f, h)
 
 pub lane_at : {L : Type 0} (tells : L → Option Telling) (olds news : List (LaneState L)) (seats : List SeatState)
     (m end' : MasterState) (lane : ℕ) (old new : LaneState L)
-    → m.knows ≡ map first_knowledge (map (shown tells) olds)
-    → AreTakenIn (with_seats m (length seats)) end' seats → AreEnded end'.knows (map (shown tells) news)
+    → m.knows ≡ map first_knowledge (map (shown_record tells) olds)
+    → AreTakenIn (with_seats m (length seats)) end' seats → AreEnded end'.knows (map (shown_record tells) news)
     → slice_get olds lane ≡ Some old → slice_get news lane ≡ Some new → LaneBack tells lane seats old new
 lane_at tells olds news seats m end' lane old new opened taken ended eo en =
-    let first = first_knowledge (shown tells old) in
+    let first = first_knowledge (shown_record tells old) in
     let started = with_seats m (length seats) in
     let at_first : slice_get m.knows lane ≡ Some first = ap (λ (l : List Knowledge). slice_get l lane) opened
-    ∙ map_at first_knowledge (map (shown tells) olds) lane (shown tells old) (map_at (shown tells) olds lane old eo) in
+    ∙ map_at first_knowledge (map (shown_record tells) olds) lane (shown_record tells old) (map_at (shown_record tells) olds lane old eo) in
     let at_start : slice_get started.knows lane ≡ Some (made_more (length seats) first) =
     map_at (made_more (length seats)) m.knows lane first at_first in
     let after = there started.knows end'.knows lane (made_more (length seats) first) taken.lanes.long at_start in
@@ -186,8 +186,8 @@ lane_at tells olds news seats m end' lane old new opened taken ended eo en =
         joined' = t.more_joined;
       };
       of_seats = t.of_seats;
-      ended = zip_at Ends end'.knows (map (shown tells) news) lane after.0 (shown tells new) ended after.1
-          (map_at (shown tells) news lane new en);
+      ended = zip_at Ends end'.knows (map (shown_record tells) news) lane after.0 (shown_record tells new) ended after.1
+          (map_at (shown_record tells) news lane new en);
     }
 
 abbrev pub BackLaw : Type 0
@@ -196,14 +196,14 @@ BackLaw = (head head_now : Head) (items items_now : List Item) (passes : List Jo
     → final ≡ record_of head_now items_now → (head_now ≡ head) × IsPrefix items items_now
 
 pub heads_back : {L : Type 0} → BackLaw → (tells : L → Option Telling) (olds news : List (LaneState L))
-    (seats : List SeatState) (m end' : MasterState) → m.knows ≡ map first_knowledge (map (shown tells) olds)
-    → AreTakenIn (with_seats m (length seats)) end' seats → AreEnded end'.knows (map (shown tells) news)
+    (seats : List SeatState) (m end' : MasterState) → m.knows ≡ map first_knowledge (map (shown_record tells) olds)
+    → AreTakenIn (with_seats m (length seats)) end' seats → AreEnded end'.knows (map (shown_record tells) news)
     → AtEach olds news (λ lane. KeepsHead tells)
 heads_back law tells olds news seats m end' opened taken ended = record {
   long = ended_long tells olds news seats m end' opened taken ended;
   each = λ lane old new eo en.
       let back = lane_at tells olds news seats m end' lane old new opened taken ended eo en in
-      (law (head_shown tells old) (head_shown tells new) old.items new.items back.passes back.after (shown tells new)
+      (law (head_shown tells old) (head_shown tells new) old.items new.items back.passes back.after (shown_record tells new)
       back.took back.ended refl).0;
 }
 
@@ -223,9 +223,9 @@ all_seats {I} {O} {shows} {boards} b = length-append (seats_of b.dones) b.others
 pub heads_of : {L I O : Type 0} {shows : I × O → PairReport} {boards : List BoardState} {turns : List TurnId}
     {coming coming_now kept kept_now : Option (List (I × O))} → BackLaw → (tells : L → Option Telling)
     (olds news : List (LaneState L)) (seats : List SeatState) (m end' : MasterState)
-    → m.knows ≡ map first_knowledge (map (shown tells) olds)
+    → m.knows ≡ map first_knowledge (map (shown_record tells) olds)
     → (b : AllBack shows boards turns seats (with_seats m (length seats)) end' coming coming_now kept kept_now)
-    → AreEnded end'.knows (map (shown tells) news) → AtEach olds news (λ lane. KeepsHead tells)
+    → AreEnded end'.knows (map (shown_record tells) news) → AtEach olds news (λ lane. KeepsHead tells)
 heads_of law tells olds news seats m end' opened b ended =
     heads_back law tells olds news (seats_of b.dones ++ b.others) m end' opened
     (subst (λ n. AreTakenIn (with_seats m n) end' (seats_of b.dones ++ b.others)) (sym (all_seats b)) b.taken_in) ended
@@ -413,48 +413,48 @@ lane_decided : {L : Type 0} (tells : L → Option Telling) (boards : List BoardS
     → LaneBack tells lane (seats ++ others) old new
     → ((passes : List Joined) (opening final : Record) → ArePassesOn lane seats passes
     → AllByRecursion (Stands opening final) passes → AreDecidedFrom final 1 boards lane conversations)
-    → AreDecidedFrom (shown tells new) 1 boards lane conversations
+    → AreDecidedFrom (shown_record tells new) 1 boards lane conversations
 lane_decided tells boards lane seats others no_others conversations old new back decided =
-    decided back.passes back.after.opening (shown tells new)
+    decided back.passes back.after.opening (shown_record tells new)
     (of_the_seats tells lane seats others old new no_others back)
-    (subst (AllByRecursion (Stands back.after.opening (shown tells new))) back.took.joined'
+    (subst (AllByRecursion (Stands back.after.opening (shown_record tells new))) back.took.joined'
     back.ended.told.joined_stand)
 
 lane_by_rules : {L : Type 0} → BackLaw → PlannedLaw → (tells : L → Option Telling) (boards : List BoardState) (lane : ℕ)
     (passes : List Joined) (conversations : List Conversation) (old new : LaneState L) (after : Knowledge)
-    → TookIn passes (first_knowledge (shown tells old)) after → Ends after (shown tells new)
+    → TookIn passes (first_knowledge (shown_record tells old)) after → Ends after (shown_record tells new)
     → IsServedLane tells (submitted_on boards lane conversations) old new
-    → AreDecidedFrom (shown tells new) 1 boards lane conversations
+    → AreDecidedFrom (shown_record tells new) 1 boards lane conversations
     → AreFramesByRules (payload_of old.status.mtu) (submitted_on boards lane conversations) boards lane conversations
 lane_by_rules law planned tells boards lane passes conversations old new after took ended served decided =
     let connections = submitted_on boards lane conversations in
     let head = (law (head_shown tells old) (head_shown tells new) old.items new.items passes after
-    (shown tells new) took ended refl).0 in
+    (shown_record tells new) took ended refl).0 in
     subst (λ (h : Head). AreFramesByRules (payload_of h.mtu) connections boards lane conversations) head
     (all_by_rules (head_shown tells new) new.items connections boards lane 1 conversations
     (λ front begins. planned connections (head_shown tells old) (head_shown tells new) new.items front served.after
-    (shown tells new) served.served_on served.ended refl begins) decided)
+    (shown_record tells new) served.served_on served.ended refl begins) decided)
 
 lane_filled_before : {L : Type 0} → FirstLaw → (tells : L → Option Telling) (boards : List BoardState) (lane : ℕ)
     (conversations : List Conversation) (old new : LaneState L)
     → IsServedLane tells (submitted_on boards lane conversations) old new
-    → AreDecidedFrom (shown tells new) 1 boards lane conversations
+    → AreDecidedFrom (shown_record tells new) 1 boards lane conversations
     → AreFilledBefore (submitted_on boards lane conversations) boards lane conversations
 lane_filled_before law tells boards lane conversations old new served decided =
     all_filled_before (head_shown tells new) new.items boards lane conversations
     (λ front begins index own later at many. law (submitted_on boards lane conversations) (head_shown tells old)
     (head_shown tells new) new.items front served.after
-    (shown tells new) served.served_on served.ended refl begins index
+    (shown_record tells new) served.served_on served.ended refl begins index
     own later at many) decided
 
 lane_keeps_limits : {L : Type 0} → LimitsLaw → (tells : L → Option Telling) (boards : List BoardState) (lane : ℕ)
     (conversations : List Conversation) (old new : LaneState L)
     → IsServedLane tells (submitted_on boards lane conversations) old new
-    → AreDecidedFrom (shown tells new) 1 boards lane conversations
+    → AreDecidedFrom (shown_record tells new) 1 boards lane conversations
     → KeepLimits (submitted_on boards lane conversations)
 lane_keeps_limits limits tells boards lane conversations old new served decided =
     limits (submitted_on boards lane conversations) (head_shown tells old) (head_shown tells new) new.items served.after
-    (shown tells new) served.served_on served.ended refl
+    (shown_record tells new) served.served_on served.ended refl
     (all_planned_last (head_shown tells new) new.items 1 boards lane conversations decided)
 
 -- what stands of a lane
@@ -487,19 +487,17 @@ lane_served law planned first limits tells boards lane seats others no_others co
       limits' = lane_keeps_limits limits tells boards lane conversations old new served on;
     }
 
-pub served_at : {L I O : Type 0} → BackLaw → AnsweredLaw → PlannedLaw → FirstLaw → LimitsLaw
-    → (tells : L → Option Telling) (shows : I × O → PairReport) (boards : List BoardState)
-    (turns : List TurnId) (olds news : List (LaneState L)) (seats : List SeatState) (m end' : MasterState)
-    (coming coming_now kept kept_now : Option (List (I × O))) (served : List Served)
-    → m.knows ≡ map first_knowledge (map (shown tells) olds) → AllByRecursion HasNoEntry olds
-    → AreEnded end'.knows (map (shown tells) news)
+pub served_at : {L I O : Type 0} {shows : I × O → PairReport} {boards : List BoardState} {turns : List TurnId}
+    {seats : List SeatState} {end' : MasterState} {coming coming_now kept kept_now : Option (List (I × O))}
+    {served : List Served} → BackLaw → AnsweredLaw → PlannedLaw → FirstLaw → LimitsLaw → (tells : L → Option Telling)
+    (olds news : List (LaneState L)) (m : MasterState) → m.knows ≡ map first_knowledge (map (shown_record tells) olds)
+    → AllByRecursion HasNoEntry olds
     → (h : HasServedAll shows boards turns seats (with_seats m (length seats)) end' coming coming_now kept kept_now
     served)
-    → AllByRecursion HadMemory served
+    → AreEnded end'.knows (map (shown_record tells) news) → AllByRecursion HadMemory served
     → AreServedAt tells boards olds news (map shows h.all_back.came) (map shows (pairs_of h.all_back.dones)) served
-served_at {L} {I} {O} law answered planned first limits tells shows boards turns olds news seats m end'
-    coming coming_now
-    kept kept_now served opened unused ended h memory =
+served_at {L} {I} {O} {shows} {boards} {turns} {seats} {end'} law answered planned first limits tells olds news m opened
+    unused h ended memory =
     let b = h.all_back in
     let all : b.befores ≡ seats = sym (append-nil b.befores) ∙ (ap (λ (l : List SeatState). b.befores ++ l)
     (sym h.no_others) ∙ b.all) in

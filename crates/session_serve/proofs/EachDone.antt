@@ -1,6 +1,6 @@
 -- Connections that were served under seats.
 use Rattle.std.proofs.Common.{◌≡◌, ◌∙◌, ℕ, ◌+◌, List, [], ◌∷◌, ◌++◌, map, length, Some, refl, sym, ap, subst, suc}
-use Rattle.std.proofs.Common.{Option, Bool, false, is_err, arith}
+use Rattle.std.proofs.Common.{Option, Bool, false, is_err, arith, length-append}
 use Rattle.std.specs.List.{AllByRecursion, AllZip, slice_get}
 use Rattle.std.specs.Prelude.{IfOk, OnOk, Result, Ok, Err}
 use Rattle.std.specs.Vec.Iter.{into_iter_items}
@@ -14,7 +14,7 @@ use Rattle.hub_multiplexer.specs.Ends.{HasTakenIn}
 use Rattle.hub_multiplexer.specs.Seats.{MasterState, SeatState}
 use Rattle.hub_session.specs.declared.served.Served.{Served}
 use Rattle.session_serve.specs.Connections.{WereServed}
-use Rattle.session_serve.specs.Hubs.{AllBack, HasServedAll, served_of, pairs_of, seats_of}
+use Rattle.session_serve.specs.Hubs.{AllBack, served_of, pairs_of, seats_of}
 use Rattle.session_serve.specs.declared.serving.Ended.{Ended}
 use Rattle.session_serve.specs.Seats.{AreOfClientsFrom, AreTakenIn, Begun, EachDone, HasServed, IsBack, IsDone}
 use Rattle.session_serve.specs.Seats.{IsDoneOf, IsFresh}
@@ -132,18 +132,41 @@ none_back {I} {O} shows boards turns seats start end' coming coming_now kept kep
       taken_in = taken;
     }
 
+-- the seats of those that came, and the others: so many, and each can be taken in
+pub seats_long : {I O : Type 0} {shows : I × O → PairReport} {boards : List BoardState} {seats : List SeatState}
+    {coming coming_now : Option (List (I × O))} {ended : Ended I O}
+    → HasServed shows boards seats coming coming_now ended
+    → length seats ≡ length ended.done.items + length (into_iter_items ended.seats)
+seats_long {shows = shows} {boards = boards} {ended = ended} h =
+    let all = ap (λ (l : List SeatState). length l) h.seats' in
+    let both = length-append h.befores (into_iter_items ended.seats) in
+    let long = each_long shows boards h.befores h.came ended.done.items h.each in omega (arith, all, both, long)
+
+pub seats_back : {I O : Type 0} {shows : I × O → PairReport} {boards : List BoardState} {seats : List SeatState}
+    {coming coming_now : Option (List (I × O))} {ended : Ended I O} (turns : List TurnId)
+    → HasServed shows boards seats coming coming_now ended → AllByRecursion (IsFresh turns) seats
+    → AllByRecursion (λ (d : Done I O). IsBack turns d.seat) ended.done.items
+    × AllByRecursion (IsBack turns) (into_iter_items ended.seats)
+seats_back {shows = shows} {boards = boards} {ended = ended} turns h fresh =
+    let others = into_iter_items ended.seats in
+    let both = subst (AllByRecursion (IsFresh turns)) h.seats' fresh in (
+      each_back shows boards turns h.befores h.came ended.done.items h.each
+          (front_of_all (IsFresh turns) h.befores others both),
+      fresh_all_back turns others (back_of_all (IsFresh turns) h.befores others both),
+    )
+
 -- what came, and went back
-abbrev pub all_back : {I O : Type 0} (shows : I × O → PairReport) (boards : List BoardState) (turns : List TurnId)
-    (seats : List SeatState) (ended : Ended I O) (start mid end' : MasterState)
-    (coming between coming_served coming_now kept kept_mid kept_served kept_now : Option (List (I × O)))
-    → (h : HasServed shows boards seats between coming_served ended)
+abbrev pub all_back : {I O : Type 0} {shows : I × O → PairReport} {boards : List BoardState} {taken seats : List SeatState}
+    {ended : Ended I O} {start mid end' : MasterState} {coming between coming_served coming_now : Option (List (I × O))}
+    {kept kept_mid kept_served : Option (List (I × O))} (turns : List TurnId) (kept_now : Option (List (I × O)))
+    → HasServed shows boards taken between coming_served ended → taken ≡ seats
     → between ≡ coming → coming_now ≡ coming_served → kept_mid ≡ kept → kept_served ≡ kept_mid
     → Went kept_served kept_now (pairs_of ended.done.items) → AllByRecursion (IsFresh turns) seats
     → AreOfClientsFrom 1 seats → AreTakenIn start mid (seats_of ended.done.items)
     → AreTakenIn mid end' (into_iter_items ended.seats)
     → AllBack shows boards turns seats start end' coming coming_now kept kept_now
-all_back {I} {O} shows boards turns seats ended start mid end' coming between coming_served coming_now kept kept_mid
-    kept_served kept_now h listened gave listened_kept served_kept went fresh of one two = record {
+all_back {I} {O} {ended = ended} {start = start} {mid = mid} {end' = end'} {between = between} {coming_now = coming_now}
+    turns kept_now h same listened gave listened_kept served_kept went fresh of one two = record {
       came = h.came;
       dones = ended.done.items;
       came' = subst (λ (c : Option (List (I × O))). Came c coming_now h.came) listened
@@ -154,69 +177,37 @@ all_back {I} {O} shows boards turns seats ended start mid end' coming between co
       befores = h.befores;
       others = into_iter_items ended.seats;
       each = h.each;
-      all = sym h.seats';
+      all = sym h.seats' ∙ same;
       fresh = fresh;
       clients = of;
       taken_in = both_taken start mid end' (seats_of ended.done.items) (into_iter_items ended.seats) one two;
     }
 
-pub all_served : {I O : Type 0} (shows : I × O → PairReport) (boards : List BoardState) (turns : List TurnId)
-    (seats : List SeatState) (ended : Ended I O) (start mid end' : MasterState)
-    (coming between coming_served coming_now kept kept_mid kept_served kept_now : Option (List (I × O)))
-    (served there' : List Served)
-    → (h : HasServed shows boards seats between coming_served ended)
-    → between ≡ coming → coming_now ≡ coming_served → kept_mid ≡ kept → kept_served ≡ kept_mid
-    → Went kept_served kept_now (pairs_of ended.done.items) → AllByRecursion (IsFresh turns) seats
-    → AreOfClientsFrom 1 seats → AreTakenIn start mid (seats_of ended.done.items)
-    → AreTakenIn mid end' (into_iter_items ended.seats) → served ≡ served_of ended.done.items
-    → into_iter_items ended.seats ≡ [] → there' ≡ served
-    → HasServedAll shows boards turns seats start end' coming coming_now kept kept_now there'
-all_served {I} {O} shows boards turns seats ended start mid end' coming between coming_served coming_now kept kept_mid
-    kept_served kept_now served there' h listened gave listened_kept served_kept went fresh of one two lines none same =
-    record {
-      all_back = all_back shows boards turns seats ended start mid end' coming between coming_served coming_now kept
-          kept_mid kept_served kept_now h listened gave listened_kept served_kept went fresh of one two;
-      lines = same ∙ lines;
-      no_others = none;
-    }
-
-pub fresh_befores : {I O : Type 0} (shows : I × O → PairReport) (boards : List BoardState) (turns : List TurnId)
-    (seats : List SeatState) (ended : Ended I O) (coming coming_now : Option (List (I × O)))
-    → (h : HasServed shows boards seats coming coming_now ended) → AllByRecursion (IsFresh turns) seats
-    → AllByRecursion (IsFresh turns) h.befores × AllByRecursion (IsFresh turns) (into_iter_items ended.seats)
-fresh_befores shows boards turns seats ended coming coming_now h fresh =
-    let both = subst (AllByRecursion (IsFresh turns)) h.seats' fresh in (
-      front_of_all (IsFresh turns) h.befores (into_iter_items ended.seats) both,
-      back_of_all (IsFresh turns) h.befores (into_iter_items ended.seats) both,
-    )
-
-pub longer : (xs ys zs : List SeatState) → zs ≡ xs ++ ys → length zs ≡ length xs + length ys
-longer [] ys zs is = let e = ap (λ (l : List SeatState). length l) is in omega (arith, e)
-longer (x ∷ xs) ys [] is = absurd cc
-longer (x ∷ xs) ys (z ∷ zs) is = let rest : zs ≡ xs ++ ys = cc in let e = longer xs ys zs rest in omega (arith, e)
-
 -- all seats are taken in, in the order of their clients
-pub all_in_turn : {I O : Type 0} (shows : I × O → PairReport) (boards : List BoardState) (seats : List SeatState)
-    (ended : Ended I O) (start mid end' : MasterState) (coming coming_now : Option (List (I × O)))
-    → (h : HasServed shows boards seats coming coming_now ended) → AreOfClientsFrom 1 seats
+pub all_in_turn : {I O : Type 0} {shows : I × O → PairReport} {boards : List BoardState} {taken seats : List SeatState}
+    {ended : Ended I O} {coming coming_now : Option (List (I × O))} (start mid end' : MasterState)
+    → HasServed shows boards taken coming coming_now ended → taken ≡ seats → AreOfClientsFrom 1 seats
     → ((c : ℕ) → AreOfClientsFrom c (seats_of ended.done.items) → HasTakenIn c start
     → HasTakenIn (c + length ended.done.items) mid)
     → ((c : ℕ) → AreOfClientsFrom c (into_iter_items ended.seats) → HasTakenIn c mid
     → HasTakenIn (c + length (into_iter_items ended.seats)) end')
     → HasTakenIn 1 start → HasTakenIn (length seats + 1) end'
-all_in_turn shows boards seats ended start mid end' coming coming_now h of one two from =
+all_in_turn {shows = shows} {boards = boards} {ended = ended} start mid end' h same of one two from =
     let dones = ended.done.items in
     let rest = into_iter_items ended.seats in
-    let parts = clients_front 1 h.befores rest (subst (AreOfClientsFrom 1) h.seats' of) in
+    let parts = clients_front 1 h.befores rest (subst (AreOfClientsFrom 1) (sym same ∙ h.seats') of) in
     let long = each_long shows boards h.befores h.came dones h.each in
-    let all = longer h.befores rest seats h.seats' in
+    let all = seats_long h in
+    let many = ap (λ (l : List SeatState). length l) same in
     let there' = one 1 (each_clients shows boards 1 h.befores h.came dones h.each parts.0) from in
-    subst (λ n. HasTakenIn n end') (omega (arith, long, all)) (two (1 + length dones)
+    subst (λ n. HasTakenIn n end') (omega (arith, all, many)) (two (1 + length dones)
     (subst (λ n. AreOfClientsFrom n rest) (omega (arith, long)) parts.1) there')
 
-pub both_ok : {A E : Type 0} (P Q : A → Type 0) (r : Result A E) → IfOk r P → IfOk r Q → IfOk r (λ x. P x × Q x)
-both_ok P Q (Ok x) p q = (p, q)
-both_ok P Q (Err e) p q = tt
+-- what is so of a result in two ways
+pub both_then : {A E : Type 0} (P Q R : A → Type 0) (r : Result A E) → ((x : A) → P x → Q x → R x) → IfOk r P
+    → IfOk r Q → IfOk r R
+both_then P Q R (Ok x) leads p q = leads x p q
+both_then P Q R (Err e) leads p q = tt
 
 pub with_ok : {A E : Type 0} (P : A → Type 0) (Q : Type 0) (r : Result A E) → IfOk r P → OnOk r Q → IfOk r (λ x. P x ×
     Q)

@@ -6,24 +6,21 @@ use Rattle.std.specs.Prelude.{◌≢◌}
 use Rattle.std.specs.List.{AllByRecursion, AllZip, slice_get}
 use Rattle.std.proofs.lemmas.Bool.{eq-eqb, eqb-true}
 use Rattle.std.proofs.lemmas.Option.{same_Some}
-use Rattle.ipb_base.specs.Lists.{IsPrefix}
 use Rattle.ipb_outside.specs.Pairs.{PairReport}
 use Rattle.packet_codec.specs.declared.packet.Packet.{Packet}
 use Rattle.world_core.specs.declared.link.Link.{Ghosts}
-use Rattle.world_model.specs.Board.{Board, executed}
+use Rattle.world_model.specs.Board.{Board, bodies_executed}
 use Rattle.world_model.specs.Settings.{Limits}
 use Rattle.board_node.specs.declared.spec.BoardSpec.{BoardSpec}
 use Rattle.lane_record.specs.declared.item.Item.{Item}
 use Rattle.lane_record.specs.declared.outcome.Outcome.{Outcome}
 use Rattle.lane_record.specs.Claims.{claims}
-use Rattle.lane_record.specs.Legal.{IsLegal}
 use Rattle.board_history.specs.Merges.{AreSubsequences, IsMergeOfSome, IsOfClients, IsSubsequence, Owned, bodies_by}
 use Rattle.board_history.specs.Merges.{bodies_owned}
 use Rattle.ipb_base.specs.Numbers.{payload_of}
-use Rattle.board_history.specs.Runs.{opening_of}
-use Rattle.lane_history.specs.Lanes.{IsSoundLane, IsTrueOf, bodies_offered}
+use Rattle.board_history.specs.Runs.{opens_with}
+use Rattle.lane_history.specs.Lanes.{IsSoundLane, IsTrueOf}
 use Rattle.lane_history.specs.Links.{IsUntouched, LinkReport, board_there}
-use Rattle.lane_history.specs.Records.{IsPartlyPlanned}
 use Rattle.lane_history.proofs.Told.{some_then}
 use Rattle.hub_framing.specs.Frames.{RequestFrame}
 use Rattle.hub_lane.specs.Greeting.{link_of}
@@ -39,18 +36,21 @@ use Rattle.script_plans.specs.declared.greeting.Greeting.TheVariants as greeting
 use Rattle.client_threads.specs.Running.{AtEach}
 use Rattle.board_greeting.specs.Boards.{AreReached, HasMemory}
 use Rattle.board_greeting.specs.Reports.{shown_by}
-use Rattle.board_greeting.specs.Places.{lanes_in, place_of, rejoined}
+use Rattle.board_greeting.specs.Places.{lanes_in, place_of, boards_in_order}
 use Rattle.board_greeting.specs.declared.rejoined.Board.{Board as Rejoined}
+use Rattle.board_greeting.specs.declared.split.Split.{Split}
 use Rattle.board_greeting.proofs.Lanes.{lane_back}
 use Rattle.session_serve.specs.Boards.{states_from}
 use Rattle.session_serve.specs.Finish.{IsSound, link_in}
 use Rattle.session_serve.specs.Executed.{CameInFrames, HasExecutedOnly, HaveExecutedOnly, bodies_for, body_in}
 use Rattle.session_serve.specs.Hubs.{KeepsHead}
 use Rattle.session_serve.specs.Plans.{ArePlannedAt, IsLaneAt, PlansFrames}
-use Rattle.session_serve.specs.Prepared.{told_by}
+use Rattle.session_serve.specs.Prepared.{IsReady, told_by}
+use Rattle.session_serve.specs.declared.prepared.Prepared.{Prepared}
+use Rattle.session_serve.specs.ReportLaws.{ReportLaws}
 use Rattle.session_serve.proofs.Lists.{zip_long}
 use Rattle.session_serve.proofs.Planned.{sub_trans}
-use Rattle.session_serve.proofs.Reporting.{SideBySide, first_of, from_each, rest_of}
+use Rattle.session_serve.proofs.Reporting.{BoardsBack, SideBySide, first_of, from_each, rest_of}
 
 -- ---- a merge of some of the bodies
 
@@ -86,26 +86,21 @@ untouched_only : (position : ℕ) (connections : List (List RequestFrame)) (link
     → HasExecutedOnly position connections link
 untouched_only position connections link untouched =
     let bodies = map (bodies_for position) connections in
-    some_then (λ (b : Board). executed b ≡ []) (λ (b : Board). IsMergeOfSome bodies (executed b))
+    some_then (λ (b : Board). bodies_executed b ≡ []) (λ (b : Board). IsMergeOfSome bodies (bodies_executed b))
     (board_there link.telling) (λ b none. subst (IsMergeOfSome bodies) (sym none) (merge_of_none bodies)) untouched
 
-abbrev pub MergeLaw : Type 0
-MergeLaw = (bodies : List (List (List ℕ))) (items : List Item) (became : List (Option Outcome)) (done : List (List ℕ))
-    → IsLegal items became → IsPartlyPlanned bodies items → IsPrefix done (bodies_offered (claims items) became)
-    → IsMergeOfSome bodies done
-
 -- a board whose lane plans bodies of frames
-lane_only : MergeLaw → (settings : Limits) (spec : BoardSpec) (position : ℕ) (connections : List (List RequestFrame))
+lane_only : ReportLaws → (settings : Limits) (spec : BoardSpec) (position : ℕ) (connections : List (List RequestFrame))
     (payload : ℕ) (link : LinkReport) (items : List Item) (outcomes : List (Option Outcome))
     (lates : List (Option (List ℕ))) (give_ups : ℕ)
-    → IsSoundLane settings (opening_of spec.link) payload link items outcomes lates give_ups
+    → IsSoundLane settings (opens_with spec.link) payload link items outcomes lates give_ups
     → PlansFrames position connections items → HasExecutedOnly position connections link
-lane_only law settings spec position connections payload link items outcomes lates give_ups sound plans =
+lane_only laws settings spec position connections payload link items outcomes lates give_ups sound plans =
     let bodies = map (bodies_for position) connections in
-    some_then (λ (b : Board). IsTrueOf (opening_of spec.link) (claims items) outcomes lates (executed b))
-    (λ (b : Board). IsMergeOfSome bodies (executed b)) (board_there link.telling)
-    (λ b truth. merge_within plans.planned bodies (executed b) plans.of_frames
-    (law plans.planned items outcomes (executed b) sound.kept.legal plans.partly truth.front)) sound.told
+    some_then (λ (b : Board). IsTrueOf (opens_with spec.link) (claims items) outcomes lates (bodies_executed b))
+    (λ (b : Board). IsMergeOfSome bodies (bodies_executed b)) (board_there link.telling)
+    (λ b truth. merge_within plans.planned bodies (bodies_executed b) plans.of_frames
+    (laws.merge plans.planned items outcomes (bodies_executed b) sound.kept.legal plans.partly truth.front)) sound.told
 
 -- ---- which board a lane is of
 
@@ -187,7 +182,7 @@ abbrev PlansAt : {L : Type 0} → List Greeting → List (List RequestFrame) →
 PlansAt told connections lane old new = (position : ℕ) → IsLaneAt (states_from 0 told) lane position
     → PlansFrames position connections new.items
 
-module _ (L C : Type 0) (seen : Ghosts L) (settings : Limits) (law : MergeLaw) (told : List Greeting)
+module _ (L C : Type 0) (seen : Ghosts L) (settings : Limits) (laws : ReportLaws) (told : List Greeting)
     (connections : List (List RequestFrame)) where
   abbrev shows : L → LinkReport
   shows = shown_by seen
@@ -196,9 +191,9 @@ module _ (L C : Type 0) (seen : Ghosts L) (settings : Limits) (law : MergeLaw) (
       → length boards ≡ length specs → AllByRecursion HasMemory boards → AreReached shows settings specs boards
       → StandFrom told position lane boards → SideBySide lane (lanes_in boards) news (λ n. KeepsHead seen.telling)
       → SideBySide lane (lanes_in boards) news (PlansAt told connections)
-      → AllByRecursion (IsSound seen) (rejoined {P = C} (map place_of boards) news [])
+      → AllByRecursion (IsSound seen) (boards_in_order {P = C} (map place_of boards) news [])
       → HaveExecutedOnly position connections (map shows
-      (map (λ (b : Rejoined L C). link_in b) (rejoined (map place_of boards) news [])))
+      (map (λ (b : Rejoined L C). link_in b) (boards_in_order (map place_of boards) news [])))
   executed_only position lane [] [] news long memory are stand heads plans sound = tt
   executed_only position lane [] (b ∷ boards) news long memory are stand heads plans sound = absurd cc
   executed_only position lane (s ∷ specs) [] news long memory are stand heads plans sound = absurd cc
@@ -211,7 +206,7 @@ module _ (L C : Type 0) (seen : Ghosts L) (settings : Limits) (law : MergeLaw) (
       ap (λ k. slice_get (states_from 0 told) k) (let up : position ≡ position + 0 = omega arith in up) ∙ stand 0 in
       let planned = first_of lane old (lanes_in boards) n news (PlansAt told connections) plans position
       (lane_of_board told lane position here) in (
-        lane_only law settings s position connections (payload_of n.status.mtu) (shows n.link) n.items n.outcomes n.lates
+        lane_only laws settings s position connections (payload_of n.status.mtu) (shows n.link) n.items n.outcomes n.lates
             n.give_ups (sound.0.1 settings s to).sound planned,
         executed_only (position + 1) (lane + 1) specs boards news (omega (arith, long)) memory.1 are.1
             (one_later (states_from 0 told) _ position _ stand)
@@ -232,33 +227,29 @@ module _ (L C : Type 0) (seen : Ghosts L) (settings : Limits) (law : MergeLaw) (
       absurd memory.0
 
 -- what the boards of lanes that came back executed came in frames
-pub came_in_frames : {L C : Type 0} → MergeLaw → (seen : Ghosts L) (settings : Limits) (specs : List BoardSpec)
-    (boards : List (Greeted L)) (olds news : List (LaneState L)) (all : List BoardState) (came back : List PairReport)
-    (ended : List (Rejoined L C))
-    → ended ≡ rejoined (map place_of boards) news [] → olds ≡ lanes_in boards
-    → all ≡ states_from 0 (map (λ (b : Greeted L). told_by b) boards) → length boards ≡ length specs
-    → AllByRecursion HasMemory boards → AreReached (shown_by seen) settings specs boards
-    → AtEach olds news (λ lane. KeepsHead seen.telling) → AllByRecursion (IsSound seen) ended
-    → ArePlannedAt all olds news came back
+pub came_in_frames : {L C : Type 0} {settings : Limits} {specs : List BoardSpec} {split : Split L}
+    {prepared : Prepared} {news : List (LaneState L)} {ended : List (Rejoined L C)} (laws : ReportLaws)
+    (seen : Ghosts L) (ready : IsReady (shown_by seen) settings specs split prepared) (came back : List PairReport)
+    → BoardsBack seen settings specs ready.apart.boards news ended → AllByRecursion (IsSound seen) ended
+    → ArePlannedAt prepared.states split.lanes.items news came back
     → CameInFrames (map (shown_by seen) (map (λ (b : Rejoined L C). link_in b) ended)) came back
-came_in_frames {L} {C} law seen settings specs boards olds news all came back ended is lanes states long memory are
-    heads sound at =
+came_in_frames {L} {C} {settings} {specs} {split} {prepared} {news} laws seen ready came back again sound at =
+    let boards = ready.apart.boards in
     let told = map (λ (b : Greeted L). told_by b) boards in
     let shows = shown_by seen in
-    let here = subst (λ (l : List (LaneState L)). AtEach l news (λ lane. KeepsHead seen.telling)) lanes heads in
-    let on = subst (λ (l : List (LaneState L)). AtEach l news (PlansAt told at.connections)) lanes
-    (subst (λ (a : List BoardState). AtEach olds news (λ lane old new. (position : ℕ) → IsLaneAt a lane position
-    → PlansFrames position at.connections new.items)) states at.lanes) in
+    let on = subst (λ (l : List (LaneState L)). AtEach l news (PlansAt told at.connections)) ready.apart.apart.lanes'
+    (subst (λ (a : List BoardState). AtEach split.lanes.items news (λ lane old new. (position : ℕ)
+    → IsLaneAt a lane position → PlansFrames position at.connections new.items)) ready.prepared'.states' at.lanes) in
     record {
       connections = at.connections;
       sent = at.sent;
       executed' = subst (λ (e : List (Rejoined L C)). HaveExecutedOnly 0 at.connections
-          (map shows (map (λ (b : Rejoined L C). link_in b) e))) (sym is)
-          (executed_only L C seen settings law told at.connections 0 0 specs boards news long memory are
-          (λ i. ap (λ n. slice_get (states_from 0 told) n) (let same : 0 + i ≡ i = omega arith in same))
-          (from_each (lanes_in boards) news (λ lane. KeepsHead seen.telling) here)
+          (map shows (map (λ (b : Rejoined L C). link_in b) e))) (sym again.is)
+          (executed_only L C seen settings laws told at.connections 0 0 specs boards news again.all again.memory
+          again.reached
+          (λ i. ap (λ n. slice_get (states_from 0 told) n) (let same : 0 + i ≡ i = omega arith in same)) again.heads
           (from_each (lanes_in boards) news (PlansAt told at.connections) on)
-          (subst (AllByRecursion (IsSound seen)) is sound));
+          (subst (AllByRecursion (IsSound seen)) again.is sound));
     }
 
 -- ---- where no connection was let in
@@ -325,6 +316,6 @@ pub without_frames : (position : ℕ) (connections : List (List RequestFrame)) (
     → AllByRecursion (λ (frames : List RequestFrame). bodies_for position frames ≡ []) connections → IsUntouched link
 without_frames position connections link only none =
     let bodies = map (bodies_for position) connections in
-    some_then (λ (b : Board). IsMergeOfSome bodies (executed b)) (λ (b : Board). executed b ≡ [])
+    some_then (λ (b : Board). IsMergeOfSome bodies (bodies_executed b)) (λ (b : Board). bodies_executed b ≡ [])
     (board_there link.telling) (λ b merge. merge.same ∙ ap bodies_owned
     (merge_of_nothing bodies merge.owned merge.each merge.nobody_else (all_mapped position connections none))) only

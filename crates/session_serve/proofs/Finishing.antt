@@ -28,15 +28,15 @@ none_finished seen names boards lines kept all none = record {
   sound = λ s. s;
 }
 
-pub one_finished : {L C : Type 0} (seen : Ghosts L) (names : List (List ℕ)) (boards : List (Board L C))
-    (names_left names_later : List (List ℕ)) (name : List ℕ) (left later : List (Board L C)) (board : Board L C)
-    (lines lines_now : List BoardLine) (kept mid now : List L)
+pub one_finished : {L C : Type 0} {seen : Ghosts L} {names : List (List ℕ)} {boards : List (Board L C)}
+    {names_left names_later : List (List ℕ)} {name : List ℕ} {left later : List (Board L C)} {board : Board L C}
+    {lines lines_now : List BoardLine} {kept mid now : List L}
     → FinishedSoFar seen names boards names_left left lines kept mid
     → names_left ≡ name ∷ names_later → left ≡ board ∷ later → lines_now ≡ lines ++ line_in name board ∷ []
     → now ≡ mid ++ link_in board ∷ [] → IsSound seen board
     → FinishedSoFar seen names boards names_later later lines_now kept now
-one_finished {L} {C} seen names boards names_left names_later name left later board lines lines_now kept mid now so_far
-    names_are left_is pushed given sound =
+one_finished {L} {C} {seen} {names} {boards} {names_left} {names_later} {name} {left} {later} {board} {lines}
+    {lines_now} {kept} {mid} {now} so_far names_are left_is pushed given sound =
     let links = λ (bs : List (Board L C)). map (λ (b : Board L C). link_in b) bs in
     record {
       lines' = ap (λ (l : List BoardLine). l ++ lines_in names_later later) pushed
@@ -58,11 +58,11 @@ pub record Finished {L C : Type 0} (seen : Ghosts L) (names : List (List ℕ)) (
   pub links : kept_now ≡ kept ++ map (λ (b : Board L C). link_in b) boards
   pub sound : AllByRecursion (IsSound seen) boards
 
-pub all_finished : {L C : Type 0} (seen : Ghosts L) (names : List (List ℕ)) (boards : List (Board L C))
-    (names_left : List (List ℕ)) (left : List (Board L C)) (lines : List BoardLine) (kept now : List L)
+pub all_finished : {L C : Type 0} {seen : Ghosts L} {names : List (List ℕ)} {boards : List (Board L C)}
+    {names_left : List (List ℕ)} {left : List (Board L C)} {lines : List BoardLine} {kept now : List L}
     → FinishedSoFar seen names boards names_left left lines kept now
     → length names_left ≡ 0 → Finished seen names boards lines kept now
-all_finished {L} {C} seen names boards names_left left lines kept now so_far over =
+all_finished {L} {C} {seen} {names} {boards} {names_left} {left} {lines} {kept} {now} so_far over =
     let no_names = nil_from_length names_left over in
     let no_boards = nil_from_length left (let a = so_far.all in omega (arith, a, over)) in
     let here = subst (λ (b : List (Board L C)). FinishedSoFar seen names boards [] b lines kept now) no_boards
@@ -73,10 +73,8 @@ all_finished {L} {C} seen names boards names_left left lines kept now so_far ove
       sound = here.sound tt;
     }
 
-pub some_left : {L C : Type 0} (seen : Ghosts L) (names : List (List ℕ)) (boards : List (Board L C))
-    (names_left names_later : List (List ℕ)) (name : List ℕ) (left : List (Board L C)) (lines : List BoardLine)
-    (kept now : List L)
-    → FinishedSoFar seen names boards names_left left lines kept now
+pub some_left : {L C : Type 0} {seen : Ghosts L} {names : List (List ℕ)} {boards : List (Board L C)}
+    {names_left names_later : List (List ℕ)} {name : List ℕ} {left : List (Board L C)} {lines : List BoardLine}
+    {kept now : List L} → FinishedSoFar seen names boards names_left left lines kept now
     → names_left ≡ name ∷ names_later → length left ≡ suc (length names_later)
-some_left seen names boards names_left names_later name left lines kept now so_far is =
-    sym so_far.all ∙ ap (λ (l : List (List ℕ)). length l) is
+some_left so_far is = sym so_far.all ∙ ap (λ (l : List (List ℕ)). length l) is

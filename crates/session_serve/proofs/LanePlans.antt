@@ -10,7 +10,7 @@ use Rattle.turn_pass.specs.Pass.{Joined, Knowledge, TurnId, first_knowledge, kep
 use Rattle.ipb_outside.specs.Pairs.{PairReport}
 use Rattle.world_core.specs.Telling.{Telling}
 use Rattle.lane_record.specs.declared.item.Item.{Item}
-use Rattle.lane_record.specs.Coding.{item_from, recorded}
+use Rattle.lane_record.specs.Coding.{item_from, as_recorded}
 use Rattle.lane_record.specs.Dispatches.{entries_by, numbered_action}
 use Rattle.lane_record.proofs.Coding.{read_item}
 use Rattle.board_history.specs.Merges.{IsSubsequence}
@@ -23,7 +23,7 @@ use Rattle.hub_framing.specs.Frames.{RequestFrame}
 use Rattle.hub_lane.specs.Lanes.{LaneState}
 use Rattle.hub_lane.specs.declared.answers.BoardState.{BoardState}
 use Rattle.hub_multiplexer.specs.Ends.{AreEnded}
-use Rattle.hub_multiplexer.specs.Lanes.{shown}
+use Rattle.hub_multiplexer.specs.Lanes.{shown_record}
 use Rattle.hub_multiplexer.specs.Seats.{MasterState, SeatState}
 use Rattle.hub_session.specs.declared.served.Served.{Served}
 use Rattle.hub_session.specs.Exchanges.{frames_of}
@@ -188,16 +188,16 @@ others_none turns lane (s ∷ seats) (p ∷ passes) fresh are = (
 
 -- ---- the entries of a lane
 
-read_again : (xs : List Item) → filter_map item_from (map recorded xs) ≡ xs
+read_again : (xs : List Item) → filter_map item_from (map as_recorded xs) ≡ xs
 read_again [] = refl
 read_again (x ∷ xs) =
-    ap (λ (o : Option Item). cons_option o (filter_map item_from (map recorded xs))) (read_item x)
+    ap (λ (o : Option Item). cons_option o (filter_map item_from (map as_recorded xs))) (read_item x)
     ∙ ap (λ (ys : List Item). x ∷ ys) (read_again xs)
 
 own_entries : (client : ℕ) (more : List Item) (pass : Joined) → pass.number ≡ client → StandsIn more pass
     → filter_map item_from pass.mine ≡ entries_by client more
 own_entries client more pass number stands =
-    ap (filter_map item_from) (stands ∙ ap (λ (n : ℕ). made_by n (map recorded more)) number
+    ap (filter_map item_from) (stands ∙ ap (λ (n : ℕ). made_by n (map as_recorded more)) number
     ∙ made_recorded client more)
     ∙ read_again (entries_by client more)
 
@@ -273,7 +273,7 @@ lane_plans tells turns lane position connections seats others old new back none 
     let took = subst (λ (items : List Item). TookIn back.passes (came_with (head_shown tells old) items) back.after)
     none back.took in
     let handed_back = handed (head_shown tells old) (head_shown tells new) [] new.items back.passes back.after
-    (shown tells new) took back.ended refl in
+    (shown_record tells new) took back.ended refl in
     let more = handed_back.0 in
     let h = handed_back.1 in
     let apart = passes_apart lane seats others back.passes back.of_seats in
@@ -301,15 +301,14 @@ lane_plans tells turns lane position connections seats others old new back none 
 
 -- ---- all lanes
 
-pub planned_at : {L I O : Type 0} (tells : L → Option Telling) (shows : I × O → PairReport) (boards : List BoardState)
-    (turns : List TurnId) (olds news : List (LaneState L)) (seats : List SeatState) (m end' : MasterState)
-    (coming coming_now kept kept_now : Option (List (I × O)))
-    → m.knows ≡ map first_knowledge (map (shown tells) olds) → AllByRecursion HasNoEntry olds
-    → AreEnded end'.knows (map (shown tells) news)
+pub planned_at : {L I O : Type 0} {shows : I × O → PairReport} {boards : List BoardState} {turns : List TurnId}
+    {seats : List SeatState} {end' : MasterState} {coming coming_now kept kept_now : Option (List (I × O))}
+    (tells : L → Option Telling) (olds news : List (LaneState L)) (m : MasterState)
+    → m.knows ≡ map first_knowledge (map (shown_record tells) olds) → AllByRecursion HasNoEntry olds
     → (b : AllBack shows boards turns seats (with_seats m (length seats)) end' coming coming_now kept kept_now)
+    → AreEnded end'.knows (map (shown_record tells) news)
     → ArePlannedAt boards olds news (map shows b.came) (map shows (pairs_of b.dones))
-planned_at {L} {I} {O} tells shows boards turns olds news seats m end' coming coming_now kept kept_now opened unused
-    ended b =
+planned_at {L} {I} {O} {shows} {boards} {turns} {seats} {end'} tells olds news m opened unused b ended =
     let fresh = subst (AllByRecursion (IsFresh turns)) (sym b.all) b.fresh in
     let of = subst (AreOfClientsFrom 1) (sym b.all) b.clients in
     let sent = sent_frames shows boards turns 1 b.befores b.came b.dones b.each
@@ -333,7 +332,7 @@ planned_at {L} {I} {O} tells shows boards turns olds news seats m end' coming co
 -- lanes that did not go to a hub
 pub planned_none : {L : Type 0} → TellsLaw → (tells : L → Option Telling) (boards : List BoardState)
     (olds news : List (LaneState L)) → AllByRecursion HasNoEntry olds
-    → map (shown tells) news ≡ map (shown tells) olds → ArePlannedAt boards olds news [] []
+    → map (shown_record tells) news ≡ map (shown_record tells) olds → ArePlannedAt boards olds news [] []
 planned_none law tells boards olds news unused is = record {
   connections = [];
   sent = tt;

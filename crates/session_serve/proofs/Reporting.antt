@@ -1,51 +1,41 @@
 -- What is shown of boards once their lanes came back.
-use Rattle.std.proofs.Common.{◌≡◌, ◌∙◌, ℕ, ◌+◌, Bool, List, [], ◌∷◌, map, length, Some, Option, refl, sym, ap, subst}
+use Rattle.std.proofs.Common.{◌≡◌, ◌∙◌, ℕ, ◌+◌, List, [], ◌∷◌, map, length, Some, refl, sym, ap, subst}
 use Rattle.std.proofs.Common.{suc, zero}
-use Rattle.std.proofs.Common.{arith, count_by}
+use Rattle.std.proofs.Common.{arith}
+use Rattle.std.proofs.lemmas.List.{length-map}
 use Rattle.std.proofs.lemmas.Option.{none-some, same_Some}
 use Rattle.std.specs.List.{AllByRecursion, slice_get}
 use Rattle.ipb_base.specs.Numbers.{payload_of}
-use Rattle.turn_pass.specs.Pass.{Knowledge}
-use Rattle.turn_pass.specs.Record.{Record}
 use Rattle.ipb_outside.specs.Pairs.{PairReport}
-use Rattle.world_model.specs.Hub.{Hub}
 use Rattle.world_core.specs.declared.link.Link.{Ghosts}
-use Rattle.world_core.specs.Telling.{Telling}
 use Rattle.world_model.specs.Settings.{Limits}
 use Rattle.board_node.specs.declared.spec.BoardSpec.{BoardSpec}
-use Rattle.lane_record.specs.declared.outcome.Outcome.{Outcome}
-use Rattle.lane_record.specs.declared.item.Item.{Item}
-use Rattle.lane_record.specs.Bounds.{timeouts}
-use Rattle.lane_record.specs.Coding.{Head, record_of}
+use Rattle.lane_record.specs.Coding.{Head}
 use Rattle.lane_record.specs.Submissions.{Submission}
-use Rattle.hub_lane.specs.Calls.{is_lost_at_place, is_replied}
 use Rattle.hub_lane.specs.Greeting.{link_of}
-use Rattle.hub_lane.specs.Lanes.{BoardStatus, IsLane, LaneState}
+use Rattle.hub_lane.specs.Lanes.{IsLane, LaneState}
 use Rattle.hub_lane.specs.declared.greeting.Greeted.{Greeted}
 use Rattle.hub_lane.specs.declared.greeting.Greeted.TheVariants.{Ready, Silent, Down, NoMemory}
 use Rattle.hub_lane.specs.declared.answers.BoardState.{BoardState}
 use Rattle.hub_lane.specs.declared.answers.BoardState.TheVariants as stands
-use Rattle.hub_multiplexer.specs.Ends.{Ends}
-use Rattle.hub_multiplexer.specs.Lanes.{shown}
+use Rattle.hub_multiplexer.specs.Lanes.{shown_record}
 use Rattle.client_threads.specs.Running.{AtEach}
 use Rattle.script_plans.specs.declared.greeting.Greeting.{Greeting}
 use Rattle.script_plans.specs.declared.greeting.Greeting.TheVariants as greeting
 use Rattle.transcript.specs.declared.line.BoardLine.{BoardLine}
 use Rattle.transcript.specs.declared.line.BoardLine.TheVariants as line
 use Rattle.transcript.specs.Lines.{board_line}
-use Rattle.board_history.specs.Runs.{opening_of}
-use Rattle.lane_history.specs.Links.{IsBoardOf, IsUntouched, LinkReport, board_there}
+use Rattle.board_history.specs.Runs.{opens_with}
+use Rattle.lane_history.specs.Links.{IsUntouched, LinkReport}
 use Rattle.lane_history.specs.Lanes.{IsSoundLane}
-use Rattle.lane_history.specs.Records.{IsRecordOf}
 use Rattle.lane_history.specs.Runs.{TellsPayload}
-use Rattle.client_history.specs.Clients.{came_with}
 use Rattle.client_history.specs.Boards.{AreServedOver, IsServedOver, ServedBoard, run_of}
-use Rattle.client_history.specs.Connections.{WereServedOn, bodies_of, dispatches_of}
 use Rattle.client_history.specs.Planned.{KeepLimits}
 use Rattle.board_greeting.specs.Boards.{AreFreshLinks, AreReached, HasMemory, IsEndedLane, IsLaneTo}
 use Rattle.board_greeting.specs.Boards.{head_shown}
 use Rattle.board_greeting.specs.Reports.{shown_by}
-use Rattle.board_greeting.specs.Places.{lanes_in, place_of, rejoined}
+use Rattle.board_greeting.specs.Places.{IsSplitOf, lanes_in, place_of, boards_in_order}
+use Rattle.board_greeting.specs.declared.split.Split.{Split}
 use Rattle.board_greeting.specs.declared.rejoined.Board.{Board}
 use Rattle.board_greeting.proofs.Lanes.{lane_back}
 use Rattle.session_serve.specs.Boards.{AreLinksTo, lines_of, states_from, states_of}
@@ -55,31 +45,10 @@ use Rattle.session_serve.specs.Refusals.{AreFilledBefore, AreFramesByRules}
 use Rattle.session_serve.specs.Serving.{AreServed}
 use Rattle.session_serve.specs.Finish.{IsSound, lane_line, lines_in, link_in}
 use Rattle.session_serve.specs.Hubs.{AreServedAt, IsServedLane, KeepsHead, submitted_on}
-use Rattle.session_serve.specs.Prepared.{lane_after, state_at, told_by}
+use Rattle.session_serve.specs.Prepared.{IsReady, lane_after, state_at, told_by}
+use Rattle.session_serve.specs.declared.prepared.Prepared.{Prepared}
+use Rattle.session_serve.specs.ReportLaws.{ReportLaws}
 use Rattle.session_serve.proofs.Lists.{all_map, there}
-
-abbrev pub RecordLaw : Type 0
-RecordLaw = (connections : List (List Submission)) (head head_now : Head) (items : List Item) (after : Knowledge)
-    (final : Record) → WereServedOn connections (came_with head []) after → Ends after final
-    → final ≡ record_of head_now items → IsRecordOf (map bodies_of connections) (map dispatches_of connections) items
-
-abbrev pub ServedLaw : Type 0
-ServedLaw = (settings : Limits) (spec : BoardSpec) (link : LinkReport) (payload : ℕ)
-    (connections : List (List Submission)) (items : List Item) (outcomes : List (Option Outcome))
-    (lates : List (Option (List ℕ))) (give_ups : ℕ) → IsBoardOf spec.link (board_there link.telling) → TellsPayload spec.link payload
-    → IsRecordOf (map bodies_of connections) (map dispatches_of connections) items
-    → IsSoundLane settings (opening_of spec.link) payload link items outcomes lates give_ups
-    → IsServedOver settings spec (record { told = greeting.Live payload; connections = connections }) link
-
-abbrev pub LineLaw : Type 0
-LineLaw = (settings : Limits) (status : BoardStatus) (hub : Hub) (items : List Item) (outcomes : List (Option Outcome))
-    (lates : List (Option (List ℕ))) (give_ups : ℕ) (down spent : Bool) (telling : Option Telling) (faults quiets : ℕ)
-    (spec : BoardSpec) (payload : ℕ) (connections : List (List Submission))
-    → IsLane settings status hub items outcomes lates give_ups down spent telling faults quiets
-    → IsRecordOf (map bodies_of connections) (map dispatches_of connections) items
-    → board_line (run_of spec (record { told = greeting.Live payload; connections = connections }))
-    ≡ line.Live spec.name (length hub.sent) (count_by is_replied outcomes) (timeouts outcomes)
-    (count_by is_lost_at_place outcomes)
 
 -- lanes side by side, the first of which has this number
 pub record SideBySide {A B : Type 0} (lane : ℕ) (xs : List A) (ys : List B) (holds : ℕ → A → B → Type 0) : Type 0 where
@@ -151,10 +120,10 @@ module _ (L C : Type 0) (seen : Ghosts L) (settings : Limits) where
       → length boards ≡ length specs → AllByRecursion HasMemory boards
       → AreReached (shown_by seen) settings specs boards
       → SideBySide lane (lanes_in boards) news (λ n. KeepsHead seen.telling)
-      → AllByRecursion (IsSound seen) (rejoined {P = C} (map place_of boards) news [])
+      → AllByRecursion (IsSound seen) (boards_in_order {P = C} (map place_of boards) news [])
       → AreLinksTo specs (map (shown_by seen)
-      (map (λ (b : Board L C). link_in b) (rejoined (map place_of boards) news [])))
-      × (length (rejoined {P = C} (map place_of boards) news []) ≡ length specs)
+      (map (λ (b : Board L C). link_in b) (boards_in_order (map place_of boards) news [])))
+      × (length (boards_in_order {P = C} (map place_of boards) news []) ≡ length specs)
   links_to lane [] [] news long memory are side sound = (tt, refl)
   links_to lane [] (b ∷ boards) news long memory are side sound = absurd cc
   links_to lane (s ∷ specs) [] news long memory are side sound = absurd cc
@@ -174,8 +143,7 @@ module _ (L C : Type 0) (seen : Ghosts L) (settings : Limits) where
       ((are.0.fresh.board', rest.0), ap suc rest.1)
   links_to lane (s ∷ specs) (NoMemory link ∷ boards) news long memory are side sound = absurd memory.0
 
-  module _ (record_law : RecordLaw) (served_law : ServedLaw) (line_law : LineLaw) (all : List BoardState)
-      (conversations : List Conversation) where
+  module _ (laws : ReportLaws) (all : List BoardState) (conversations : List Conversation) where
     -- what is shown of a live board, and its line
     live_served : (lane : ℕ) (spec : BoardSpec) (old new : LaneState L)
         → IsLaneTo settings spec (seen.telling new.link) new → KeepsHead seen.telling old new
@@ -189,16 +157,16 @@ module _ (L C : Type 0) (seen : Ghosts L) (settings : Limits) where
         (stands.Lane lane))) ≡ lane_line spec.name new)
     live_served lane spec old new to heads served is ended =
         let connections = submitted_on all lane conversations in
-        let left = record_law connections (head_shown seen.telling old) (head_shown seen.telling new) new.items
+        let left = laws.left connections (head_shown seen.telling old) (head_shown seen.telling new) new.items
         served.after
-        (shown seen.telling new) served.served_on served.ended refl in
+        (shown_record seen.telling new) served.served_on served.ended refl in
         let mtu : new.status.mtu ≡ old.status.mtu = ap (λ (h : Head). h.mtu) heads in
         let payload = subst (λ n. TellsPayload spec.link (payload_of n)) mtu ended.payload in
-        let sound = subst (λ n. IsSoundLane settings (opening_of spec.link) (payload_of n) (shown_by seen new.link)
+        let sound = subst (λ n. IsSoundLane settings (opens_with spec.link) (payload_of n) (shown_by seen new.link)
         new.items new.outcomes new.lates new.give_ups) mtu ended.sound in (
-          served_law settings spec (shown_by seen new.link) (payload_of old.status.mtu) connections new.items
+          laws.served settings spec (shown_by seen new.link) (payload_of old.status.mtu) connections new.items
               new.outcomes new.lates new.give_ups ended.board' payload left sound,
-          line_law new.settings new.status new.hub new.items new.outcomes new.lates new.give_ups new.down new.spent
+          laws.line new.settings new.status new.hub new.items new.outcomes new.lates new.give_ups new.down new.spent
               (seen.telling new.link) (seen.faults new.link) (seen.quiets new.link) spec (payload_of old.status.mtu)
               connections is left,
         )
@@ -208,11 +176,11 @@ module _ (L C : Type 0) (seen : Ghosts L) (settings : Limits) where
         → AreReached (shown_by seen) settings specs boards
         → SideBySide lane (lanes_in boards) news (λ n. KeepsHead seen.telling)
         → SideBySide lane (lanes_in boards) news (λ n. IsServedLane seen.telling (submitted_on all n conversations))
-        → AllByRecursion (IsSound seen) (rejoined {P = C} (map place_of boards) news [])
+        → AllByRecursion (IsSound seen) (boards_in_order {P = C} (map place_of boards) news [])
         → AreServedOver settings specs (served_boards all conversations lane boards)
         (map (shown_by seen)
-        (map (λ (b : Board L C). link_in b) (rejoined (map place_of boards) news [])))
-        × (lines_in (map (λ (s : BoardSpec). s.name) specs) (rejoined {P = C} (map place_of boards) news [])
+        (map (λ (b : Board L C). link_in b) (boards_in_order (map place_of boards) news [])))
+        × (lines_in (map (λ (s : BoardSpec). s.name) specs) (boards_in_order {P = C} (map place_of boards) news [])
         ≡ lines_of specs (served_boards all conversations lane boards))
     all_served_over lane [] [] news long memory are heads served sound = (tt, refl)
     all_served_over lane [] (b ∷ boards) news long memory are heads served sound = absurd cc
@@ -372,11 +340,9 @@ of_live_boards holds all conversations boards olds news lanes each position payl
     (subst (λ n. holds n lane (submitted_on all lane conversations)) (sym l.payload')
     (each.each lane l.old new.0 eo new.1))
 
--- ---- before
-
-pub rejoined_long : (L C : Type 0) (boards : List (Greeted L)) (news : List (LaneState L))
+rejoined_long : (L C : Type 0) (boards : List (Greeted L)) (news : List (LaneState L))
     → length news ≡ length (lanes_in boards)
-    → length (rejoined {P = C} (map place_of boards) news []) ≡ length boards
+    → length (boards_in_order {P = C} (map place_of boards) news []) ≡ length boards
 rejoined_long L C [] news long = refl
 rejoined_long L C (Ready lane ∷ boards) [] long = absurd cc
 rejoined_long L C (Ready lane ∷ boards) (n ∷ news) long =
@@ -385,14 +351,77 @@ rejoined_long L C (Silent link rounds ∷ boards) news long = ap suc (rejoined_l
 rejoined_long L C (Down link ∷ boards) news long = ap suc (rejoined_long L C boards news long)
 rejoined_long L C (NoMemory link ∷ boards) news long = ap suc (rejoined_long L C boards news long)
 
--- links of boards that were greeted
-pub links_reached : {L : Type 0} (shows : L → LinkReport) (settings : Limits) (specs : List BoardSpec)
+-- ---- boards whose lanes came back
+
+-- Boards that were taken apart, and stand in their places again once their lanes came back from the hub.
+pub record BoardsBack {L C : Type 0} (seen : Ghosts L) (settings : Limits) (specs : List BoardSpec)
+    (boards : List (Greeted L)) (news : List (LaneState L)) (ended : List (Board L C)) : Type 0 where
+  pub is : ended ≡ boards_in_order (map place_of boards) news []
+  pub heads : SideBySide 0 (lanes_in boards) news (λ lane. KeepsHead seen.telling)
+  pub all : length boards ≡ length specs
+  pub memory : AllByRecursion HasMemory boards
+  pub reached : AreReached (shown_by seen) settings specs boards
+
+pub boards_back : {L C : Type 0} {settings : Limits} {specs : List BoardSpec} {split : Split L}
+    {news : List (LaneState L)} {results : List C} {ended : List (Board L C)} (seen : Ghosts L)
+    (apart : IsSplitOf (shown_by seen) settings specs split)
+    → AtEach split.lanes.items news (λ lane. KeepsHead seen.telling)
+    → ended ≡ boards_in_order split.places.items news results → results ≡ []
+    → BoardsBack seen settings specs apart.boards news ended
+boards_back {L} {C} {news = news} {results = results} seen apart heads is none =
+    let boards = apart.boards in
+    let holds : ℕ → LaneState L → LaneState L → Type 0 = λ lane. KeepsHead seen.telling in
+    record {
+      is = is ∙ (ap (λ p. boards_in_order p news results) apart.apart.places'
+          ∙ ap (λ (r : List C). boards_in_order (map place_of boards) news r) none);
+      heads = from_each (lanes_in boards) news holds
+          (subst (λ (l : List (LaneState L)). AtEach l news holds) apart.apart.lanes' heads);
+      all = apart.all;
+      memory = apart.memory;
+      reached = apart.reached;
+    }
+
+pub boards_long : {L C : Type 0} {seen : Ghosts L} {settings : Limits} {specs : List BoardSpec}
+    {boards : List (Greeted L)} {news : List (LaneState L)} {ended : List (Board L C)}
+    → BoardsBack seen settings specs boards news ended → length ended ≡ length specs
+boards_long {L} {C} {boards = boards} {news = news} back = ap (λ (l : List (Board L C)). length l) back.is
+    ∙ (rejoined_long L C boards news back.heads.long ∙ back.all)
+
+-- their links
+pub links_back : {L C : Type 0} {seen : Ghosts L} {settings : Limits} {specs : List BoardSpec}
+    {boards : List (Greeted L)} {news : List (LaneState L)} {ended : List (Board L C)}
+    → BoardsBack seen settings specs boards news ended → AllByRecursion (IsSound seen) ended
+    → AreLinksTo specs (map (shown_by seen) (map (λ (b : Board L C). link_in b) ended))
+    × (length (map (shown_by seen) (map (λ (b : Board L C). link_in b) ended)) ≡ length specs)
+links_back {L} {C} {seen} {settings} {specs} {boards} {news} {ended} back sound =
+    let shows = shown_by seen in
+    let to = links_to L C seen settings 0 specs boards news back.all back.memory back.reached back.heads
+    (subst (AllByRecursion (IsSound seen)) back.is sound) in (
+      subst (λ (b : List (Board L C)). AreLinksTo specs (map shows (map (λ (x : Board L C). link_in x) b)))
+          (sym back.is) to.0,
+      length-map (map (λ (b : Board L C). link_in b) ended) shows
+          ∙ (length-map ended (λ (b : Board L C). link_in b) ∙ boards_long back),
+    )
+
+-- ---- links of boards that were greeted
+
+links_reached : {L : Type 0} (shows : L → LinkReport) (settings : Limits) (specs : List BoardSpec)
     (boards : List (Greeted L)) → AreReached shows settings specs boards
     → AreLinksTo specs (map shows (map (λ (b : Greeted L). link_of b) boards))
 links_reached shows settings specs [] are = tt
 links_reached shows settings [] (b ∷ boards) are = absurd are
 links_reached shows settings (s ∷ specs) (b ∷ boards) are =
     (are.0.fresh.board', links_reached shows settings specs boards are.1)
+
+pub greeted_links : {L : Type 0} (shows : L → LinkReport) (settings : Limits) (specs : List BoardSpec)
+    (boards : List (Greeted L)) → AreReached shows settings specs boards → length boards ≡ length specs
+    → AreLinksTo specs (map shows (map (λ (b : Greeted L). link_of b) boards))
+    × (length (map shows (map (λ (b : Greeted L). link_of b) boards)) ≡ length specs)
+greeted_links {L} shows settings specs boards are all = (
+  links_reached shows settings specs boards are,
+  length-map (map (λ (b : Greeted L). link_of b) boards) shows
+      ∙ (length-map boards (λ (b : Greeted L). link_of b) ∙ all),
+)
 
 pub untouched_links : (settings : Limits) (specs : List BoardSpec) (links : List LinkReport)
     → AreFreshLinks settings specs links → AreLinksTo specs links × AllByRecursion IsUntouched links
@@ -404,30 +433,29 @@ untouched_links settings (s ∷ specs) (l ∷ links) are =
 
 -- ---- the report
 
-pub are_served : {L C : Type 0} → RecordLaw → ServedLaw → LineLaw
-    → (seen : Ghosts L) (settings : Limits) (specs : List BoardSpec) (boards : List (Greeted L))
-    (olds news : List (LaneState L)) (all : List BoardState) (came back : List PairReport) (served : List Served)
-    (names : List (List ℕ)) (lines : List BoardLine) (ended : List (Board L C))
-    → ended ≡ rejoined (map place_of boards) news [] → olds ≡ lanes_in boards
-    → all ≡ states_from 0 (map (λ (b : Greeted L). told_by b) boards)
-    → names ≡ map (λ (s : BoardSpec). s.name) specs → lines ≡ lines_in names ended
-    → length boards ≡ length specs → AllByRecursion HasMemory boards
-    → AreReached (shown_by seen) settings specs boards
-    → AtEach olds news (λ lane. KeepsHead seen.telling) → AllByRecursion (IsSound seen) ended
-    → AreServedAt seen.telling all olds news came back served
+pub are_served : {L C : Type 0} {settings : Limits} {specs : List BoardSpec} {split : Split L} {prepared : Prepared}
+    {news : List (LaneState L)} {ended : List (Board L C)} (laws : ReportLaws) (seen : Ghosts L)
+    (ready : IsReady (shown_by seen) settings specs split prepared) (came back : List PairReport)
+    (served : List Served) (lines : List BoardLine) → BoardsBack seen settings specs ready.apart.boards news ended
+    → AllByRecursion (IsSound seen) ended → lines ≡ lines_in prepared.names.items ended
+    → AreServedAt seen.telling prepared.states split.lanes.items news came back served
     → AreServed settings specs (map (shown_by seen) (map (λ (b : Board L C). link_in b) ended)) came back served lines
-are_served {L} {C} record_law served_law line_law seen settings specs boards olds news all came back served names lines
-    ended is lanes states names_are lines_are long memory are heads sound at =
+are_served {L} {C} {settings} {specs} {split} {prepared} {news} {ended} laws seen ready came back served lines again
+    sound lines_are at =
     let shows = shown_by seen in
+    let boards = ready.apart.boards in
+    let olds = split.lanes.items in
+    let lanes = ready.apart.apart.lanes' in
+    let all = prepared.states in
+    let states = ready.prepared'.states' in
     let conversations = at.conversations in
     let shown_boards = served_boards all conversations 0 boards in
-    let here = subst (λ (l : List (LaneState L)). AtEach l news (λ lane. KeepsHead seen.telling)) lanes heads in
     let on = subst (λ (l : List (LaneState L)). AtEach l news (λ lane. IsServedLane seen.telling (submitted_on all lane
     conversations))) lanes at.lanes in
-    let over = all_served_over L C seen settings record_law served_law line_law all conversations 0 specs boards news
-    long memory are (from_each (lanes_in boards) news (λ lane. KeepsHead seen.telling) here)
+    let over = all_served_over L C seen settings laws all conversations 0 specs boards news again.all again.memory
+    again.reached again.heads
     (from_each (lanes_in boards) news (λ lane. IsServedLane seen.telling (submitted_on all lane conversations)) on)
-    (subst (AllByRecursion (IsSound seen)) is sound) in
+    (subst (AllByRecursion (IsSound seen)) again.is sound) in
     let stand : states_of shown_boards ≡ all = ap (states_from 0) (told_same all conversations 0 boards) ∙ sym states in
     let states_at : (position lane : ℕ) → slice_get (states_of shown_boards) position ≡ Some (stands.Lane lane)
     → slice_get (states_from 0 (map (λ (b : Greeted L). told_by b) boards)) position ≡ Some (stands.Lane lane) =
@@ -437,9 +465,9 @@ are_served {L} {C} record_law served_law line_law seen settings specs boards old
       boards = shown_boards;
       conversations = conversations;
       over_links = subst (λ (b : List (Board L C)). AreServedOver settings specs shown_boards
-          (map shows (map (λ (x : Board L C). link_in x) b))) (sym is) over.0;
-      lines' = lines_are ∙ (ap (λ (n : List (List ℕ)). lines_in n ended) names_are
-          ∙ (ap (λ (b : List (Board L C)). lines_in (map (λ (s : BoardSpec). s.name) specs) b) is ∙ over.1));
+          (map shows (map (λ (x : Board L C). link_in x) b))) (sym again.is) over.0;
+      lines' = lines_are ∙ (ap (λ (n : List (List ℕ)). lines_in n ended) ready.prepared'.names'
+          ∙ (ap (λ (b : List (Board L C)). lines_in (map (λ (s : BoardSpec). s.name) specs) b) again.is ∙ over.1));
       exchanged = subst (λ (a : List BoardState). HaveExchanged a 1 conversations came back served) (sym stand)
           at.exchanged;
       asked = subst (λ (a : List BoardState). map (λ (b : ServedBoard). b.connections) shown_boards

@@ -2,7 +2,6 @@
 use Rattle.std.proofs.Common.{◌≡◌, ◌∙◌, ℕ, ◌+◌, true, false, List, [], ◌∷◌, ◌++◌, Option, Some, None, inl, inr, refl}
 use Rattle.std.proofs.Common.{sym, ap, subst, arith, length, length-append, append_assoc, append-nil, ◌≤◌, ◌==◌}
 use Rattle.std.proofs.Common.{if◌then◌else◌, zero, suc}
-use Rattle.std.specs.Prelude.{◌≢◌}
 use Rattle.std.specs.List.{AllByRecursion, cons_option, slice_get, slice_set}
 use Rattle.std.proofs.lemmas.Bool.{cases_lt, eqb-true}
 use Rattle.std.proofs.lemmas.Option.{none-some, same_Some}
@@ -16,25 +15,26 @@ use Rattle.turn_pass.proofs.Records.{begins_on}
 use Rattle.lane_record.specs.declared.item.Item.{Item}
 use Rattle.lane_record.specs.Coding.{Head, record_of}
 use Rattle.lane_record.specs.declared.outcome.Outcome.{Outcome}
-use Rattle.lane_record.specs.Items.{planned}
+use Rattle.lane_record.specs.Items.{planned_count}
 use Rattle.lane_record.specs.NextEntry.{plan_of}
 use Rattle.lane_record.specs.Submissions.{Submission}
 use Rattle.lane_record.proofs.Coding.{spelled_fronts}
 use Rattle.hub_lane.specs.Plans.{IsRefused}
 use Rattle.lane_tables.specs.Planned.{IsFull}
-use Rattle.hub_lane.specs.declared.answers.PlanRefusal.{PlanRefusal}
-use Rattle.hub_lane.specs.declared.answers.PlanRefusal.TheVariants as refusals
 use Rattle.hub_lane.specs.declared.answers.BoardState.{BoardState}
 use Rattle.hub_multiplexer.specs.Ends.{Ends}
 use Rattle.hub_multiplexer.specs.OwnItems.{planned_by}
 use Rattle.hub_multiplexer.specs.Seats.{SeatState}
 use Rattle.client_history.specs.Clients.{came_with}
+use Rattle.hub_session.specs.declared.got.BodyRefusal.{BodyRefusal}
+use Rattle.hub_session.specs.declared.got.BodyRefusal.TheVariants.{Sealed, TooLong, ReplyTooLong, Overfull}
 use Rattle.hub_session.specs.declared.got.Got.{Got}
 use Rattle.hub_session.specs.declared.got.Got.TheVariants.{NotAsked, Refused, Came}
 use Rattle.hub_session.specs.declared.served.Served.{Served}
 use Rattle.hub_session.specs.Decisions.{AreFramesDecidedIn, IsDecidedBehind, IsFrameDecidedIn, WasDecidedIn}
 use Rattle.hub_session.specs.Decisions.{plan_behind}
-use Rattle.hub_session.specs.Exchanges.{Exchange, LaneRequest, request_of, submission_in, submissions_on}
+use Rattle.hub_session.specs.Exchanges.{Exchange, LaneRequest, plan_refusal, request_of, submission_in}
+use Rattle.hub_session.specs.Exchanges.{submissions_on}
 use Rattle.hub_session.specs.Serving.{IsServed}
 use Rattle.client_history.specs.Connections.{WereServedOn}
 use Rattle.client_history.specs.Planned.{HaveFilledLane, IsAmongSubmitted, KeepLimits, WasPlannedLast, WerePlannedLast}
@@ -65,7 +65,7 @@ abbrev pub FirstLaw : Type 0
 FirstLaw = (connections : List (List Submission)) (head head_now : Head) (items front : List Item) (after : Knowledge)
     (final : Record) → WereServedOn connections (came_with head []) after → Ends after final
     → final ≡ record_of head_now items → IsPrefix front items → (index : ℕ) (own later : List Submission)
-    → slice_get connections index ≡ Some (own ++ later) → planned (1 + index) front ≡ length own
+    → slice_get connections index ≡ Some (own ++ later) → planned_count (1 + index) front ≡ length own
     → IsAmongSubmitted (slice_set connections index own) front
 
 -- ---- on a record that begins the one that the lane came back with
@@ -103,22 +103,20 @@ filled connections items body among (inl bodies) = let most = among.bodies in in
 filled connections items body among (inr words) = let most = among.words in inr (omega (arith, words, most))
 
 refused_by : (connections : List (List Submission)) (items : List Item) (payload : ℕ) (body : List ℕ)
-    (why : PlanRefusal) → IsAmongSubmitted connections items → why ≢ refusals.NoMemory
-    → IsRefused items payload body why → IsDecidedByRules payload connections body (Refused why)
-refused_by connections items payload body refusals.Sealed among memory r =
+    (why : BodyRefusal) → IsAmongSubmitted connections items → IsRefused items payload body (plan_refusal why)
+    → IsDecidedByRules payload connections body (Refused why)
+refused_by connections items payload body Sealed among r =
     let untrue : true ≡ false = sym r ∙ among.unsealed in absurd cc
-refused_by connections items payload body refusals.TooLong among memory r = r.1
-refused_by connections items payload body refusals.ReplyTooLong among memory r = (r.1, r.2)
-refused_by connections items payload body refusals.Overfull among memory r =
-    (r.1, filled connections items body among r.2)
-refused_by connections items payload body refusals.NoMemory among memory r = absurd (memory refl)
+refused_by connections items payload body TooLong among r = r.1
+refused_by connections items payload body ReplyTooLong among r = (r.1, r.2)
+refused_by connections items payload body Overfull among r = (r.1, filled connections items body among r.2)
 
 decided_by : (connections : List (List Submission)) (items : List Item) (payload : ℕ) (body : List ℕ) (got : Got)
     → IsAmongSubmitted connections items → IsDecidedBehind items payload body got
     → IsDecidedByRules payload connections body got
 decided_by connections items payload body NotAsked among d = absurd d
 decided_by connections items payload body (Refused why) among d =
-    refused_by connections items payload body why among d.0 d.1
+    refused_by connections items payload body why among d
 decided_by connections items payload body (Came outcome) among d = d.fits
 
 -- of a body that was decided on a record of the lane
@@ -264,15 +262,11 @@ submitted_at boards lane (x ∷ conversations) zero c at =
     ap (λ (z : Conversation). Some (submissions_on boards lane (exchanges_of z))) (same_Some x c at)
 submitted_at boards lane (x ∷ conversations) (suc index) c at = submitted_at boards lane conversations index c at
 
-full_now : (items : List Item) (payload : ℕ) (body : List ℕ) (why : PlanRefusal) → why ≡ refusals.Overfull
-    → (why ≢ refusals.NoMemory) × IsRefused items payload body why → IsFull items (length body) (reply_room body)
-full_now items payload body why is d = (subst (λ (w : PlanRefusal). IsRefused items payload body w) is d.1).2
-
 pub all_filled_before : (head : Head) (items : List Item) (boards : List BoardState) (lane : ℕ)
     (conversations : List Conversation)
     → ((front : List Item) → IsPrefix front items → (index : ℕ) (own later : List Submission)
     → slice_get (submitted_on boards lane conversations) index ≡ Some (own ++ later)
-    → planned (1 + index) front ≡ length own
+    → planned_count (1 + index) front ≡ length own
     → IsAmongSubmitted (slice_set (submitted_on boards lane conversations) index own) front)
     → AreDecidedFrom (record_of head items) 1 boards lane conversations
     → AreFilledBefore (submitted_on boards lane conversations) boards lane conversations
@@ -290,7 +284,7 @@ all_filled_before head items boards lane conversations among all =
     let submitted = submitted_at boards lane conversations index c at
     ∙ ap Some (ap (submissions_on boards lane) split ∙ filter_map-append
     (λ (x : Exchange). submission_in lane (request_of boards x.frame) x.got) earlier (e ∷ later)) in
-    let own_count : planned (1 + index) d.items ≡ length own = (let n = d.own in omega (arith, n)) in
+    let own_count : planned_count (1 + index) d.items ≡ length own = (let n = d.own in omega (arith, n)) in
     filled (slice_set (submitted_on boards lane conversations) index own) d.items body
     (among d.items front index own (submissions_on boards lane (e ∷ later)) submitted own_count)
-    (full_now d.items (payload_of d.head.mtu) body refusals.Overfull refl d.decided)
+    d.decided.2

@@ -16,6 +16,7 @@ use Rattle.board_greeting.specs.Places.{lanes_in}
 use Rattle.session_serve.specs.Boards.{states_from}
 use Rattle.session_serve.specs.Prepared.{lane_after, state_at, told_by}
 use Rattle.session_serve.specs.Serving.{AreBack, AreBackFrom}
+use Rattle.session_serve.proofs.Lists.{came_none, went_none}
 
 state_more : {L : Type 0} (lane : ℕ) (board : Greeted L) (told : List Greeting)
     → states_from lane (told_by board ∷ told) ≡ state_at lane board ∷ states_from (lane_after lane board) told
@@ -88,5 +89,10 @@ back_as_told {D} {I} {O} seen source sink door door_now states told is back =
     )
 
 -- no pair came, so none went back
+pub gives_none : {D I O : Type 0} (seen : DoorGhosts D I O) (source : SourceGhosts I) (sink : SinkGhosts O) (door : D)
+    (holds : List PairReport → List PairReport → Type 0) → holds [] [] → GivesBack seen source sink door door holds
+gives_none seen source sink door holds none =
+    ([], [], came_none (seen.coming door), went_none (seen.kept door), none)
+
 pub none_served : AreBack [] []
 none_served = ([], record { served = []; each = tt })

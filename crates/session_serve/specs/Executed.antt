@@ -4,7 +4,7 @@ use Rattle.std.specs.List.{AllByRecursion, filter_map}
 use Rattle.std.specs.Io.KnownBytes.{prepend_known}
 use Rattle.packet_codec.specs.declared.packet.Packet.{Packet}
 use Rattle.ipb_outside.specs.Pairs.{PairReport}
-use Rattle.world_model.specs.Board.{Board, executed}
+use Rattle.world_model.specs.Board.{Board, bodies_executed}
 use Rattle.board_history.specs.Merges.{IsMergeOfSome}
 use Rattle.lane_history.specs.Links.{LinkReport, board_there}
 use Rattle.hub_framing.specs.Frames.{RequestFrame, IsFrame, frames_bytes}
@@ -44,7 +44,7 @@ HaveSent connections cames backs = ⊥
 -- for it, some of each connection's, in the order of its frames.
 abbrev pub HasExecutedOnly : ℕ → List (List RequestFrame) → LinkReport → Type 0
 HasExecutedOnly position connections link = IfSome (board_there link.telling)
-    (λ (board : Board). IsMergeOfSome (map (bodies_for position) connections) (executed board))
+    (λ (board : Board). IsMergeOfSome (map (bodies_for position) connections) (bodies_executed board))
 
 -- so of all boards, the first of which has this position
 abbrev pub HaveExecutedOnly : ℕ → List (List RequestFrame) → List LinkReport → Type 0

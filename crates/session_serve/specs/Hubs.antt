@@ -13,7 +13,7 @@ use Rattle.lane_record.specs.Submissions.{Submission}
 use Rattle.hub_lane.specs.Lanes.{LaneState}
 use Rattle.hub_lane.specs.declared.answers.BoardState.{BoardState}
 use Rattle.hub_multiplexer.specs.Ends.{Ends}
-use Rattle.hub_multiplexer.specs.Lanes.{shown}
+use Rattle.hub_multiplexer.specs.Lanes.{shown_record}
 use Rattle.hub_multiplexer.specs.Seats.{MasterState, SeatState}
 use Rattle.client_history.specs.Clients.{came_with}
 use Rattle.board_greeting.specs.Boards.{head_shown}
@@ -88,7 +88,7 @@ pub record IsServedLane {L : Type 0} (tells : L → Option Telling) (connections
     (old new : LaneState L) : Type 0 where
   pub after : Knowledge
   pub served_on : WereServedOn connections (came_with (head_shown tells old) []) after
-  pub ended : Ends after (shown tells new)
+  pub ended : Ends after (shown_record tells new)
 
 -- what connections submitted to a lane
 abbrev pub submitted_on : List BoardState → ℕ → List Conversation → List (List Submission)

@@ -10,3 +10,4 @@ pub mod Hubs
 pub mod Finish
 pub mod Plans
 pub mod Prepared
+pub mod ReportLaws

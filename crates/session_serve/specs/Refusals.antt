@@ -4,8 +4,8 @@ use Rattle.std.specs.List.{AllByRecursion, slice_get, slice_set}
 use Rattle.transaction_codec.specs.Answer.{reply_room}
 use Rattle.lane_record.specs.Submissions.{Submission}
 use Rattle.hub_lane.specs.Lanes.{FitsBoard}
-use Rattle.hub_lane.specs.declared.answers.PlanRefusal.TheVariants.{Sealed, TooLong, ReplyTooLong, Overfull, NoMemory}
 use Rattle.hub_lane.specs.declared.answers.BoardState.{BoardState}
+use Rattle.hub_session.specs.declared.got.BodyRefusal.TheVariants.{Sealed, TooLong, ReplyTooLong, Overfull}
 use Rattle.hub_session.specs.declared.got.Got.{Got}
 use Rattle.hub_session.specs.declared.got.Got.TheVariants.{NotAsked, Refused, Came}
 use Rattle.hub_session.specs.Exchanges.{Exchange, request_of, submissions_on}
@@ -23,7 +23,6 @@ IsDecidedByRules payload connections body (Refused ReplyTooLong) =
 IsDecidedByRules payload connections body (Refused Overfull) =
     FitsBoard payload body × HaveFilledLane connections body
 IsDecidedByRules payload connections body (Refused Sealed) = ⊥
-IsDecidedByRules payload connections body (Refused NoMemory) = ⊥
 IsDecidedByRules payload connections body (Came outcome) = FitsBoard payload body
 
 -- so of the body that a frame has for this lane, if it has one

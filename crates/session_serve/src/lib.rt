@@ -4,6 +4,7 @@
 //! What comes of it is `AreServed`. The definitions that contracts cite are in `specs/`.
 #![tactic(auto)]
 
+mod below;
 mod connection;
 mod finish;
 mod hub;

@@ -14,19 +14,15 @@ ghost use Rattle.session_serve.specs.Executed.{CameInFrames};
 ghost use Rattle.session_serve.specs.Prepared.{IsReady};
 ghost use Rattle.session_serve.specs.Serving.{AreBack, AreServed, HadMemory};
 
+use crate::below::laws_of_reports;
 use crate::finish::finish_boards;
 use crate::hub::serve_at_hub;
 use crate::prepared::{Prepared, prepare};
 use crate::report::{ServeFault, ServeReport};
 use board_greeting::{Rejoined, Split, greet_boards, keep_all, split_boards};
 use board_node::BoardSpec;
-use client_history::connections::{
-    a_finished_lane_tells_the_numbers_of_its_line, a_finished_lane_was_served,
-    connections_of_a_hub_leave_what_they_submitted,
-};
 use hub_lane::Greeted;
 use ipb_outside::Door;
-use lane_history::records::a_board_executes_a_merge_at_any_moment;
 use lossy_network::Rack;
 use reliable_engine::Settings;
 use std::alloc::Global;
@@ -66,10 +62,7 @@ fn serve_split<R: Rack, D: Door, T: Threads + Wait + Sync>(
     ensures door_faults { RisesExactlyIf (result ≡ Err ServeFault.Door) (D.faults door.old) (D.faults door.new) }
     ensures not_rack { result ≢ Err ServeFault.Rack }
 {
-    connections_of_a_hub_leave_what_they_submitted();
-    a_finished_lane_was_served();
-    a_finished_lane_tells_the_numbers_of_its_line();
-    a_board_executes_a_merge_at_any_moment();
+    laws_of_reports();
     let Split {
         places,
         positions: _,

@@ -3,7 +3,7 @@ use Rattle.std.proofs.Common.{◌≡◌, ℕ, ◌+◌, length, map, List, [], �
 use Rattle.std.proofs.Common.{length-append}
 use Rattle.std.specs.List.{AllByRecursion, range_with_len}
 use Rattle.std.proofs.lemmas.Option.{slice_get_cases}
-use Rattle.script_steps.specs.Rulings.{Asked, asked}
+use Rattle.script_steps.specs.Rulings.{Asked, asked_operations}
 use Rattle.script_steps.specs.declared.operation.Step.{Step}
 use Rattle.script_plans.specs.declared.board_run.BoardRun.{BoardRun}
 use Rattle.transcript.specs.declared.line.OpLine.{OpLine}
@@ -27,5 +27,5 @@ numbers_behind runs client before (ask ∷ asks) all =
 
 pub each_numbered : (runs : List BoardRun) (client : ℕ) (steps : List Step) → AreOnBoards runs steps
     → map (λ (line : OpLine). line.number) (client_lines runs client steps)
-    ≡ range_with_len 1 (length (asked steps))
-each_numbered runs client steps all = numbers_behind runs client [] (asked steps) all
+    ≡ range_with_len 1 (length (asked_operations steps))
+each_numbered runs client steps all = numbers_behind runs client [] (asked_operations steps) all

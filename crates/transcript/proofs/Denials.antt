@@ -8,7 +8,7 @@ use Rattle.std.proofs.lemmas.Option.{slice_get_cases}
 use Rattle.ipb_base.proofs.AllLemmas.{AllByRecursion-append}
 use Rattle.reply_join.specs.declared.answer.Answer.{Answer}
 use Rattle.reply_join.specs.declared.answer.Answer.TheVariants as answer
-use Rattle.script_steps.specs.Rulings.{Asked, asked}
+use Rattle.script_steps.specs.Rulings.{Asked, asked_operations}
 use Rattle.script_steps.specs.declared.operation.RegOp.{RegOp}
 use Rattle.script_steps.specs.declared.operation.Step.{Step}
 use Rattle.script_steps.specs.declared.operation.Verb.{Verb}
@@ -23,8 +23,8 @@ use Rattle.transcript.specs.declared.body_end.Told.TheVariants as told
 use Rattle.transcript.specs.declared.body_end.BodyEnd.{BodyEnd}
 use Rattle.transcript.specs.declared.line.OpResult.{OpResult}
 use Rattle.transcript.specs.declared.line.OpResult.TheVariants.{Late}
-use Rattle.transcript.specs.Ends.{ends_of, answered, told_at, result_in, piece_result}
-use Rattle.transcript.specs.Results.{is_good, first_not_done, word_before, shown, shown_not_done}
+use Rattle.transcript.specs.Ends.{ends_of, answer_result, told_at, result_in, piece_result}
+use Rattle.transcript.specs.Results.{is_good, first_not_done, word_before, shown_result, shown_not_done}
 use Rattle.transcript.specs.Lines.{by_pieces, in_part, showing, shown_behind, line_of, lines_behind}
 use Rattle.transcript.specs.Lines.{lines_from}
 use Rattle.transcript.specs.Claims.{AreOnBoards, HasNoPlaceIfDenied, IsOnBoard, rule_in, rules_of, rules_shown}
@@ -34,7 +34,7 @@ use Rattle.transcript.specs.Claims.{AreOnBoards, HasNoPlaceIfDenied, IsOnBoard, 
 IsNotDenied : OpResult → Type 0
 IsNotDenied r = rule_in r ≡ None
 
-answered_so : (one : Option Answer) → IsNotDenied (answered one)
+answered_so : (one : Option Answer) → IsNotDenied (answer_result one)
 unfolding IsNotDenied
 answered_so (Some (answer.Values words)) = refl
 answered_so (Some answer.Done) = refl
@@ -61,7 +61,7 @@ unfolding IsNotDenied
 before_so [] = refl
 before_so (word ∷ words) = refl
 
-shown_so : (verb : Verb) (mask : ℕ) (words : List ℕ) → IsNotDenied (shown verb mask words)
+shown_so : (verb : Verb) (mask : ℕ) (words : List ℕ) → IsNotDenied (shown_result verb mask words)
 unfolding IsNotDenied
 shown_so Read mask words = refl
 shown_so Write mask words = refl
@@ -133,7 +133,7 @@ rules_from : (runs : List BoardRun) (client : ℕ) (scripts : List (List Step))
 rules_from runs client [] all = refl
 rules_from runs client (steps ∷ scripts) all =
     ap (λ (rules : List (Option ℕ)). rules ∷ map rules_shown (lines_from runs (client + 1) scripts))
-    (rules_behind runs client [] (asked steps) all.0)
+    (rules_behind runs client [] (asked_operations steps) all.0)
     ∙ ap (λ (rules : List (List (Option ℕ))). rules_of steps ∷ rules) (rules_from runs (client + 1) scripts all.1)
 
 pub rules_told : (scripts : List (List Step)) (runs : List BoardRun) → AllByRecursion (AreOnBoards runs) scripts
@@ -164,4 +164,4 @@ pub no_places : (runs : List BoardRun) (client : ℕ) (scripts : List (List Step
     → AllByRecursion (AllByRecursion HasNoPlaceIfDenied) (lines_from runs client scripts)
 no_places runs client [] = tt
 no_places runs client (steps ∷ scripts) =
-    (no_place_behind runs client [] (asked steps), no_places runs (client + 1) scripts)
+    (no_place_behind runs client [] (asked_operations steps), no_places runs (client + 1) scripts)

@@ -3,7 +3,6 @@ use Rattle.std.proofs.Common.{◌≡◌, ℕ, zero, suc, List, [], ◌∷◌, le
 use Rattle.std.proofs.Common.{◌∙◌, arith}
 use Rattle.std.specs.List.{slice_get}
 use Rattle.lane_record.specs.declared.outcome.Outcome.{Outcome}
-use Rattle.transcript.specs.declared.body_end.BodyEnd.{BodyEnd}
 use Rattle.transcript.specs.Ends.{end_of, ends_with}
 
 late_next : (lates : List (Option (List ℕ))) (k : ℕ) → get_or (drop 1 lates) k None ≡ get_or lates (suc k) None

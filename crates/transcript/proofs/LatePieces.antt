@@ -11,13 +11,13 @@ use Rattle.script_steps.specs.declared.operation.Verb.{Verb}
 use Rattle.transcript.specs.declared.line.LateAnswer.{LateAnswer}
 use Rattle.transcript.specs.declared.line.OpResult.{OpResult}
 use Rattle.transcript.specs.declared.line.OpResult.TheVariants.{Late}
-use Rattle.transcript.specs.Ends.{answered, late_at, late_of, told_at, told_by}
-use Rattle.transcript.specs.Results.{combined, first_not_done, is_good, shown, shown_not_done, shown_late, values_in}
+use Rattle.transcript.specs.Ends.{answer_result, late_at, late_of, told_at, told_by}
+use Rattle.transcript.specs.Results.{combined_result, first_not_done, is_good, shown_result, shown_not_done, shown_late, values_in}
 use Rattle.transcript.specs.Steps.{not_done_in}
 
 -- a fault that came in time is shown as it is
 pub in_time : (verb : Verb) (mask : ℕ) (one : Option Answer)
-    → option_map (shown_not_done verb mask) (not_done_in (answered one)) ≡ not_done_in (answered one)
+    → option_map (shown_not_done verb mask) (not_done_in (answer_result one)) ≡ not_done_in (answer_result one)
 in_time verb mask None = refl
 in_time verb mask (Some (answer.Values words)) = refl
 in_time verb mask (Some answer.Done) = refl
@@ -26,15 +26,15 @@ in_time verb mask (Some answer.Skipped) = refl
 
 -- where the answer is a fault, and where it is none
 pub late_fault : (verb : Verb) (mask : ℕ) (one : Option Answer) (fault : OpResult)
-    → not_done_in (answered one) ≡ Some fault → late_of fault ≡ shown_late verb mask (late_of (answered one))
+    → not_done_in (answer_result one) ≡ Some fault → late_of fault ≡ shown_late verb mask (late_of (answer_result one))
 late_fault verb mask None fault is = ap late_of (sym (same_Some _ fault is))
 late_fault verb mask (Some (answer.Values words)) fault is = absurd cc
 late_fault verb mask (Some answer.Done) fault is = absurd cc
 late_fault verb mask (Some (answer.Fault code after)) fault is = ap late_of (sym (same_Some _ fault is))
 late_fault verb mask (Some answer.Skipped) fault is = ap late_of (sym (same_Some _ fault is))
 
-pub late_words : (verb : Verb) (mask : ℕ) (one : Option Answer) → not_done_in (answered one) ≡ None
-    → late_of (shown verb mask (values_in (answered one))) ≡ shown_late verb mask (late_of (answered one))
+pub late_words : (verb : Verb) (mask : ℕ) (one : Option Answer) → not_done_in (answer_result one) ≡ None
+    → late_of (shown_result verb mask (values_in (answer_result one))) ≡ shown_late verb mask (late_of (answer_result one))
 late_words verb mask None is = absurd cc
 late_words verb mask (Some (answer.Values words)) is = refl
 late_words verb mask (Some answer.Done) is = refl
@@ -44,16 +44,16 @@ late_words verb mask (Some answer.Skipped) is = absurd cc
 -- ---- the piece alone
 
 alone : (verb : Verb) (mask : ℕ) (one : Option Answer)
-    → shown_late verb mask (late_of (answered one)) ≡ late_of (combined verb mask (answered one ∷ []))
+    → shown_late verb mask (late_of (answer_result one)) ≡ late_of (combined_result verb mask (answer_result one ∷ []))
 alone verb mask None = refl
 alone verb mask (Some (answer.Values words)) =
-    ap (λ (ws : List ℕ). late_of (shown verb mask ws)) (sym (append-nil words))
+    ap (λ (ws : List ℕ). late_of (shown_result verb mask ws)) (sym (append-nil words))
 alone verb mask (Some answer.Done) = refl
 alone verb mask (Some (answer.Fault code after)) = refl
 alone verb mask (Some answer.Skipped) = refl
 
 pub piece_alone : (verb : Verb) (mask index : ℕ) (found : Option (List Answer))
-    → shown_late verb mask (late_at found index) ≡ late_of (combined verb mask (told_at (told_by found) index ∷ []))
+    → shown_late verb mask (late_at found index) ≡ late_of (combined_result verb mask (told_at (told_by found) index ∷ []))
 piece_alone verb mask index None = refl
 piece_alone verb mask index (Some list) = alone verb mask (slice_get list index)
 
@@ -68,8 +68,8 @@ first_late rounds answer' (r ∷ front) back good =
 
 pub shown_alone : (verb : Verb) (mask rounds : ℕ) (answer' : LateAnswer) (front back : List OpResult)
     → list_all is_good front ≡ true
-    → combined verb mask (front ++ Late rounds answer' ∷ back) ≡ combined verb mask (Late rounds answer' ∷ [])
+    → combined_result verb mask (front ++ Late rounds answer' ∷ back) ≡ combined_result verb mask (Late rounds answer' ∷ [])
 shown_alone verb mask rounds answer' front back good =
     ap (λ (first : Option OpResult). unwrap_or (option_map (shown_not_done verb mask) first)
-    (shown verb mask (flat_map values_in (front ++ Late rounds answer' ∷ back))))
+    (shown_result verb mask (flat_map values_in (front ++ Late rounds answer' ∷ back))))
     (first_late rounds answer' front back good)

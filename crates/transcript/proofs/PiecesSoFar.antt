@@ -12,7 +12,7 @@ use Rattle.transcript.specs.declared.body_end.Told.{Told}
 use Rattle.transcript.specs.declared.line.OpResult.{OpResult}
 use Rattle.std.specs.Option.{option_map}
 use Rattle.transcript.specs.Ends.{piece_result, result_in, told_at}
-use Rattle.transcript.specs.Results.{combined, first_not_done, is_good, shown, shown_not_done, values_in}
+use Rattle.transcript.specs.Results.{combined_result, first_not_done, is_good, shown_result, shown_not_done, values_in}
 use Rattle.transcript.specs.Steps.{not_done_in}
 
 no_fault : (good : Bool) (f : OpResult → OpResult) (r : OpResult) (rest : Option OpResult)
@@ -68,16 +68,16 @@ fault_here verb mask ends pieces i d fault within failed =
 
 -- what they came to together
 pub came_to_fault : (verb : Verb) (mask : ℕ) (results : List OpResult) (fault : OpResult)
-    → option_map (shown_not_done verb mask) (first_not_done results) ≡ Some fault → fault ≡ combined verb mask results
+    → option_map (shown_not_done verb mask) (first_not_done results) ≡ Some fault → fault ≡ combined_result verb mask results
 came_to_fault verb mask results fault is =
-    sym (ap (λ (first : Option OpResult). unwrap_or first (shown verb mask (flat_map values_in results))) is)
+    sym (ap (λ (first : Option OpResult). unwrap_or first (shown_result verb mask (flat_map values_in results))) is)
 
 pub came_to_words : (verb : Verb) (mask : ℕ) (ends : List BodyEnd) (pieces : List PieceAt) (i : ℕ) (words : List ℕ)
     → length pieces ≤ i
     → words ++ flat_map values_in (map (piece_result ends) (drop i pieces))
     ≡ flat_map values_in (map (piece_result ends) pieces)
     → first_not_done (map (piece_result ends) (drop i pieces)) ≡ first_not_done (map (piece_result ends) pieces)
-    → shown verb mask words ≡ combined verb mask (map (piece_result ends) pieces)
+    → shown_result verb mask words ≡ combined_result verb mask (map (piece_result ends) pieces)
 came_to_words verb mask ends pieces i words past all none =
     let results = map (piece_result ends) pieces in
     let words_are : words ≡ flat_map values_in results = sym (append-nil words)
@@ -85,9 +85,9 @@ came_to_words verb mask ends pieces i words past all none =
     (sym (drop_all i pieces past)) ∙ all) in
     let faultless : first_not_done results ≡ None = sym none
     ∙ ap (λ (ps : List PieceAt). first_not_done (map (piece_result ends) ps)) (drop_all i pieces past) in
-    ap (shown verb mask) words_are
+    ap (shown_result verb mask) words_are
     ∙ sym (ap (λ (first : Option OpResult). unwrap_or (option_map (shown_not_done verb mask) first)
-    (shown verb mask (flat_map values_in results))) faultless)
+    (shown_result verb mask (flat_map values_in results))) faultless)
 
 -- ---- of one piece
 

@@ -24,7 +24,7 @@ use Rattle.script_steps.specs.declared.operation.Verb.{Verb}
 use Rattle.script_steps.specs.declared.operation.Verb.TheVariants.{Read, Write, ReadBlock, WriteBlock, RmwBits, RmwSum}
 use Rattle.script_steps.specs.declared.operation.RegOp.{RegOp}
 use Rattle.script_steps.specs.declared.operation.Step.{Step}
-use Rattle.script_steps.specs.Rulings.{Asked, asked}
+use Rattle.script_steps.specs.Rulings.{Asked, asked_operations}
 use Rattle.lane_record.specs.declared.outcome.Outcome.{Outcome}
 use Rattle.lane_record.specs.declared.outcome.Outcome.TheVariants as became
 use Rattle.script_plans.specs.declared.greeting.Greeting.{Greeting}
@@ -41,11 +41,11 @@ use Rattle.transcript.specs.declared.line.OpResult.{OpResult}
 use Rattle.transcript.specs.declared.line.OpResult.TheVariants.{Value, Done, Was, Error, Skipped, TimedOut, Late}
 use Rattle.transcript.specs.declared.line.OpResult.TheVariants.{Unsent, LinkLost, Garbled, Denied}
 use Rattle.script_plans.specs.Plan.{IsWithinBody}
-use Rattle.transcript.specs.Ends.{told_by, told_timed_out, end_of, ends_with, ends_of, answered, late_of, late_at}
+use Rattle.transcript.specs.Ends.{told_by, told_timed_out, end_of, ends_with, ends_of, answer_result, late_of, late_at}
 use Rattle.transcript.specs.Ends.{told_at}
 use Rattle.transcript.specs.Ends.{result_in, piece_result}
 use Rattle.transcript.specs.Ends.{place_at, place_in, piece_place}
-use Rattle.transcript.specs.Results.{is_good, first_not_done, values_in, word_before, shown, shown_late, shown_not_done}
+use Rattle.transcript.specs.Results.{is_good, first_not_done, values_in, word_before, shown_result, shown_late, shown_not_done}
 use Rattle.transcript.specs.Results.{op_places}
 use Rattle.transcript.specs.Lines.{Showing, by_pieces, in_part, showing, shown_behind, line_of, lines_behind}
 use Rattle.transcript.specs.Lines.{client_lines}
@@ -159,7 +159,7 @@ ends_fit joins (body ∷ bodies) (outcome ∷ outcomes) lates fits fit late_fits
 -- ---- pieces
 
 answered_fits : (list : List Answer) (index : ℕ) (one : Option Answer) → AllByRecursion AnswerFits list
-    → slice_get list index ≡ one → IsPrinted (answered one)
+    → slice_get list index ≡ one → IsPrinted (answer_result one)
 unfolding AnswerFits
 answered_fits list index None all at = tt
 answered_fits list index (Some (answer.Values words)) all at = all_at AnswerFits list index (answer.Values words) at all
@@ -180,7 +180,7 @@ late_at_fits : (list : Option (List Answer)) (index : ℕ) → IfSome list (AllB
     → IsPrintedLate (late_at list index)
 late_at_fits None index fits = tt
 late_at_fits (Some list) index fits =
-    late_of_fits (answered (slice_get list index)) (answered_fits list index (slice_get list index) fits refl)
+    late_of_fits (answer_result (slice_get list index)) (answered_fits list index (slice_get list index) fits refl)
 
 told_at_fits : (what : Told) (index : ℕ) → ToldFits what → IsPrinted (told_at what index)
 unfolding ToldFits
@@ -233,7 +233,7 @@ before_fits : (words : List ℕ) → AreWords words → IsPrinted (word_before w
 before_fits [] fits = tt
 before_fits (word ∷ words) fits = fits.0
 
-shown_fits : (verb : Verb) (mask : ℕ) (words : List ℕ) → AreWords words → IsPrinted (shown verb mask words)
+shown_fits : (verb : Verb) (mask : ℕ) (words : List ℕ) → AreWords words → IsPrinted (shown_result verb mask words)
 shown_fits Read mask words fits = fields_fit words mask fits
 shown_fits Write mask words fits = tt
 shown_fits ReadBlock mask words fits = fits
@@ -262,8 +262,8 @@ all_values_fit (r ∷ rs) fits =
 shown_late_fits : (verb : Verb) (mask : ℕ) (answer' : LateAnswer) → IsPrintedLate answer'
     → IsPrintedLate (shown_late verb mask answer')
 shown_late_fits verb mask (late_answer.Value words) fits =
-    late_of_fits (shown verb mask words) (shown_fits verb mask words fits)
-shown_late_fits verb mask late_answer.Done fits = late_of_fits (shown verb mask []) (shown_fits verb mask [] tt)
+    late_of_fits (shown_result verb mask words) (shown_fits verb mask words fits)
+shown_late_fits verb mask late_answer.Done fits = late_of_fits (shown_result verb mask []) (shown_fits verb mask [] tt)
 shown_late_fits verb mask other fits = fits
 
 shown_fault_fits : (verb : Verb) (mask : ℕ) (fault : OpResult) → IsPrinted fault
@@ -343,6 +343,6 @@ module _ (joins : Joins) where
       (lines_fit runs client (before ++ ask ∷ []) asks fits can.1 (omega (arith, length-append before (ask ∷ []))))
 
   pub client_lines_fit : (runs : List BoardRun) (client : ℕ) (steps : List Step) → AllByRecursion IsRunInRange runs
-      → AllByRecursion CanBeTold (asked steps) → length (asked steps) < 2 ^ 32
+      → AllByRecursion CanBeTold (asked_operations steps) → length (asked_operations steps) < 2 ^ 32
       → AllByRecursion IsPrintedLine (client_lines runs client steps)
-  client_lines_fit runs client steps fits can few = lines_fit runs client [] (asked steps) fits can (omega arith)
+  client_lines_fit runs client steps fits can few = lines_fit runs client [] (asked_operations steps) fits can (omega arith)

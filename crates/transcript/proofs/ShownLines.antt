@@ -11,7 +11,7 @@ use Rattle.mtu_packer.proofs.AnyLemmas.{any_nowhere, any_here, any_later, any_ca
 use Rattle.mtu_packer.proofs.AnyLemmas.{any_at, at_any}
 use Rattle.script_steps.specs.declared.operation.RegOp.{RegOp}
 use Rattle.script_steps.specs.declared.operation.Step.{Step}
-use Rattle.script_steps.specs.Rulings.{Asked, asked, allowed}
+use Rattle.script_steps.specs.Rulings.{Asked, asked_operations, allowed_operations}
 use Rattle.script_plans.specs.declared.greeting.Greeting.{Greeting}
 use Rattle.script_plans.specs.declared.greeting.Greeting.TheVariants.{Live, Silent, Down}
 use Rattle.lane_record.specs.declared.outcome.Outcome.{Outcome}
@@ -104,7 +104,7 @@ shown_place run client k op place Down is any = absurd (any_nowhere (IsAtPlace p
 ask_place : (run : BoardRun) (client : ℕ) (before : List Asked) (op : RegOp) (denied : Option ℕ) (place : ℕ)
     → Any (IsAtPlace place) (shown_behind run client before op denied).1 → IsPlaceOn run place
 ask_place run client before op None place any =
-    shown_place run client (count_on op.board (allowed before)) op place run.greeting refl any
+    shown_place run client (count_on op.board (allowed_operations before)) op place run.greeting refl any
 ask_place run client before op (Some rule) place any = absurd (any_nowhere (IsAtPlace place) any)
 
 module _ (P : OpLine → Type 0) (runs : List BoardRun) (client : ℕ) where
@@ -135,22 +135,22 @@ module _ (P : OpLine → Type 0) (runs : List BoardRun) (client : ℕ) where
   module _ (board : ℕ) (run : BoardRun) (there : slice_get runs board ≡ Some run) where
     -- what holds of the line of operation n, from 0, of those on the board that are not denied, and follow some
     abbrev HoldsAt : ℕ → Type 0
-    HoldsAt n = (before : List Asked) (op : RegOp) → op.board ≡ board → count_on board (allowed before) ≡ n
+    HoldsAt n = (before : List Asked) (op : RegOp) → op.board ≡ board → count_on board (allowed_operations before) ≡ n
         → P (line_of client before (record { op = op; denied = None }) run)
 
     counted : (op : RegOp) (ops : List RegOp) → count_on board (op ∷ ops) ≡ cond (op.board == board) 1 0 + count_on
         board ops
     counted op ops = sum_by-cons (λ (o : RegOp). cond (o.board == board) 1 0) op ops
 
-    both_counted : (before : List Asked) (ask : Asked) → count_on board (allowed (before ++ ask ∷ []))
-        ≡ count_on board (allowed before) + count_on board (allowed (ask ∷ []))
+    both_counted : (before : List Asked) (ask : Asked) → count_on board (allowed_operations (before ++ ask ∷ []))
+        ≡ count_on board (allowed_operations before) + count_on board (allowed_operations (ask ∷ []))
     both_counted before ask =
         ap (count_on board) (allowed-append before (ask ∷ []))
-        ∙ count_by-append (λ (o : RegOp). o.board == board) (allowed before) (allowed (ask ∷ []))
+        ∙ count_by-append (λ (o : RegOp). o.board == board) (allowed_operations before) (allowed_operations (ask ∷ []))
 
     -- the first of them, or a later one
     line_there : (before : List Asked) (op : RegOp) (asks : List Asked) (k n : ℕ) → op.board ≡ board
-        → count_on board (allowed before) ≡ n → HoldsAt (n + k)
+        → count_on board (allowed_operations before) ≡ n → HoldsAt (n + k)
         → ((j : ℕ) → k ≡ suc j
         → Any P (lines_behind runs client (before ++ record { op = op; denied = None } ∷ []) asks))
         → Any P (lines_behind runs client before (record { op = op; denied = None } ∷ asks))
@@ -168,7 +168,7 @@ module _ (P : OpLine → Type 0) (runs : List BoardRun) (client : ℕ) where
 
     -- the line of an operation among these that is not denied
     abbrev IsLater : List Asked → List Asked → Type 0
-    IsLater before asks = (k n : ℕ) → count_on board (allowed before) ≡ n → k < count_on board (allowed asks)
+    IsLater before asks = (k n : ℕ) → count_on board (allowed_operations before) ≡ n → k < count_on board (allowed_operations asks)
         → HoldsAt (n + k) → Any P (lines_behind runs client before asks)
 
     next_shown : (before : List Asked) (op : RegOp) (denied : Option ℕ) (asks : List Asked)
@@ -183,7 +183,7 @@ module _ (P : OpLine → Type 0) (runs : List BoardRun) (client : ℕ) where
         let ask : Asked = record { op = op; denied = None } in
         let longer = both_counted before ask in
         let last = counted op [] in
-        let all = counted op (allowed asks) in
+        let all = counted op (allowed_operations asks) in
         elim (cases_Bool (op.board == board)) [
           | inl here ↦
               let same : op.board ≡ board = grind (arith, nat_tests) in
@@ -300,7 +300,7 @@ shown_on : (scripts : List (List Step)) (runs : List BoardRun) (board : ℕ) (ru
 shown_on scripts runs board run place own at shown =
     let client = client_found (Any (ShowsPlace run.name place)) runs 0 scripts shown in
     let number = 0 + client.number in
-    let line = line_found (ShowsPlace run.name place) runs number [] (asked client.steps) client.holds in
+    let line = line_found (ShowsPlace run.name place) runs number [] (asked_operations client.steps) client.holds in
     let here = one_position runs own line.ask.op.board board line.run run line.there at line.holds.board' in
     let same : line.run ≡ run =
     same_Some line.run run (sym line.there ∙ ap (λ n. slice_get runs n) here ∙ at) in
@@ -339,7 +339,7 @@ module _ (law : BodiesHavePieces) where
       let k = found.0 in
       let count : length part.planned.pieces ≡ count_on board (operations steps) =
       ap (λ (p : ClientBodies). length p.pieces) planned ∙ each_has_pieces payload board steps in
-      let below : k < count_on board (allowed (asked steps)) =
+      let below : k < count_on board (allowed_operations (asked_operations steps)) =
       omega (
         arith,
         count,
@@ -350,12 +350,12 @@ module _ (law : BodiesHavePieces) where
       let number : client ≡ 0 + client = omega arith in
       client_shown (Any (ShowsPlace run.name place)) runs 0 scripts client steps script
       (subst (λ n. Any (ShowsPlace run.name place) (client_lines runs n steps)) number
-      (line_shown (ShowsPlace run.name place) runs client board run there [] (asked steps) k 0 refl below
+      (line_shown (ShowsPlace run.name place) runs client board run there [] (asked_operations steps) k 0 refl below
       (λ before op same counted. record {
         board' = refl;
         shown =
-            let same_count : count_on op.board (allowed before) ≡ k =
-            ap (λ b. count_on b (allowed before)) same ∙ counted ∙ omega arith in
+            let same_count : count_on op.board (allowed_operations before) ≡ k =
+            ap (λ b. count_on b (allowed_operations before)) same ∙ counted ∙ omega arith in
             rw live (rw at (rw same_count (rw found.2 shown)));
       })))
 

@@ -13,7 +13,7 @@ use Rattle.transcript.specs.declared.body_end.Told.TheVariants as told
 use Rattle.transcript.specs.declared.line.LateAnswer.{LateAnswer}
 use Rattle.transcript.specs.declared.line.LateAnswer.TheVariants as late_answer
 use Rattle.transcript.specs.declared.line.OpResult.TheVariants.{Error, Late, Skipped}
-use Rattle.transcript.specs.Ends.{answered, late_at, late_of, told_by, told_timed_out, told_of, told_at}
+use Rattle.transcript.specs.Ends.{answer_result, late_at, late_of, told_by, told_timed_out, told_of, told_at}
 use Rattle.transcript.specs.Claims.{HaveWords, HasWordsLate}
 
 -- what reply_join promises
@@ -25,14 +25,14 @@ abbrev pub Skips : Type 0
 Skips = (body reply : List ℕ) (list : List Answer) (i : ℕ) (one : Answer) → IsJoined body reply list
     → slice_get list i ≡ Some one → ((one ≡ answer.Skipped) ↔ IsBehindFault list i)
 
-skipped_answer : (one : Option Answer) → answered one ≡ Skipped → one ≡ Some answer.Skipped
+skipped_answer : (one : Option Answer) → answer_result one ≡ Skipped → one ≡ Some answer.Skipped
 skipped_answer None is = cc
 skipped_answer (Some (answer.Values words)) is = cc
 skipped_answer (Some answer.Done) is = cc
 skipped_answer (Some (answer.Fault code after)) is = cc
 skipped_answer (Some answer.Skipped) is = refl
 
-skipped_late : (one : Option Answer) → late_of (answered one) ≡ late_answer.Skipped → one ≡ Some answer.Skipped
+skipped_late : (one : Option Answer) → late_of (answer_result one) ≡ late_answer.Skipped → one ≡ Some answer.Skipped
 skipped_late None is = cc
 skipped_late (Some (answer.Values words)) is = cc
 skipped_late (Some answer.Done) is = cc
@@ -62,7 +62,7 @@ behind joins skips body words index None fits fit none skipped = cc
 behind joins skips body words index (Some list) fits fit found skipped =
     let fault = fault_before joins skips body words index list fits fit found
     (skipped_answer (slice_get list index) skipped) in
-    (fault.earlier, fault.code, fault.after, fault.before, ap answered fault.fault)
+    (fault.earlier, fault.code, fault.after, fault.before, ap answer_result fault.fault)
 
 not_in_time : (body : List ℕ) (rounds index : ℕ) (late : Option (List ℕ))
     → told_at (told_timed_out body rounds late) index ≡ Skipped → ⊥
@@ -81,7 +81,7 @@ behind_error joins skips body (became.LinkLost place) late index fits fit skippe
 
 -- ---- late answers
 
-answered_not_late : (one : Option Answer) (rounds : ℕ) (answer' : LateAnswer) → answered one ≡ Late rounds answer' → ⊥
+answered_not_late : (one : Option Answer) (rounds : ℕ) (answer' : LateAnswer) → answer_result one ≡ Late rounds answer' → ⊥
 answered_not_late None rounds answer' is = cc
 answered_not_late (Some (answer.Values words)) rounds answer' is = cc
 answered_not_late (Some answer.Done) rounds answer' is = cc
@@ -100,14 +100,14 @@ behind_late : Joins → Skips → (body words : List ℕ) (index rounds shown : 
 behind_late joins skips body words index rounds shown None fits fit none skipped = cc
 behind_late joins skips body words index rounds shown (Some list) fits fit found skipped =
     let same : rounds ≡ shown = cc in
-    let is : late_of (answered (slice_get list index)) ≡ late_answer.Skipped = cc in
+    let is : late_of (answer_result (slice_get list index)) ≡ late_answer.Skipped = cc in
     let fault = fault_before joins skips body words index list fits fit found
     (skipped_late (slice_get list index) is) in (
       fault.earlier,
       fault.code,
       fault.after,
       fault.before,
-      ap (λ (one : Option Answer). Late rounds (late_of (answered one))) fault.fault
+      ap (λ (one : Option Answer). Late rounds (late_of (answer_result one))) fault.fault
           ∙ ap (λ n. Late n (late_answer.Error fault.code fault.after)) same,
     )
 

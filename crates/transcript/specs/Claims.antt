@@ -3,7 +3,7 @@ use Rattle.std.specs.Prelude.{◌≡◌, ◌≢◌, ◌⊎◌, ℕ, ◌<◌, ◌
 use Rattle.std.specs.Prelude.{IfSome, length, map}
 use Rattle.std.specs.List.{AllByRecursion, list_all, slice_get}
 use Rattle.ipb_base.specs.Word.{IsWord, AreWords}
-use Rattle.script_steps.specs.Rulings.{Asked, asked}
+use Rattle.script_steps.specs.Rulings.{Asked, asked_operations}
 use Rattle.script_steps.specs.declared.operation.Step.{Step}
 use Rattle.script_plans.specs.declared.board_run.BoardRun.{BoardRun}
 use Rattle.script_plans.specs.declared.board_run.ClientPart.{ClientPart}
@@ -100,7 +100,7 @@ IsOnBoard runs ask = ask.op.board < length runs
 
 -- each operation, denied or not, is on a board of the run
 abbrev pub AreOnBoards : List BoardRun → List Step → Type 0
-AreOnBoards runs steps = AllByRecursion (IsOnBoard runs) (asked steps)
+AreOnBoards runs steps = AllByRecursion (IsOnBoard runs) (asked_operations steps)
 
 -- ---- denied operations
 
@@ -124,7 +124,7 @@ rules_shown lines = map (λ (line : OpLine). rule_in line.result) lines
 
 -- the rule that denies each operation of a client, where one does, operation by operation
 abbrev pub rules_of : List Step → List (Option ℕ)
-rules_of steps = map (λ (ask : Asked). ask.denied) (asked steps)
+rules_of steps = map (λ (ask : Asked). ask.denied) (asked_operations steps)
 
 -- the line of a denied operation shows no place
 abbrev pub HasNoPlaceIfDenied : OpLine → Type 0

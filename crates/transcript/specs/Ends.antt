@@ -54,12 +54,12 @@ ends_of part = ends_with part.planned.bodies part.outcomes part.lates
 
 -- ---- of one piece
 
-abbrev pub answered : Option Answer → OpResult
-answered (Some (answer.Values words)) = Value words
-answered (Some answer.Done) = Done
-answered (Some (answer.Fault code after)) = Error code after
-answered (Some answer.Skipped) = Skipped
-answered None = Garbled
+abbrev pub answer_result : Option Answer → OpResult
+answer_result (Some (answer.Values words)) = Value words
+answer_result (Some answer.Done) = Done
+answer_result (Some (answer.Fault code after)) = Error code after
+answer_result (Some answer.Skipped) = Skipped
+answer_result None = Garbled
 
 -- what a result is as a late answer; no transaction is answered by the others
 abbrev pub late_of : OpResult → LateAnswer
@@ -72,11 +72,11 @@ late_of other = late_answer.Garbled
 
 -- the late answer to the transaction of a number from 0
 abbrev pub late_at : Option (List Answer) → ℕ → LateAnswer
-late_at list index = late_of (answered (option_and_then (λ answers. slice_get answers index) list))
+late_at list index = late_of (answer_result (option_and_then (λ answers. slice_get answers index) list))
 
 -- what is told of the transaction of a number from 0
 abbrev pub told_at : Told → ℕ → OpResult
-told_at (told.Answered list) index = answered (slice_get list index)
+told_at (told.Answered list) index = answer_result (slice_get list index)
 told_at told.Garbled index = Garbled
 told_at (told.TimedOut rounds) index = TimedOut rounds
 told_at (told.Late rounds list) index = Late rounds (late_at list index)

@@ -14,7 +14,7 @@ use Rattle.script_steps.specs.declared.operation.Verb.TheVariants as verb
 use Rattle.script_steps.specs.declared.operation.Decision.TheVariants as decision
 use Rattle.script_steps.specs.declared.operation.Step.{Step}
 use Rattle.script_steps.specs.declared.operation.Step.TheVariants.{Do, Dispatch}
-use Rattle.script_steps.specs.Rulings.{ruled, ruled_step}
+use Rattle.script_steps.specs.Rulings.{steps_under_policy, ruled_step}
 use Rattle.lane_record.specs.declared.outcome.Outcome.{Outcome}
 use Rattle.lane_record.specs.declared.outcome.Outcome.TheVariants.{Replied, TimedOut, Unsent, LinkLost}
 use Rattle.script_plans.specs.declared.greeting.Greeting.{Greeting}
@@ -55,7 +55,7 @@ read_top = ask verb.Read (codes "a.top") 0x80000000 (ops.Read 8 1)
 -- a write between two reads, which this rule denies
 abbrev pub denied_write : ℕ → List Step
 denied_write rule =
-    ruled (read_a ∷ write_a ∷ read_id ∷ []) (decision.Allowed ∷ decision.Denied rule ∷ decision.Allowed ∷ [])
+    steps_under_policy (read_a ∷ write_a ∷ read_id ∷ []) (decision.Allowed ∷ decision.Denied rule ∷ decision.Allowed ∷ [])
 
 -- the board's part in one client's run, with what came late
 abbrev pub told_late : Greeting → List (List Outcome) → List (Option (List ℕ)) → List BoardFate
@@ -63,16 +63,16 @@ told_late greeting outcomes lates =
     record { name = codes "b0"; greeting = greeting; outcomes = outcomes ∷ []; lates = lates ∷ [] } ∷ []
 
 -- where nothing came late
-abbrev pub told : Greeting → List (List Outcome) → List BoardFate
-told greeting outcomes = told_late greeting outcomes []
+abbrev pub fates_told : Greeting → List (List Outcome) → List BoardFate
+fates_told greeting outcomes = told_late greeting outcomes []
 
 -- what is printed of one client
 abbrev pub printed_late : List Step → Greeting → List (List Outcome) → List (Option (List ℕ)) → List ℕ
 printed_late steps greeting outcomes lates =
     transcript_text (transcript (steps ∷ []) (told_late greeting outcomes lates))
 
-abbrev pub printed : List Step → Greeting → List (List Outcome) → List ℕ
-printed steps greeting outcomes = printed_late steps greeting outcomes []
+abbrev pub printed_text : List Step → Greeting → List (List Outcome) → List ℕ
+printed_text steps greeting outcomes = printed_late steps greeting outcomes []
 
 -- the payload of an MTU of 1500 bytes, and of 92
 abbrev pub live : Greeting

@@ -4,7 +4,7 @@ use Rattle.std.specs.Prelude.{slice_get, Option, Some, None, option_to_list, opt
 use Rattle.std.specs.List.{list_all}
 use Rattle.script_steps.specs.declared.operation.RegOp.{RegOp}
 use Rattle.script_steps.specs.declared.operation.Step.{Step}
-use Rattle.script_steps.specs.Rulings.{Asked, asked, allowed}
+use Rattle.script_steps.specs.Rulings.{Asked, asked_operations, allowed_operations}
 use Rattle.lane_record.specs.declared.outcome.Outcome.{Outcome}
 use Rattle.lane_record.specs.declared.outcome.Outcome.TheVariants.{Replied, TimedOut, Unsent, LinkLost}
 use Rattle.lane_record.specs.Outcomes.{is_sent, is_replied, is_timed_out}
@@ -59,7 +59,7 @@ denied_by rule = (result.Denied rule, [])
 -- An operation behind these of its client is shown so, by the rule that denies it. On its board the operations alone
 -- are counted that no rule denies.
 abbrev pub shown_behind : BoardRun → ℕ → List Asked → RegOp → Option ℕ → Showing
-shown_behind run client before op None = showing run client (count_on op.board (allowed before)) op
+shown_behind run client before op None = showing run client (count_on op.board (allowed_operations before)) op
 shown_behind run client before op (Some rule) = denied_by rule
 
 -- the line of an operation on a board, behind these operations of its client, denied or not
@@ -76,7 +76,7 @@ lines_behind runs client before (ask ∷ asks) =
 
 -- the lines of a client, counted from 0
 abbrev pub client_lines : List BoardRun → ℕ → List Step → List OpLine
-client_lines runs client steps = lines_behind runs client [] (asked steps)
+client_lines runs client steps = lines_behind runs client [] (asked_operations steps)
 
 -- the lines of the clients from a number on
 abbrev pub lines_from : List BoardRun → ℕ → List (List Step) → List (List OpLine)

@@ -53,18 +53,18 @@ word_before [] = Garbled
 word_before (word ∷ words) = Was word
 
 -- what an operation that was done shows of the words that its pieces gave; a masked read shows the field
-abbrev pub shown : Verb → ℕ → List ℕ → OpResult
-shown Read mask words = Value (map (λ word. field word mask) words)
-shown Write mask words = Done
-shown ReadBlock mask words = Value words
-shown WriteBlock mask words = Done
-shown RmwBits mask words = word_before words
-shown RmwSum mask words = word_before words
+abbrev pub shown_result : Verb → ℕ → List ℕ → OpResult
+shown_result Read mask words = Value (map (λ word. field word mask) words)
+shown_result Write mask words = Done
+shown_result ReadBlock mask words = Value words
+shown_result WriteBlock mask words = Done
+shown_result RmwBits mask words = word_before words
+shown_result RmwSum mask words = word_before words
 
 -- what an operation shows of the late answer to one of its pieces: what it would show of this piece alone
 abbrev pub shown_late : Verb → ℕ → LateAnswer → LateAnswer
-shown_late verb mask (late_answer.Value words) = late_of (shown verb mask words)
-shown_late verb mask late_answer.Done = late_of (shown verb mask [])
+shown_late verb mask (late_answer.Value words) = late_of (shown_result verb mask words)
+shown_late verb mask late_answer.Done = late_of (shown_result verb mask [])
 shown_late verb mask other = other
 
 -- what it shows of a piece that was not done, or not in time
@@ -74,14 +74,14 @@ shown_not_done verb mask other = other
 
 -- The first piece that was not done in time says what the operation came to. Where there is none it shows the
 -- words of all of them.
-abbrev pub combined : Verb → ℕ → List OpResult → OpResult
-combined verb mask results =
+abbrev pub combined_result : Verb → ℕ → List OpResult → OpResult
+combined_result verb mask results =
     unwrap_or (option_map (shown_not_done verb mask) (first_not_done results))
-    (shown verb mask (flat_map values_in results))
+    (shown_result verb mask (flat_map values_in results))
 
 -- what an operation came to, and where it stands in its board's order
 abbrev pub op_result : List BodyEnd → RegOp → List PieceAt → OpResult
-op_result ends op pieces = combined op.verb op.mask (map (piece_result ends) pieces)
+op_result ends op pieces = combined_result op.verb op.mask (map (piece_result ends) pieces)
 
 abbrev pub op_places : List BodyEnd → List PieceAt → List (ℕ × ℕ)
 op_places ends pieces = flat_map (piece_place ends) pieces

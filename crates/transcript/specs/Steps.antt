@@ -5,7 +5,7 @@ use Rattle.std.specs.Prelude.{slice_set, slice_index, Option, Some, None}
 use Rattle.std.specs.Option.{option_map_or}
 use Rattle.script_steps.specs.declared.operation.RegOp.{RegOp}
 use Rattle.script_steps.specs.declared.operation.Step.{Step}
-use Rattle.script_steps.specs.Rulings.{asked, allowed}
+use Rattle.script_steps.specs.Rulings.{asked_operations, allowed_operations}
 use Rattle.script_steps.specs.declared.operation.Verb.{Verb}
 use Rattle.lane_record.specs.declared.outcome.Outcome.{Outcome}
 use Rattle.transcript.specs.declared.body_end.BodyEnd.{BodyEnd}
@@ -48,8 +48,8 @@ abbrev pub denied_line : ℕ → RegOp → ℕ → BoardRun → OpLine
 denied_line number op rule run = line_with number op run.name (denied_by rule)
 
 -- one more at a place that is there
-abbrev pub bumped : ℕ → List ℕ → List ℕ
-bumped at counts = slice_set counts at (slice_index counts at + 1)
+abbrev pub one_more_at : ℕ → List ℕ → List ℕ
+one_more_at at counts = slice_set counts at (slice_index counts at + 1)
 
 abbrev pub AreBelow : ℕ → List ℕ → Type 0
 AreBelow most counts = (b : ℕ) → slice_index counts b ≤ most
@@ -57,11 +57,11 @@ AreBelow most counts = (b : ℕ) → slice_index counts b ≤ most
 -- where a client's first `i` steps have these lines, so many operations, and so many on each board that are not denied
 pub record IsProgress (runs : List BoardRun) (client : ℕ) (steps : List Step) (i : ℕ) (made : List OpLine) (number : ℕ)
     (counts : List ℕ) : Type 0 where
-  pub lines : made ++ lines_behind runs client (asked (take i steps)) (asked (drop i steps))
+  pub lines : made ++ lines_behind runs client (asked_operations (take i steps)) (asked_operations (drop i steps))
       ≡ client_lines runs client steps
-  pub operations' : number ≡ length (asked (take i steps))
+  pub operations' : number ≡ length (asked_operations (take i steps))
   pub boards : length counts ≡ length runs
-  pub counts' : (b : ℕ) → b < length runs → slice_index counts b ≡ count_on b (allowed (asked (take i steps)))
+  pub counts' : (b : ℕ) → b < length runs → slice_index counts b ≡ count_on b (allowed_operations (asked_operations (take i steps)))
 
 abbrev pub is_of : Kind → Outcome → Bool
 is_of kind.Sent outcome = is_sent outcome

@@ -1,7 +1,7 @@
 //! Counting of a client's operations.
 
 ghost use Rattle.std.specs.Prelude.{◌≡◌, ◌+◌, IfOk, OnOk, replicate, slice_index};
-ghost use Rattle.transcript.specs.Steps.{bumped, AreBelow};
+ghost use Rattle.transcript.specs.Steps.{one_more_at, AreBelow};
 
 use ipb_base::NoMemory;
 use std::alloc::Global;
@@ -43,7 +43,7 @@ impl Counts {
         requires { AreBelow self.old.number self.old.on_boards.items }
         ensures before { IfOk result (λ before. before ≡ slice_index self.old.on_boards.items board) }
         ensures number { OnOk result (self.new.number ≡ self.old.number + 1) }
-        ensures counts { OnOk result (self.new.on_boards.items ≡ bumped board self.old.on_boards.items) }
+        ensures counts { OnOk result (self.new.on_boards.items ≡ one_more_at board self.old.on_boards.items) }
     {
         self.raise_number()?;
         if board >= self.on_boards.len() {

@@ -10,10 +10,10 @@ ghost use Rattle.transcript.specs.Listing.{named_text};
 ghost use Rattle.transcript.specs.Lines.{run_status};
 ghost use Rattle.transcript.specs.Session.{transcript};
 ghost use Rattle.transcript.specs.Examples.{
-  printed,
+  printed_text,
   printed_late,
   answered_late,
-  told,
+  fates_told,
   told_late,
   live,
   narrow,
@@ -35,15 +35,15 @@ ghost use Rattle.transcript.specs.Examples.{
 
 /// One read of one word.
 pub fn one_read()
-    ensures text { printed (read_id ∷ []) live ((Replied 1 (0x20000100 ∷ 0xabcd ∷ []) ∷ []) ∷ [])
+    ensures text { printed_text (read_id ∷ []) live ((Replied 1 (0x20000100 ∷ 0xabcd ∷ []) ∷ []) ∷ [])
         ≡ codes "client 1\n1 read b0:sys.id = 0x0000abcd @1.1\nboard b0 places 1 replied 1 timeout 0 lost 0\n" }
     ensures status { run_status (transcript ((read_id ∷ []) ∷ [])
-        (told live ((Replied 1 (0x20000100 ∷ 0xabcd ∷ []) ∷ []) ∷ []))).clients ≡ 0 }
+        (fates_told live ((Replied 1 (0x20000100 ∷ 0xabcd ∷ []) ∷ []) ∷ []))).clients ≡ 0 }
 {}
 
 /// A field of one bit is written, and read as the whole word and under its mask.
 pub fn a_masked_write_and_a_masked_read()
-    ensures { printed (write_top ∷ read_a ∷ read_top ∷ []) live
+    ensures { printed_text (write_top ∷ read_a ∷ read_top ∷ []) live
         ((Replied 1 (0x20000140 ∷ 0 ∷ 0x20010100 ∷ 0x80000000 ∷ 0x20020100 ∷ 0x80000000 ∷ []) ∷ []) ∷ [])
         ≡ codes "client 1\n1 write b0:a.top done @1.1\n2 read b0:a = 0x80000000 @1.2\n"
         ++ codes "3 read b0:a.top = 0x00000001 @1.3\nboard b0 places 1 replied 1 timeout 0 lost 0\n" }
@@ -51,7 +51,7 @@ pub fn a_masked_write_and_a_masked_read()
 
 /// A block read of 20 words at a payload of 16 words: two bodies, whose places another client's stands between.
 pub fn pieces_have_places_of_their_own()
-    ensures { printed (read_mem 20 ∷ []) narrow
+    ensures { printed_text (read_mem 20 ∷ []) narrow
         ((Replied 1 (zeros_read 0x20000e00 14) ∷ Replied 3 (zeros_read 0x20000600 6) ∷ []) ∷ [])
         ≡ codes "client 1\n1 readblock b0:mem ="
         ++ (codes " 0x00000000 0x00000000 0x00000000 0x00000000 0x00000000 0x00000000 0x00000000 0x00000000"
@@ -62,25 +62,25 @@ pub fn pieces_have_places_of_their_own()
 
 /// A block read that ends past the last word of its range, the read behind it, and one in a later body.
 pub fn a_fault_skips_the_rest_of_its_body()
-    ensures text { printed (read_mem 10 ∷ read_id ∷ Dispatch ∷ read_id ∷ []) live
+    ensures text { printed_text (read_mem 10 ∷ read_id ∷ Dispatch ∷ read_id ∷ []) live
         ((Replied 1 (zeros_read 0x20000804 8) ∷ []) ∷ (Replied 2 (0x20000100 ∷ 0xabcd ∷ []) ∷ []) ∷ [])
         ≡ codes "client 1\n1 readblock b0:mem error 4 after 8 @1.1\n2 read b0:sys.id skipped @1.2\n"
         ++ codes "3 read b0:sys.id = 0x0000abcd @2.1\nboard b0 places 2 replied 2 timeout 0 lost 0\n" }
     ensures status { run_status (transcript ((read_mem 10 ∷ read_id ∷ Dispatch ∷ read_id ∷ []) ∷ [])
-        (told live ((Replied 1 (zeros_read 0x20000804 8) ∷ []) ∷ (Replied 2 (0x20000100 ∷ 0xabcd ∷ []) ∷ []) ∷ []))
+        (fates_told live ((Replied 1 (zeros_read 0x20000804 8) ∷ []) ∷ (Replied 2 (0x20000100 ∷ 0xabcd ∷ []) ∷ []) ∷ []))
         ).clients ≡ 1 }
 {}
 
 /// A window of one body: the first times out, and the one behind it is never sent.
 pub fn a_timeout_and_what_waits_behind_it()
-    ensures { printed (read_mem 14 ∷ read_id ∷ []) narrow ((TimedOut 1 2 ∷ Unsent ∷ []) ∷ [])
+    ensures { printed_text (read_mem 14 ∷ read_id ∷ []) narrow ((TimedOut 1 2 ∷ Unsent ∷ []) ∷ [])
         ≡ codes "client 1\n1 readblock b0:mem timeout after 2 rounds, execution unknown @1.1\n"
         ++ codes "2 read b0:sys.id unsent\nboard b0 places 1 replied 0 timeout 1 lost 0\n" }
 {}
 
 /// A write that was executed although its reply never came: the next dispatch reads it.
 pub fn a_timeout_that_was_executed()
-    ensures { printed (write_a ∷ Dispatch ∷ read_a ∷ []) live
+    ensures { printed_text (write_a ∷ Dispatch ∷ read_a ∷ []) live
         ((TimedOut 1 2 ∷ []) ∷ (Replied 2 (0x20000100 ∷ 1 ∷ []) ∷ []) ∷ [])
         ≡ codes "client 1\n1 write b0:a timeout after 2 rounds, execution unknown @1.1\n"
         ++ codes "2 read b0:a = 0x00000001 @2.1\nboard b0 places 2 replied 1 timeout 1 lost 0\n" }
@@ -138,38 +138,38 @@ pub fn the_first_piece_that_is_not_done_is_shown()
 /// A write that a policy denies has its number and nothing else: the reads around it are all that the board is asked.
 /// It is denied also where the board does not answer, and by rule 0 where no rule decides.
 pub fn a_denied_write_between_two_reads()
-    ensures text { printed (denied_write 1) live
+    ensures text { printed_text (denied_write 1) live
         ((Replied 1 (0x20000100 ∷ 0 ∷ 0x20010100 ∷ 0xabcd ∷ []) ∷ []) ∷ [])
         ≡ codes "client 1\n1 read b0:a = 0x00000000 @1.1\n2 write b0:a denied by rule 1\n"
         ++ codes "3 read b0:sys.id = 0x0000abcd @1.2\nboard b0 places 1 replied 1 timeout 0 lost 0\n" }
     ensures status { run_status (transcript (denied_write 1 ∷ [])
-        (told live ((Replied 1 (0x20000100 ∷ 0 ∷ 0x20010100 ∷ 0xabcd ∷ []) ∷ []) ∷ []))).clients ≡ 1 }
-    ensures silent { printed (denied_write 0) Silent []
+        (fates_told live ((Replied 1 (0x20000100 ∷ 0 ∷ 0x20010100 ∷ 0xabcd ∷ []) ∷ []) ∷ []))).clients ≡ 1 }
+    ensures silent { printed_text (denied_write 0) Silent []
         ≡ codes "client 1\n1 read b0:a unsent\n2 write b0:a denied by rule 0\n"
         ++ codes "3 read b0:sys.id unsent\nboard b0 silent\n" }
 {}
 
 /// A board that does not answer, one whose link fails in the greeting, and one whose link fails later.
 pub fn boards_that_do_not_answer()
-    ensures silent { printed (read_id ∷ []) Silent [] ≡ codes "client 1\n1 read b0:sys.id unsent\nboard b0 silent\n" }
-    ensures down { printed (read_id ∷ []) Down [] ≡ codes "client 1\n1 read b0:sys.id link lost\nboard b0 down\n" }
-    ensures lost { printed (read_id ∷ []) live ((LinkLost (Some 1) ∷ []) ∷ [])
+    ensures silent { printed_text (read_id ∷ []) Silent [] ≡ codes "client 1\n1 read b0:sys.id unsent\nboard b0 silent\n" }
+    ensures down { printed_text (read_id ∷ []) Down [] ≡ codes "client 1\n1 read b0:sys.id link lost\nboard b0 down\n" }
+    ensures lost { printed_text (read_id ∷ []) live ((LinkLost (Some 1) ∷ []) ∷ [])
         ≡ codes "client 1\n1 read b0:sys.id link lost @1.1\nboard b0 places 1 replied 0 timeout 0 lost 1\n" }
-    ensures before { printed (read_id ∷ []) live ((LinkLost None ∷ []) ∷ [])
+    ensures before { printed_text (read_id ∷ []) live ((LinkLost None ∷ []) ∷ [])
         ≡ codes "client 1\n1 read b0:sys.id link lost\nboard b0 places 0 replied 0 timeout 0 lost 0\n" }
 {}
 
 /// Words that are no reply to the body, and a client without operations.
 pub fn garbled_words_and_an_empty_script()
-    ensures garbled { printed (read_id ∷ []) live ((Replied 1 (0x20010100 ∷ 0xabcd ∷ []) ∷ []) ∷ [])
+    ensures garbled { printed_text (read_id ∷ []) live ((Replied 1 (0x20010100 ∷ 0xabcd ∷ []) ∷ []) ∷ [])
         ≡ codes "client 1\n1 read b0:sys.id garbled @1.1\nboard b0 places 1 replied 1 timeout 0 lost 0\n" }
-    ensures empty { printed [] live []
+    ensures empty { printed_text [] live []
         ≡ codes "client 1\nboard b0 places 0 replied 0 timeout 0 lost 0\n" }
 {}
 
 /// A block read of 600 words: three pieces, of which two share the second body.
 pub fn three_pieces_in_two_bodies()
-    ensures { printed (read_mem 600 ∷ []) live ((Replied 1 (zeros_read 0x2000ff00 255)
+    ensures { printed_text (read_mem 600 ∷ []) live ((Replied 1 (zeros_read 0x2000ff00 255)
         ∷ Replied 2 (zeros_read 0x2000ff00 255 ++ zeros_read 0x20015a00 90) ∷ []) ∷ [])
         ≡ codes "client 1\n1 readblock b0:mem =" ++ (flat_map (λ (word : ℕ). codes " 0x00000000") (replicate 600 0)
         ++ codes " @1.1,2.1,2.2\nboard b0 places 2 replied 2 timeout 0 lost 0\n") }

@@ -5,7 +5,7 @@ ghost use Rattle.std.specs.Prelude.{count_by, get_or, map, min, slice_get};
 ghost use Rattle.std.specs.List.{AllByRecursion, filter_map, list_all, range_with_len};
 ghost use Rattle.ipb_base.specs.Word.{AreWords};
 ghost use Rattle.script_steps.specs.declared.operation.Step.{Step};
-ghost use Rattle.script_steps.specs.Rulings.{asked};
+ghost use Rattle.script_steps.specs.Rulings.{asked_operations};
 ghost use Rattle.script_steps.specs.declared.operation.Verb.{Verb};
 ghost use Rattle.lane_record.specs.declared.outcome.Outcome.{Outcome as OutcomeValue};
 ghost use Rattle.lane_record.specs.declared.outcome.Outcome.TheVariants as became;
@@ -19,7 +19,7 @@ ghost use Rattle.transcript.specs.declared.body_end.BodyEnd.{BodyEnd as BodyEndV
 ghost use Rattle.script_plans.specs.declared.board_run.BoardRun.{BoardRun as BoardRunValue};
 ghost use Rattle.lane_record.specs.Outcomes.{place_of, is_sent, is_replied, is_timed_out};
 ghost use Rattle.transcript.specs.Ends.{end_of, ends_with, late_of, told_of, told_at};
-ghost use Rattle.transcript.specs.Results.{combined, is_good, op_places};
+ghost use Rattle.transcript.specs.Results.{combined_result, is_good, op_places};
 ghost use Rattle.transcript.specs.Text.{line_text};
 ghost use Rattle.transcript.specs.Lines.{is_lost, run_status, client_lines, transcript_of};
 ghost use Rattle.transcript.specs.Claims.{IsDone, HaveWords, HasWordsLate, IsPrintedLine, IsOther, HaveOwnPlaces};
@@ -49,7 +49,7 @@ pub fn the_status_tells_whether_all_was_done()
 pub fn every_operation_has_its_line()
     ensures { (runs : List BoardRunValue) (client : ℕ) (steps : List Step) → AreOnBoards runs steps →
         map (λ (line : OpLineValue). line.number) (client_lines runs client steps)
-        ≡ range_with_len 1 (length (asked steps)) }
+        ≡ range_with_len 1 (length (asked_operations steps)) }
 {}
 
 /// The lines of a session show a rule exactly where their operations are denied, operation by operation, and it is the
@@ -94,12 +94,12 @@ pub fn skipped_stands_behind_an_error()
 /// reply come in time. Pieces that were done before it are not shown, nor are those behind it.
 pub fn a_late_answer_is_that_of_its_piece_alone()
     ensures answer { (verb : Verb) (mask place rounds index : ℕ) (body words : List ℕ) →
-        combined verb mask (told_at (told_of body (became.TimedOut place rounds) (Some words)) index ∷ [])
+        combined_result verb mask (told_at (told_of body (became.TimedOut place rounds) (Some words)) index ∷ [])
         ≡ Late rounds (late_of
-        (combined verb mask (told_at (told_of body (became.Replied place words) None) index ∷ []))) }
+        (combined_result verb mask (told_at (told_of body (became.Replied place words) None) index ∷ []))) }
     ensures alone { (verb : Verb) (mask rounds : ℕ) (answer : LateAnswerValue) (front back : List OpResultValue) →
-        list_all is_good front ≡ true → combined verb mask (front ++ Late rounds answer ∷ back)
-        ≡ combined verb mask (Late rounds answer ∷ []) }
+        list_all is_good front ≡ true → combined_result verb mask (front ++ Late rounds answer ∷ back)
+        ≡ combined_result verb mask (Late rounds answer ∷ []) }
 {}
 
 /// Where no two bodies have one place, no two pieces of an operation have one, since they stand in order.
@@ -119,7 +119,7 @@ pub fn a_text_is_that_of_one_line()
 /// follow their rules: so its text tells every one of them.
 pub fn the_lines_of_a_client_can_be_told()
     ensures { (runs : List BoardRunValue) (client : ℕ) (steps : List Step) → AllByRecursion IsRunInRange runs →
-        AllByRecursion CanBeTold (asked steps) → length (asked steps) < 2 ^ 32 →
+        AllByRecursion CanBeTold (asked_operations steps) → length (asked_operations steps) < 2 ^ 32 →
         AllByRecursion IsPrintedLine (client_lines runs client steps) }
 {
     joining_is_a_function();

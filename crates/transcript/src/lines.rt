@@ -3,7 +3,7 @@
 ghost use Rattle.std.specs.Prelude.{◌≡◌, ◌+◌, ◌-◌, ◌++◌, ◌^◌, ◌<◌, [], IfOk, OnOk, length, map, option_to_list};
 ghost use Rattle.std.specs.Prelude.{option_map, slice_get, slice_index};
 ghost use Rattle.transcript.specs.Lines as spec;
-ghost use Rattle.transcript.specs.Steps.{ends_on, denied_line, line_on, bumped, AreBelow};
+ghost use Rattle.transcript.specs.Steps.{ends_on, denied_line, line_on, one_more_at, AreBelow};
 
 use crate::body_end::{BodyEnd, ends_of};
 use crate::counting::Counts;
@@ -106,7 +106,7 @@ fn add_line(
     requires below { AreBelow progress.old.counts.number progress.old.counts.on_boards.items }
     ensures number { OnOk result (progress.new.counts.number ≡ progress.old.counts.number + 1) }
     ensures counts { OnOk result (progress.new.counts.on_boards.items
-        ≡ bumped op.now.board progress.old.counts.on_boards.items) }
+        ≡ one_more_at op.now.board progress.old.counts.on_boards.items) }
     ensures lines { let number = progress.old.counts.number + 1 in
         let k = slice_index progress.old.counts.on_boards.items op.now.board in
         OnOk result (progress.new.lines.items ≡ progress.old.lines.items

@@ -4,7 +4,7 @@ ghost use Rattle.std.specs.Prelude.{◌≡◌, ◌+◌, ◌++◌, [], ◌∷◌,
 ghost use Rattle.std.specs.Prelude.{◌&&◌, slice_get, slice_index, string_bytes};
 ghost use Rattle.transcript.specs.Lines as spec;
 ghost use Rattle.transcript.specs.Printing.{HasPrinted};
-ghost use Rattle.transcript.specs.Steps.{AreBelow, bumped, denied_line, ends_on, line_on};
+ghost use Rattle.transcript.specs.Steps.{AreBelow, one_more_at, denied_line, ends_on, line_on};
 ghost use Rattle.transcript.specs.Text as texts;
 
 use crate::boards::board_lines;
@@ -87,7 +87,7 @@ impl Printer {
         requires ends { map (λ e. e.items) ends.now ≡ map (ends_on client) runs.now }
         requires below { AreBelow counts.old.number counts.old.on_boards.items }
         ensures number { OnOk result (counts.new.number ≡ counts.old.number + 1) }
-        ensures counts { OnOk result (counts.new.on_boards.items ≡ bumped op.now.board counts.old.on_boards.items) }
+        ensures counts { OnOk result (counts.new.on_boards.items ≡ one_more_at op.now.board counts.old.on_boards.items) }
         ensures lines { let number = counts.old.number + 1 in
             let k = slice_index counts.old.on_boards.items op.now.board in
             OnOk result (HasPrinted self.old self.new

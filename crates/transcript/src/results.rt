@@ -4,7 +4,7 @@ ghost use Rattle.std.specs.Prelude.{◌≡◌, ◌++◌, [], IfOk, OnOk, map, op
 ghost use Rattle.std.specs.List.{AllByRecursion};
 ghost use Rattle.masked_fields.specs.Field.{field};
 ghost use Rattle.script_plans.specs.Plan.{IsWithinBody};
-ghost use Rattle.transcript.specs.Ends.{answered, late_at, late_of, piece_result, piece_place};
+ghost use Rattle.transcript.specs.Ends.{answer_result, late_at, late_of, piece_result, piece_place};
 ghost use Rattle.transcript.specs.Results as spec;
 ghost use Rattle.transcript.specs.Steps.{not_done_in, or_value};
 
@@ -23,8 +23,8 @@ fn answer_fault(
     index: u16,
     words: &mut Vec<u32>,
 ) -> Result<Option<OpResult>, NoMemory>
-    ensures fault { IfOk result (λ fault. fault ≡ not_done_in (answered (slice_get answers.now index))) }
-    ensures values { let came_to = answered (slice_get answers.now index) in
+    ensures fault { IfOk result (λ fault. fault ≡ not_done_in (answer_result (slice_get answers.now index))) }
+    ensures values { let came_to = answer_result (slice_get answers.now index) in
         OnOk result (words.new.items ≡ words.old.items ++ spec.values_in came_to) }
 {
     match answers.get(index as usize) {
@@ -71,7 +71,7 @@ fn word_before(words: &[u32]) -> OpResult
 /// What an operation that was done shows of the words that its pieces gave, unless that is the words as they stand
 /// then.
 fn shown(verb: Verb, mask: u32, words: &mut Vec<u32>) -> Option<OpResult>
-    ensures { or_value result words.new.items ≡ spec.shown verb mask words.old.items }
+    ensures { or_value result words.new.items ≡ spec.shown_result verb mask words.old.items }
 {
     match verb {
         Verb::Read => {

@@ -1,8 +1,7 @@
 -- What is written of a result and of places is read again.
 use Rattle.std.proofs.Common.{◌≡◌, ◌⊎◌, ℕ, zero, suc, ◌-◌, ◌*◌, ◌<◌, ◌≤◌, ◌^◌, nat_lt, List, [], ◌∷◌, ◌++◌, length}
-use Rattle.std.proofs.Common.{Option, Some, None, refl, sym, ap, ◌∙◌, arith, codes, replicate, false, true, inl, inr}
+use Rattle.std.proofs.Common.{Some, None, refl, ap, ◌∙◌, arith, codes, replicate, false, true, inl, inr}
 use Rattle.std.proofs.Common.{append_assoc}
-use Rattle.std.specs.Char.{digit_value}
 use Rattle.std.specs.Fmt.{decimal, digits}
 use Rattle.std.specs.List.{AllByRecursion}
 use Rattle.std.specs.Str.Parse.{AllDigits, digits_value}
@@ -14,15 +13,14 @@ use Rattle.transcript.specs.declared.line.LateAnswer.TheVariants as late_answer
 use Rattle.transcript.specs.declared.line.OpResult.{OpResult}
 use Rattle.transcript.specs.declared.line.OpResult.TheVariants.{Value, Done, Was, Error, Skipped, TimedOut, Late}
 use Rattle.transcript.specs.declared.line.OpResult.TheVariants.{Unsent, LinkLost, Garbled, Denied}
-use Rattle.transcript.specs.Text.{hex_text, word_text, words_text, error_text, answer_text, result_text}
+use Rattle.transcript.specs.Text.{hex_text, word_text, words_text, answer_text, result_text}
 use Rattle.transcript.specs.Text.{place_text, more_places, places_text}
 use Rattle.transcript.specs.Claims.{IsByte, IsPrinted, IsPrintedLate, IsPrintedPlace, rule_in}
-use Rattle.transcript.specs.Lines.{Showing}
-use Rattle.transcript_reader.specs.Fronts.{Front, behind, in_front, all_of, ◌>>=◌}
-use Rattle.transcript_reader.specs.Reading.{digit_at, number_at, decimal_at, below, word_at, next_word_at, fault_at}
+use Rattle.ipb_base.specs.Fronts.{in_front, all_of, ◌>>=◌}
+use Rattle.transcript_reader.specs.Reading.{digit_at, number_at, decimal_at, word_at, next_word_at, fault_at}
 use Rattle.transcript_reader.specs.Reading.{plain_at, answer_at, rounds_at, timeout_at, result_at, place_at}
 use Rattle.transcript_reader.specs.Reading.{next_place_at, showing_at}
-use Rattle.transcript_reader.proofs.Many.{all_step, all_stop}
+use Rattle.ipb_base.proofs.Fronts.{all_step, all_stop}
 use Rattle.transcript_reader.proofs.Numbers.{NoDigit, number_again}
 use Rattle.transcript_reader.proofs.Texts.{words_shorten, places_shorten}
 

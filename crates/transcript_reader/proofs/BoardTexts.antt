@@ -8,11 +8,11 @@ use Rattle.transcript.specs.declared.line.BoardLine.{BoardLine}
 use Rattle.transcript.specs.declared.line.BoardLine.TheVariants.{Live, Silent, Down}
 use Rattle.transcript.specs.Text.{board_text, down_text, live_text, silent_text}
 use Rattle.transcript_reader.specs.Entries.{IsCount, IsLineOf}
-use Rattle.transcript_reader.specs.Fronts.{behind, ◌>>=◌}
+use Rattle.ipb_base.specs.Fronts.{behind, ◌>>=◌}
 use Rattle.transcript_reader.specs.Reading.{counts_at, digit_at}
 use Rattle.transcript_reader.specs.Walks.{ReadsBoard, ReadsLive, board_front}
 use Rattle.transcript_reader.proofs.Again.{decimal_number}
-use Rattle.transcript_reader.proofs.Words.{behind_again}
+use Rattle.ipb_base.proofs.FrontWords.{behind_again}
 
 pub counts_text : ℕ → ℕ → ℕ → ℕ → List ℕ
 counts_text sent replied timed_out lost =

@@ -1,6 +1,6 @@
 -- The first line that does not stand in its place is the first at fault.
 use Rattle.std.proofs.Common.{◌≡◌, ◌⊎◌, ℕ, zero, suc, ◌+◌, ◌<◌, List, [], ◌∷◌, ◌++◌, length, slice_get, Option, Some, None}
-use Rattle.std.proofs.Common.{inl, inr, refl, sym, ap, subst, ◌∙◌, arith, length-append}
+use Rattle.std.proofs.Common.{inl, inr, refl, ap, subst, ◌∙◌, arith, length-append}
 use Rattle.std.specs.List.{AllZip}
 use Rattle.board_node.specs.declared.spec.BoardSpec.{BoardSpec}
 use Rattle.script_steps.specs.declared.operation.Step.{Step}
@@ -8,7 +8,7 @@ use Rattle.script_plans.specs.declared.greeting.Greeting.{Greeting}
 use Rattle.transcript_reader.specs.declared.shown.Unshown.{Unshown}
 use Rattle.transcript_reader.specs.declared.shown.Unshown.TheVariants.{At, NoMemory}
 use Rattle.transcript_reader.specs.Entries.{Entry, MayStand, entries, lines_of, told_boards}
-use Rattle.transcript_reader.specs.Faults.{IsFaultAt, IsRightAt, IsUnshown}
+use Rattle.transcript_reader.specs.Faults.{IsFaultAt, IsUnshown}
 use Rattle.transcript_reader.specs.Walks.{IsStuck, IsStuckBehind}
 
 module _ (boards : List BoardSpec) (told : List Greeting) where

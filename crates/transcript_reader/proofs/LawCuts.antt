@@ -3,7 +3,7 @@ use Rattle.std.proofs.Common.{◌≡◌, ℕ, ◌+◌, List, [], ◌∷◌, ◌+
 use Rattle.std.specs.List.{AllByRecursion, AllZip, flat_map}
 use Rattle.board_node.specs.declared.spec.BoardSpec.{BoardSpec}
 use Rattle.script_steps.specs.declared.operation.Step.{Step}
-use Rattle.script_steps.specs.Rulings.{Asked, asked}
+use Rattle.script_steps.specs.Rulings.{Asked, asked_operations}
 use Rattle.transcript.specs.declared.line.BoardLine.{BoardLine}
 use Rattle.transcript.specs.declared.line.OpLine.{OpLine}
 use Rattle.transcript.specs.Lines.{Showing}
@@ -77,12 +77,12 @@ are_operations boards n (ask ∷ asks) (s ∷ shows) names registers = (
 )
 
 are_clients : (boards : List BoardSpec) (scripts : List (List Step)) (clients : List (List Showing))
-    → HaveBoardNames boards → AllByRecursion (λ (steps : List Step). HaveRegisterNames (asked steps)) scripts
+    → HaveBoardNames boards → AllByRecursion (λ (steps : List Step). HaveRegisterNames (asked_operations steps)) scripts
     → AllByRecursion AreLines (clients_under boards scripts clients)
 are_clients boards [] clients names registers = tt
 are_clients boards (steps ∷ scripts) [] names registers = tt
 are_clients boards (steps ∷ scripts) (shows ∷ clients) names registers = (
-  are_operations boards 1 (asked steps) shows names registers.0,
+  are_operations boards 1 (asked_operations steps) shows names registers.0,
   are_clients boards scripts clients names registers.1,
 )
 

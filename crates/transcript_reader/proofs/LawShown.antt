@@ -3,7 +3,7 @@ use Rattle.std.proofs.Common.{◌≡◌, ℕ, ◌+◌, List, [], ◌∷◌, ◌+
 use Rattle.std.specs.List.{AllZip}
 use Rattle.board_node.specs.declared.spec.BoardSpec.{BoardSpec}
 use Rattle.script_steps.specs.declared.operation.Step.{Step}
-use Rattle.script_steps.specs.Rulings.{Asked, asked}
+use Rattle.script_steps.specs.Rulings.{Asked, asked_operations}
 use Rattle.script_plans.specs.declared.greeting.Greeting.{Greeting}
 use Rattle.transcript.specs.declared.line.BoardLine.{BoardLine}
 use Rattle.transcript.specs.declared.line.BoardLine.TheVariants.{Live, Silent, Down}
@@ -160,11 +160,11 @@ module _ (boards : List BoardSpec) (told : List Greeting) where
   same_clients n (s ∷ scripts) [] ys can could same = absurd can
   same_clients n (s ∷ scripts) (x ∷ xs) [] can could same = absurd could
   same_clients n (s ∷ scripts) (x ∷ xs) (y ∷ ys) can could same =
-      let parts = two_parts (map line_text (lines_under boards 1 (asked s) x))
-      (map line_text (lines_under boards 1 (asked s) y)) (client_texts (n + 1) (clients_under boards scripts xs))
+      let parts = two_parts (map line_text (lines_under boards 1 (asked_operations s) x))
+      (map line_text (lines_under boards 1 (asked_operations s) y)) (client_texts (n + 1) (clients_under boards scripts xs))
       (client_texts (n + 1) (clients_under boards scripts ys))
-      (as_many_lines 1 (asked s) x can.0 ∙ sym (as_many_lines 1 (asked s) y could.0)) (tails same) in
-      ap (λ (z : List Showing). z ∷ xs) (same_operations 1 (asked s) x y can.0 could.0 parts.0)
+      (as_many_lines 1 (asked_operations s) x can.0 ∙ sym (as_many_lines 1 (asked_operations s) y could.0)) (tails same) in
+      ap (λ (z : List Showing). z ∷ xs) (same_operations 1 (asked_operations s) x y can.0 could.0 parts.0)
       ∙ ap (λ (zs : List (List Showing)). y ∷ zs) (same_clients (n + 1) scripts xs ys can.1 could.1 parts.1)
 
 -- ---- the whole

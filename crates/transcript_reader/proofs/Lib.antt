@@ -2,8 +2,6 @@ pub mod LawLines
 pub mod LawCuts
 pub mod LawPlaces
 pub mod LawShown
-pub mod Words
-pub mod Many
 pub mod Numbers
 pub mod Texts
 pub mod Again

@@ -1,6 +1,6 @@
 -- Texts cut into lines.
 use Rattle.std.proofs.Common.{◌≡◌, ◌≢◌, ℕ, zero, suc, ◌+◌, ◌-◌, ◌<◌, List, [], ◌∷◌, ◌++◌, length, get_or, take, drop, nat_eq}
-use Rattle.std.proofs.Common.{refl, sym, ap, ◌∙◌, Bool, true, false, arith, add-one, length-drop, Option, Some, None}
+use Rattle.std.proofs.Common.{refl, ap, ◌∙◌, true, false, arith, add-one, length-drop, Option, Some, None}
 use Rattle.std.specs.Prelude.{MatchOption}
 use Rattle.std.proofs.lemmas.Bool.{eqb-true}
 use Rattle.std.proofs.lemmas.Bool.Decides.{nat_tests}

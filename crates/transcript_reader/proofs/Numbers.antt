@@ -5,9 +5,9 @@ use Rattle.std.specs.Char.{digit_value}
 use Rattle.std.specs.Str.Parse.{AllDigits, digits_value, digits_value_after}
 use Rattle.std.proofs.lemmas.Bool.Decides.{nat_tests}
 use Rattle.std.proofs.Math.Nat.{mul-le-mul_left}
-use Rattle.transcript_reader.specs.Fronts.{Front, ◌>>=◌}
+use Rattle.ipb_base.specs.Fronts.{Front, ◌>>=◌}
 use Rattle.transcript_reader.specs.Reading.{digit_at, with_digit, number_from, number_at}
-use Rattle.transcript_reader.proofs.Many.{Shortens, bound, rest_of, parts_of}
+use Rattle.ipb_base.proofs.Fronts.{Shortens, bound, rest_of, parts_of}
 
 short_by : (b : Bool) (byte value d : ℕ) (text rest : List ℕ)
     → cond {A = Front ℕ} b (Some (value, text)) None ≡ Some (d, rest) → length rest < length (byte ∷ text)

@@ -3,16 +3,15 @@ use Rattle.std.proofs.Common.{◌≡◌, ℕ, List, ◌++◌, Option, Some, None
 use Rattle.std.proofs.lemmas.Option.{slice_get-get_or}
 use Rattle.ipb_base.specs.declared.no_memory.NoMemory.{NoMemory}
 use Rattle.board_node.specs.declared.spec.BoardSpec.{BoardSpec}
-use Rattle.script_steps.specs.declared.operation.RegOp.{RegOp}
 use Rattle.script_steps.specs.Rulings.{Asked}
 use Rattle.script_plans.specs.declared.greeting.Greeting.{Greeting}
 use Rattle.transcript.specs.Lines.{Showing, line_with, never_sent}
 use Rattle.transcript.specs.Text.{asked_text, line_text}
-use Rattle.transcript_reader.specs.Entries.{CanShowIn, line_under, name_at}
-use Rattle.transcript_reader.specs.Fronts.{behind}
+use Rattle.transcript_reader.specs.Entries.{line_under, name_at}
+use Rattle.ipb_base.specs.Fronts.{behind}
 use Rattle.transcript_reader.specs.Results.{CanShowUnless}
 use Rattle.transcript_reader.specs.Walks.{ReadsOperation, ReadsShown, shows_text}
-use Rattle.transcript_reader.proofs.Words.{behind_again}
+use Rattle.ipb_base.proofs.FrontWords.{behind_again}
 
 -- what stands before the result
 abbrev pub front_of : List BoardSpec → ℕ → Asked → List ℕ

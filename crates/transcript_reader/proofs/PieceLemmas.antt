@@ -1,6 +1,6 @@
 -- What can be told of some piece of an operation.
-use Rattle.std.proofs.Common.{◌≡◌, ◌⊎◌, ◌↔◌, ℕ, zero, suc, ◌+◌, ◌-◌, ◌*◌, ◌<◌, ◌≤◌, List, [], ◌∷◌, length, get_or, map, min}
-use Rattle.std.proofs.Common.{take, drop, length-take, length-drop, refl, sym, ap, subst, ◌∙◌, arith}
+use Rattle.std.proofs.Common.{◌≡◌, ◌⊎◌, ◌↔◌, ℕ, zero, suc, ◌+◌, ◌-◌, ◌*◌, ◌<◌, ◌≤◌, List, [], ◌∷◌, length, map, min}
+use Rattle.std.proofs.Common.{take, drop, length-take, length-drop, refl, sym, subst, ◌∙◌, arith}
 use Rattle.std.specs.List.{Any, range_with_len}
 use Rattle.std.specs.Int.{div_ceil}
 use Rattle.std.proofs.lemmas.Grind.{div_ceil_times}
@@ -9,10 +9,10 @@ use Rattle.std.proofs.lemmas.Nat.{mul-le}
 use Rattle.mtu_packer.specs.declared.packing.TheConstants.{MIN_PAYLOAD}
 use Rattle.transaction_codec.specs.declared.request.Op.{Op}
 use Rattle.transaction_codec.specs.declared.request.Op.TheVariants.{Read, ReadPort, Write, WritePort, RmwBits, RmwSum}
-use Rattle.transaction_codec.specs.Answer.{Fails, values_done}
+use Rattle.transaction_codec.specs.Answer.{Fails}
 use Rattle.transaction_codec.specs.Request.{op_count}
-use Rattle.mtu_packer.specs.Cutting.{CanBeCut, cut, piece, piece_count, piece_length, piece_limit}
-use Rattle.transcript_reader.specs.Results.{CanFail, CanRead}
+use Rattle.mtu_packer.specs.Cutting.{CanBeCut, piece, piece_count, piece_length, piece_limit}
+use Rattle.transcript_reader.specs.Results.{CanFail}
 use Rattle.transcript_reader.specs.Walks.{FailsWith}
 
 module _ {X : Type 0} (P : X → Type 0) (f : ℕ → X) where

@@ -1,11 +1,11 @@
 -- What the reader takes off a text, and that it reads again what is written.
-use Rattle.std.proofs.Common.{◌≡◌, ℕ, zero, suc, ◌-◌, ◌<◌, ◌≤◌, ◌^◌, nat_lt, Bool, true, false, cond, List, [], ◌∷◌, ◌++◌, length}
-use Rattle.std.proofs.Common.{Option, Some, None, refl, sym, ap, ◌∙◌, arith, codes, replicate, drop, length-append}
-use Rattle.transcript_reader.specs.Fronts.{Front, behind, ◌>>=◌}
+use Rattle.std.proofs.Common.{◌≡◌, ℕ, ◌-◌, ◌<◌, ◌≤◌, ◌^◌, nat_lt, Bool, true, false, cond, List, [], ◌∷◌, ◌++◌, length}
+use Rattle.std.proofs.Common.{Some, None, ap, ◌∙◌, arith, codes, length-append}
+use Rattle.ipb_base.specs.Fronts.{Front, behind, ◌>>=◌}
 use Rattle.transcript_reader.specs.Reading.{number_at, below, word_at, next_word_at, place_at, next_place_at, decimal_at}
-use Rattle.transcript_reader.proofs.Many.{Shortens, bound, parts_of, rest_of}
+use Rattle.ipb_base.proofs.Fronts.{Shortens, bound, parts_of, rest_of}
 use Rattle.transcript_reader.proofs.Numbers.{no_longer}
-use Rattle.transcript_reader.proofs.Words.{behind_found}
+use Rattle.ipb_base.proofs.FrontWords.{behind_found}
 
 same_length : (xs ys : List ℕ) → xs ≡ ys → length xs ≡ length ys
 same_length xs ys e = ap length e

@@ -1,10 +1,9 @@
 -- What the lines of boards tell, one board after another.
-use Rattle.std.proofs.Common.{◌≡◌, ℕ, zero, suc, ◌+◌, ◌<◌, ◌≤◌, List, [], ◌∷◌, ◌++◌, length, get_or, drop, slice_get, Option, Some, None}
+use Rattle.std.proofs.Common.{◌≡◌, ℕ, zero, suc, ◌+◌, ◌<◌, ◌≤◌, List, [], ◌∷◌, ◌++◌, length, get_or, drop, slice_get, None}
 use Rattle.std.proofs.Common.{refl, sym, ap, ◌∙◌, arith, add-one, append_assoc, length-append, drop-cons}
-use Rattle.std.specs.List.{AllByRecursion}
 use Rattle.board_node.specs.declared.spec.BoardSpec.{BoardSpec}
 use Rattle.script_steps.specs.declared.operation.Step.{Step}
-use Rattle.script_steps.specs.Rulings.{Asked, asked}
+use Rattle.script_steps.specs.Rulings.{Asked, asked_operations}
 use Rattle.script_plans.specs.declared.greeting.Greeting.{Greeting}
 use Rattle.transcript_reader.specs.Entries.{clients_from, operations_from, told_by, told_from, told_in}
 
@@ -16,12 +15,12 @@ length_operations number (ask ∷ asks) = ap suc (length_operations (number + 1)
 
 pub length_client : (client : ℕ) (steps : List Step) (scripts : List (List Step))
     → length (clients_from client (steps ∷ scripts))
-    ≡ 1 + length (asked steps) + length (clients_from (client + 1) scripts)
+    ≡ 1 + length (asked_operations steps) + length (clients_from (client + 1) scripts)
 length_client client steps scripts =
     omega (
       arith,
-      length-append (operations_from 1 (asked steps)) (clients_from (client + 1) scripts),
-      length_operations 1 (asked steps),
+      length-append (operations_from 1 (asked_operations steps)) (clients_from (client + 1) scripts),
+      length_operations 1 (asked_operations steps),
     )
 
 pub next_item : {A : Type 0} (xs : List A) (i : ℕ) (x : A) → i < length xs → x ≡ get_or xs i x

@@ -1,15 +1,15 @@
 -- Lines one after another.
-use Rattle.std.proofs.Common.{◌≡◌, ◌⊎◌, ℕ, zero, suc, ◌+◌, ◌<◌, List, [], ◌∷◌, ◌++◌, length, map, get_or, take, drop}
-use Rattle.std.proofs.Common.{Option, Some, None, inl, inr, refl, sym, ap, subst, ◌∙◌, arith, add-one, append_assoc}
+use Rattle.std.proofs.Common.{◌≡◌, ◌⊎◌, ℕ, suc, ◌+◌, ◌<◌, List, [], ◌∷◌, ◌++◌, length, map, get_or, take, drop}
+use Rattle.std.proofs.Common.{Some, None, inl, inr, refl, sym, ap, subst, ◌∙◌, arith, add-one, append_assoc}
 use Rattle.std.proofs.Common.{length-append, take-suc, append-nil, Result, Ok, Err, IfErr}
-use Rattle.std.specs.List.{AllByRecursion, AllZip, filter_map}
+use Rattle.std.specs.List.{AllZip}
 use Rattle.std.proofs.lemmas.List.{map-append, take-append-drop}
 use Rattle.std.proofs.lemmas.List.Elements.{filter_map-append}
 use Rattle.board_node.specs.declared.spec.BoardSpec.{BoardSpec}
 use Rattle.script_steps.specs.declared.operation.Step.{Step}
 use Rattle.script_steps.specs.declared.operation.Step.TheVariants.{Do, Denied, Dispatch}
 use Rattle.script_steps.specs.Packing.{CanBePacked}
-use Rattle.script_steps.specs.Rulings.{Asked, asked, asked_in}
+use Rattle.script_steps.specs.Rulings.{Asked, asked_operations, asked_in}
 use Rattle.script_plans.specs.declared.greeting.Greeting.{Greeting}
 use Rattle.transcript.specs.declared.line.BoardLine.{BoardLine}
 use Rattle.transcript.specs.declared.line.OpLine.{OpLine}
@@ -138,28 +138,28 @@ module _ (boards : List BoardSpec) (told : List Greeting) where
   clients_stand n (s ∷ scripts) [] can = absurd can
   clients_stand n (s ∷ scripts) (c ∷ clients) can = (
     refl,
-    zip_append (MayStand boards told) (operations_from 1 (asked s)) (clients_from (n + 1) scripts)
-        (map line_text (lines_under boards 1 (asked s) c)) (client_texts (n + 1) (clients_under boards scripts clients))
-        (ops_stand 1 (asked s) c can.0) (clients_stand (n + 1) scripts clients can.1),
+    zip_append (MayStand boards told) (operations_from 1 (asked_operations s)) (clients_from (n + 1) scripts)
+        (map line_text (lines_under boards 1 (asked_operations s) c)) (client_texts (n + 1) (clients_under boards scripts clients))
+        (ops_stand 1 (asked_operations s) c can.0) (clients_stand (n + 1) scripts clients can.1),
   )
 
   texts_push : (n k : ℕ) (scripts : List (List Step)) (clients : List (List Showing)) (s : List Step) (c : List Showing)
       → AllZip (CanShowAll told) scripts clients → k ≡ n + length scripts
       → client_texts n (clients_under boards (scripts ++ s ∷ []) (clients ++ c ∷ []))
       ≡ client_texts n (clients_under boards scripts clients)
-      ++ (heading k ∷ (map line_text (lines_under boards 1 (asked s) c) ++ []))
+      ++ (heading k ∷ (map line_text (lines_under boards 1 (asked_operations s) c) ++ []))
   texts_push n k [] [] s c can is =
       let same : n ≡ k = omega arith in
-      ap (λ (m : ℕ). heading m ∷ (map line_text (lines_under boards 1 (asked s) c) ++ [])) same
+      ap (λ (m : ℕ). heading m ∷ (map line_text (lines_under boards 1 (asked_operations s) c) ++ [])) same
   texts_push n k [] (d ∷ clients) s c can is = absurd can
   texts_push n k (t ∷ scripts) [] s c can is = absurd can
   texts_push n k (t ∷ scripts) (d ∷ clients) s c can is =
-      ap (λ (ls : List (List ℕ)). heading n ∷ (map line_text (lines_under boards 1 (asked t) d) ++ ls))
+      ap (λ (ls : List (List ℕ)). heading n ∷ (map line_text (lines_under boards 1 (asked_operations t) d) ++ ls))
       (texts_push (n + 1) k scripts clients s c can.1 (omega arith))
       ∙ ap (λ (ls : List (List ℕ)). heading n ∷ ls)
-      (sym (append_assoc (map line_text (lines_under boards 1 (asked t) d))
+      (sym (append_assoc (map line_text (lines_under boards 1 (asked_operations t) d))
       (client_texts (n + 1) (clients_under boards scripts clients))
-      (heading k ∷ (map line_text (lines_under boards 1 (asked s) c) ++ []))))
+      (heading k ∷ (map line_text (lines_under boards 1 (asked_operations s) c) ++ []))))
 
   clients_append : (n : ℕ) (xs ys : List (List Step))
       → clients_from n (xs ++ ys) ≡ clients_from n xs ++ clients_from (n + length xs) ys
@@ -168,9 +168,9 @@ module _ (boards : List BoardSpec) (told : List Greeting) where
   clients_append n (x ∷ xs) ys =
       let same : n + 1 + length xs ≡ n + length (x ∷ xs) = omega arith in
       ap (λ (es : List Entry). Heading n ∷ es)
-      (ap (λ (es : List Entry). operations_from 1 (asked x) ++ es)
+      (ap (λ (es : List Entry). operations_from 1 (asked_operations x) ++ es)
       (clients_append (n + 1) xs ys ∙ ap (λ (k : ℕ). clients_from (n + 1) xs ++ clients_from k ys) same)
-      ∙ sym (append_assoc (operations_from 1 (asked x)) (clients_from (n + 1) xs) (clients_from (n + length (x ∷ xs)) ys)))
+      ∙ sym (append_assoc (operations_from 1 (asked_operations x)) (clients_from (n + 1) xs) (clients_from (n + length (x ∷ xs)) ys)))
 
   -- ---- boards
 
@@ -191,37 +191,37 @@ sent_by (Denied rule op) ask is packed = let same : record { op = op; denied = S
 sent_by Dispatch ask is packed = absurd cc
 
 one_asked : (step : Step) (steps : List Step) (ask : Asked) → asked_in step ≡ Some ask
-    → asked (step ∷ steps) ≡ ask ∷ asked steps
+    → asked_operations (step ∷ steps) ≡ ask ∷ asked_operations steps
 one_asked step steps ask is = rw is refl
 
-none_asked : (step : Step) (steps : List Step) → asked_in step ≡ None → asked (step ∷ steps) ≡ asked steps
+none_asked : (step : Step) (steps : List Step) → asked_in step ≡ None → asked_operations (step ∷ steps) ≡ asked_operations steps
 none_asked step steps is = rw is refl
 
 taken : (steps : List Step) (i : ℕ) (step : Step) → i < length steps → step ≡ get_or steps i step
-    → asked (take (i + 1) steps) ≡ asked (take i steps) ++ asked (step ∷ [])
+    → asked_operations (take (i + 1) steps) ≡ asked_operations (take i steps) ++ asked_operations (step ∷ [])
 taken steps i step low is =
     rw add-one
-    (ap asked (take-suc steps i step low ∙ ap (λ (s : Step). take i steps ++ s ∷ []) (sym is))
+    (ap asked_operations (take-suc steps i step low ∙ ap (λ (s : Step). take i steps ++ s ∷ []) (sym is))
     ∙ filter_map-append asked_in (take i steps) (step ∷ []))
 
 pub asked_taken : (steps : List Step) (i : ℕ) (step : Step) (ask : Asked) → i < length steps
     → step ≡ get_or steps i step → asked_in step ≡ Some ask
-    → asked (take (i + 1) steps) ≡ asked (take i steps) ++ ask ∷ []
+    → asked_operations (take (i + 1) steps) ≡ asked_operations (take i steps) ++ ask ∷ []
 asked_taken steps i step ask low is some =
-    taken steps i step low is ∙ ap (λ (more : List Asked). asked (take i steps) ++ more) (one_asked step [] ask some)
+    taken steps i step low is ∙ ap (λ (more : List Asked). asked_operations (take i steps) ++ more) (one_asked step [] ask some)
 
 pub none_taken : (steps : List Step) (i : ℕ) (step : Step) → i < length steps → step ≡ get_or steps i step
-    → asked_in step ≡ None → asked (take (i + 1) steps) ≡ asked (take i steps)
+    → asked_in step ≡ None → asked_operations (take (i + 1) steps) ≡ asked_operations (take i steps)
 none_taken steps i step low is none =
     taken steps i step low is
-    ∙ (ap (λ (more : List Asked). asked (take i steps) ++ more) (none_asked step [] none) ∙ append-nil (asked (take i steps)))
+    ∙ (ap (λ (more : List Asked). asked_operations (take i steps) ++ more) (none_asked step [] none) ∙ append-nil (asked_operations (take i steps)))
 
 pub asked_parts : (steps : List Step) (i : ℕ) (step : Step) (ask : Asked) → drop i steps ≡ step ∷ drop (i + 1) steps
-    → asked_in step ≡ Some ask → asked steps ≡ asked (take i steps) ++ ask ∷ asked (drop (i + 1) steps)
+    → asked_in step ≡ Some ask → asked_operations steps ≡ asked_operations (take i steps) ++ ask ∷ asked_operations (drop (i + 1) steps)
 asked_parts steps i step ask is some =
-    ap asked (sym (take-append-drop i steps))
+    ap asked_operations (sym (take-append-drop i steps))
     ∙ (filter_map-append asked_in (take i steps) (drop i steps)
-    ∙ ap (λ (more : List Asked). asked (take i steps) ++ more) (ap asked is ∙ one_asked step (drop (i + 1) steps) ask some))
+    ∙ ap (λ (more : List Asked). asked_operations (take i steps) ++ more) (ap asked_operations is ∙ one_asked step (drop (i + 1) steps) ask some))
 
 pub take_next : {A : Type 0} (xs : List A) (i : ℕ) (x : A) → i < length xs → x ≡ get_or xs i x
     → take (i + 1) xs ≡ take i xs ++ x ∷ []
@@ -234,16 +234,16 @@ parts_at xs i x is = sym (take-append-drop i xs) ∙ ap (λ ys. take i xs ++ ys)
 module _ (boards : List BoardSpec) (told : List Greeting) where
   pub client_stuck : (client : ℕ) (steps : List Step) (old mid : Reader) (u : Unshown)
       → IsTaken old mid (heading client)
-      → IsStuckBehind boards told (operations_from 1 (asked steps)) (lines_of mid.text.now) mid.line u
-      → IsStuckBehind boards told (Heading client ∷ operations_from 1 (asked steps)) (lines_of old.text.now) old.line u
+      → IsStuckBehind boards told (operations_from 1 (asked_operations steps)) (lines_of mid.text.now) mid.line u
+      → IsStuckBehind boards told (Heading client ∷ operations_from 1 (asked_operations steps)) (lines_of old.text.now) old.line u
   client_stuck client steps old mid u taken stuck =
-      behind_after boards told (Heading client ∷ []) (operations_from 1 (asked steps)) (lines_of old.text.now)
+      behind_after boards told (Heading client ∷ []) (operations_from 1 (asked_operations steps)) (lines_of old.text.now)
       (heading client ∷ []) (lines_of mid.text.now) old.line mid.line u (refl, tt) taken.cut taken.counted stuck
 
   pub client_refused : (client : ℕ) (steps : List Step) (old mid : Reader) (r : Result (List Showing) Unshown)
       → IsTaken old mid (heading client)
-      → IfErr r (IsStuckBehind boards told (operations_from 1 (asked steps)) (lines_of mid.text.now) mid.line)
-      → IfErr r (IsStuckBehind boards told (Heading client ∷ operations_from 1 (asked steps)) (lines_of old.text.now)
+      → IfErr r (IsStuckBehind boards told (operations_from 1 (asked_operations steps)) (lines_of mid.text.now) mid.line)
+      → IfErr r (IsStuckBehind boards told (Heading client ∷ operations_from 1 (asked_operations steps)) (lines_of old.text.now)
       old.line)
   client_refused client steps old mid (Ok shows) taken stuck = tt
   client_refused client steps old mid (Err u) taken stuck = client_stuck client steps old mid u taken stuck
@@ -255,7 +255,7 @@ module _ (boards : List BoardSpec) (told : List Greeting) where
   clients_more scripts client steps found old mid new clients shows before is same next =
       let here = subst (λ (s : List Step). IsClient boards told client s mid new shows) same next in
       let T = client_texts 1 (clients_under boards scripts clients) in
-      let L = map line_text (lines_under boards 1 (asked steps) shows) in
+      let L = map line_text (lines_under boards 1 (asked_operations steps) shows) in
       record {
         can = zip_push (CanShowAll told) scripts clients steps shows before.can here.can;
         spelled =
@@ -278,10 +278,10 @@ module _ (boards : List BoardSpec) (told : List Greeting) where
   pub clients_stuck : (all scripts more : List (List Step)) (client : ℕ) (steps found : List Step) (old mid : Reader)
       (clients : List (List Showing)) (u : Unshown) → AreClients boards told scripts old mid clients
       → client ≡ 1 + length scripts → found ≡ steps → all ≡ scripts ++ steps ∷ more
-      → IsStuckBehind boards told (Heading client ∷ operations_from 1 (asked found)) (lines_of mid.text.now) mid.line u
+      → IsStuckBehind boards told (Heading client ∷ operations_from 1 (asked_operations found)) (lines_of mid.text.now) mid.line u
       → IsStuckBehind boards told (clients_from 1 all) (lines_of old.text.now) old.line u
   clients_stuck all scripts more client steps found old mid clients u before is same parts stuck =
-      let here = subst (λ (s : List Step). IsStuckBehind boards told (Heading client ∷ operations_from 1 (asked s))
+      let here = subst (λ (s : List Step). IsStuckBehind boards told (Heading client ∷ operations_from 1 (asked_operations s))
       (lines_of mid.text.now) mid.line u) same stuck in
       let rest = clients_from (client + 1) more in
       let renumbered : clients_from client (steps ∷ more) ≡ clients_from (1 + length scripts) (steps ∷ more) =
@@ -292,7 +292,7 @@ module _ (boards : List BoardSpec) (told : List Greeting) where
       (behind_after boards told (clients_from 1 scripts) (clients_from client (steps ∷ more)) (lines_of old.text.now)
       (client_texts 1 (clients_under boards scripts clients)) (lines_of mid.text.now) old.line mid.line u
       (clients_stand boards told 1 scripts clients before.can) before.spelled before.counted
-      (behind_more boards told (Heading client ∷ operations_from 1 (asked steps)) rest (lines_of mid.text.now) mid.line u
+      (behind_more boards told (Heading client ∷ operations_from 1 (asked_operations steps)) rest (lines_of mid.text.now) mid.line u
       here))
 
 pub mapped : (specs : List BoardSpec) → length (map Board specs) ≡ length specs

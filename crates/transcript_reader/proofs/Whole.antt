@@ -1,5 +1,5 @@
 -- The lines of clients and then those of boards are the whole text.
-use Rattle.std.proofs.Common.{◌≡◌, ℕ, ◌+◌, ◌<◌, List, [], ◌∷◌, ◌++◌, length, map, drop, refl, sym, ap, subst, ◌∙◌, arith}
+use Rattle.std.proofs.Common.{◌≡◌, ℕ, ◌+◌, ◌<◌, List, [], ◌∷◌, ◌++◌, length, map, drop, sym, ap, subst, ◌∙◌, arith}
 use Rattle.std.proofs.Common.{append_assoc, append-nil, length-append}
 use Rattle.std.specs.List.{AllZip}
 use Rattle.std.proofs.lemmas.Slice.Zip.{AllZip-long}
@@ -11,7 +11,6 @@ use Rattle.transcript.specs.declared.line.BoardLine.{BoardLine}
 use Rattle.transcript.specs.Lines.{Showing}
 use Rattle.transcript.specs.Text.{board_text}
 use Rattle.transcript_reader.specs.declared.reading.Reader.{Reader}
-use Rattle.transcript_reader.specs.declared.shown.Shown.{Shown}
 use Rattle.transcript_reader.specs.declared.shown.Unshown.{Unshown}
 use Rattle.transcript_reader.specs.declared.shown.Unshown.TheVariants.{At, NoMemory}
 use Rattle.transcript_reader.specs.Entries.{Board, IsLineOf, MayStand, clients_from, entries, lines_of, told_boards, told_from}

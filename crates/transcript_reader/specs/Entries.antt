@@ -9,7 +9,7 @@ use Rattle.board_node.specs.declared.spec.BoardSpec.{BoardSpec}
 use Rattle.board_node.specs.declared.spec.LinkSpec.{LinkSpec}
 use Rattle.board_node.specs.declared.spec.LinkSpec.TheVariants.{Sim, Udp}
 use Rattle.script_steps.specs.declared.operation.Step.{Step}
-use Rattle.script_steps.specs.Rulings.{Asked, asked}
+use Rattle.script_steps.specs.Rulings.{Asked, asked_operations}
 use Rattle.script_plans.specs.declared.greeting.Greeting.{Greeting}
 use Rattle.script_plans.specs.declared.greeting.Greeting.TheVariants.{Silent, Down}
 use Rattle.board_history.specs.Runs.{greeting_of}
@@ -48,7 +48,7 @@ operations_from number (ask ∷ asks) = Operation number ask ∷ operations_from
 abbrev pub clients_from : ℕ → List (List Step) → List Entry
 clients_from client [] = []
 clients_from client (steps ∷ scripts) =
-    Heading client ∷ (operations_from 1 (asked steps) ++ clients_from (client + 1) scripts)
+    Heading client ∷ (operations_from 1 (asked_operations steps) ++ clients_from (client + 1) scripts)
 
 -- The lines of a transcript: of each client a heading and its operations, denied or not, and then those of the boards.
 abbrev pub entries : List BoardSpec → List (List Step) → List Entry

@@ -2,6 +2,5 @@ pub mod Results
 pub mod Entries
 pub mod Shown
 pub mod Faults
-pub mod Fronts
 pub mod Reading
 pub mod Walks

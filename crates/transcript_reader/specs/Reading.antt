@@ -8,7 +8,7 @@ use Rattle.transcript.specs.declared.line.OpResult.{OpResult}
 use Rattle.transcript.specs.declared.line.OpResult.TheVariants.{Value, Done, Was, Error, Skipped, TimedOut, Late}
 use Rattle.transcript.specs.declared.line.OpResult.TheVariants.{Unsent, LinkLost, Garbled}
 use Rattle.transcript.specs.Lines.{Showing}
-use Rattle.transcript_reader.specs.Fronts.{Front, ◌>>=◌, behind, in_front, all_of}
+use Rattle.ipb_base.specs.Fronts.{Front, ◌>>=◌, behind, all_of}
 
 -- ---- numbers
 

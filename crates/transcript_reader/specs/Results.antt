@@ -5,7 +5,7 @@ use Rattle.ipb_base.specs.Word.{IsWord}
 use Rattle.masked_fields.specs.Field.{field}
 use Rattle.transaction_codec.specs.declared.request.Op.{Op}
 use Rattle.transaction_codec.specs.Answer.{Fails, values_done}
-use Rattle.mtu_packer.specs.Cutting.{cut, piece_count}
+use Rattle.mtu_packer.specs.Cutting.{cut_pieces, piece_count}
 use Rattle.script_steps.specs.declared.operation.RegOp.{RegOp}
 use Rattle.script_steps.specs.declared.operation.Verb.{Verb}
 use Rattle.script_steps.specs.declared.operation.Verb.TheVariants.{Read, Write, ReadBlock, WriteBlock, RmwBits, RmwSum}
@@ -56,11 +56,11 @@ ShowsBefore RmwSum = Unit {0}
 
 -- a reply to some piece of the operation, in packets of `payload` words, can tell this info code after so many words
 abbrev pub CanFail : ℕ → Op → ℕ → ℕ → Type 0
-CanFail payload op code after = Any (λ (piece : Op). (carried : ℕ) × Fails piece code after carried) (cut payload op)
+CanFail payload op code after = Any (λ (piece : Op). (carried : ℕ) × Fails piece code after carried) (cut_pieces payload op)
 
 -- a reply to some piece has so many words
 abbrev pub CanRead : ℕ → Op → ℕ → Type 0
-CanRead payload op count = Any (λ (piece : Op). count ≡ values_done piece) (cut payload op)
+CanRead payload op count = Any (λ (piece : Op). count ≡ values_done piece) (cut_pieces payload op)
 
 -- A late answer is that of one piece alone.
 abbrev pub CanBeLate : ℕ → RegOp → LateAnswer → Type 0

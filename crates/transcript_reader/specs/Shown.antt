@@ -3,7 +3,7 @@ use Rattle.std.specs.Prelude.{◌≡◌, ℕ, ◌+◌, ◌==◌, Bool, true, not
 use Rattle.std.specs.List.{AllByRecursion, AllZip, list_all}
 use Rattle.board_node.specs.declared.spec.BoardSpec.{BoardSpec}
 use Rattle.script_steps.specs.declared.operation.Step.{Step}
-use Rattle.script_steps.specs.Rulings.{Asked, asked}
+use Rattle.script_steps.specs.Rulings.{Asked, asked_operations}
 use Rattle.script_plans.specs.declared.greeting.Greeting.{Greeting}
 use Rattle.script_plans.specs.declared.greeting.Greeting.TheVariants.{Silent, Down}
 use Rattle.board_history.specs.Runs.{greeting_of}
@@ -26,7 +26,7 @@ abbrev pub clients_under : List BoardSpec → List (List Step) → List (List Sh
 clients_under boards [] clients = []
 clients_under boards (steps ∷ scripts) [] = []
 clients_under boards (steps ∷ scripts) (shows ∷ clients) =
-    lines_under boards 1 (asked steps) shows ∷ clients_under boards scripts clients
+    lines_under boards 1 (asked_operations steps) shows ∷ clients_under boards scripts clients
 
 -- The transcript of a session that shows this: its headings, numbers, verbs and names are those of the session.
 abbrev pub transcript_under : List BoardSpec → List (List Step) → Shown → Transcript
@@ -46,7 +46,7 @@ greetings_in (spec ∷ specs) (line ∷ lines) = greeting_in spec line ∷ greet
 
 -- each operation of a client shows what it can
 abbrev pub CanShowAll : List Greeting → List Step → List Showing → Type 0
-CanShowAll told steps shows = AllZip (CanShowIn told) (asked steps) shows
+CanShowAll told steps shows = AllZip (CanShowIn told) (asked_operations steps) shows
 
 -- The text is the transcript of a session that shows this, each operation and each board what it can.
 pub record IsShownBy (boards : List BoardSpec) (scripts : List (List Step)) (text : List ℕ) (shown : Shown) : Type 0
@@ -66,4 +66,4 @@ IsOneLine name = list_all is_no_line_feed name ≡ true
 -- no name of a board or of a register has a line feed, as no id has one
 pub record HaveNames (boards : List BoardSpec) (scripts : List (List Step)) : Type 0 where
   pub boards' : AllByRecursion (λ (spec : BoardSpec). IsOneLine spec.name) boards
-  pub registers' : AllByRecursion (λ steps. AllByRecursion (λ (ask : Asked). IsOneLine ask.op.name) (asked steps)) scripts
+  pub registers' : AllByRecursion (λ steps. AllByRecursion (λ (ask : Asked). IsOneLine ask.op.name) (asked_operations steps)) scripts

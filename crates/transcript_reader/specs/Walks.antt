@@ -1,7 +1,7 @@
 -- How the code goes over the lines of a text: what private functions promise one another. No public clause speaks of
 -- these.
 use Rattle.std.specs.Prelude.{◌≡◌, ◌≢◌, ◌⊎◌, ℕ, ◌+◌, ◌<◌, ◌≤◌, slice_index, List, [], ◌∷◌, ◌++◌, length, map, codes, Option, Some, None}
-use Rattle.std.specs.List.{AllByRecursion, AllZip, flat_map}
+use Rattle.std.specs.List.{AllByRecursion, AllZip}
 use Rattle.mtu_packer.specs.Cutting.{CanBeCut}
 use Rattle.mtu_packer.specs.declared.packing.TheConstants.{MIN_PAYLOAD}
 use Rattle.transaction_codec.specs.declared.request.Op.{Op}
@@ -11,7 +11,7 @@ use Rattle.transaction_codec.specs.declared.info_code.TheConstants.{WRITE_TIMEOU
 use Rattle.transaction_codec.specs.Reply.{IsBusFault}
 use Rattle.board_node.specs.declared.spec.BoardSpec.{BoardSpec}
 use Rattle.script_steps.specs.declared.operation.Step.{Step}
-use Rattle.script_steps.specs.Rulings.{Asked, asked}
+use Rattle.script_steps.specs.Rulings.{Asked, asked_operations}
 use Rattle.script_plans.specs.declared.greeting.Greeting.{Greeting}
 use Rattle.script_plans.specs.declared.greeting.Greeting.TheVariants.{Live, Silent, Down}
 use Rattle.transcript.specs.declared.line.OpLine.{OpLine}
@@ -171,8 +171,8 @@ pub record IsClient (boards : List BoardSpec) (told : List Greeting) (client : �
     (shows : List Showing) : Type 0 where
   pub can : CanShowAll told steps shows
   pub spelled : lines_of old.text.now
-      ≡ heading client ∷ (map line_text (lines_under boards 1 (asked steps) shows) ++ lines_of new.text.now)
-  pub counted : new.line ≡ old.line + (1 + length (asked steps))
+      ≡ heading client ∷ (map line_text (lines_under boards 1 (asked_operations steps) shows) ++ lines_of new.text.now)
+  pub counted : new.line ≡ old.line + (1 + length (asked_operations steps))
 
 -- the lines of the clients from a number on
 abbrev pub client_texts : ℕ → List (List OpLine) → List (List ℕ)

@@ -2,7 +2,7 @@
 
 ghost use Rattle.std.specs.Prelude.{◌≡◌, ◌++◌, IfOk, OnOk, string_bytes};
 ghost use Rattle.transcript.specs.Text as texts;
-ghost use Rattle.transcript_reader.specs.Fronts.{Finds};
+ghost use Rattle.ipb_base.specs.Fronts.{Finds};
 ghost use Rattle.transcript_reader.specs.Reading.{counts_at};
 ghost use Rattle.transcript_reader.specs.Walks.{ReadsBoard, ReadsLive, board_front};
 

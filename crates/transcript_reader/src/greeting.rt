@@ -4,7 +4,7 @@ ghost use Rattle.std.specs.Prelude.{◌≡◌, ◌<◌, ◌^◌, List, ◌∷◌
 ghost use Rattle.std.specs.List.{AllByRecursion};
 ghost use Rattle.board_history.specs.Runs as runs;
 ghost use Rattle.board_node.specs.declared.spec.BoardSpec.{BoardSpec as BoardSpecValue};
-ghost use Rattle.script_steps.specs.Rulings.{asked};
+ghost use Rattle.script_steps.specs.Rulings.{asked_operations};
 ghost use Rattle.transcript.specs.Text as texts;
 ghost use Rattle.transcript_reader.specs.Entries as spec;
 ghost use Rattle.transcript_reader.specs.Entries.{IsHere, IsLinkHere, clients_from, lines_of, told_from};
@@ -69,7 +69,7 @@ fn told_by(written: &mut String, board: &BoardSpec, line: &[u8]) -> Result<Greet
 
 /// How many operations a client asks for, denied or not.
 fn operation_count(steps: &[Step]) -> usize
-    ensures { result ≡ length (asked steps.now) }
+    ensures { result ≡ length (asked_operations steps.now) }
 {
     let mut count = 0;
     for step in steps {

@@ -1,7 +1,7 @@
 //! Reading a number at the front of a text.
 
 ghost use Rattle.std.specs.Prelude.{◌≡◌, ◌≤◌, ◌<◌};
-ghost use Rattle.transcript_reader.specs.Fronts.{Finds};
+ghost use Rattle.ipb_base.specs.Fronts.{Finds};
 ghost use Rattle.transcript_reader.specs.Reading.{digit_at, with_digit, number_at};
 
 /// The value of the digit of a base at the front.

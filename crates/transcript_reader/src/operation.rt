@@ -3,7 +3,7 @@
 ghost use Rattle.std.specs.Prelude.{◌≡◌, ◌↔◌, [], IfOk, IfSome, IsTrue};
 ghost use Rattle.std.specs.List.{AllByRecursion};
 ghost use Rattle.transcript_reader.specs.Entries as entries;
-ghost use Rattle.transcript_reader.specs.Fronts.{Finds};
+ghost use Rattle.ipb_base.specs.Fronts.{Finds};
 ghost use Rattle.transcript_reader.specs.Walks as spec;
 ghost use Rattle.transcript_reader.specs.Walks.{CanBeSent, HasRoom, HoldsLive, IsPrintedShowing, ReadsOperation};
 ghost use Rattle.transcript_reader.specs.Walks.{ReadsShown};

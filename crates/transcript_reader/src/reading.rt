@@ -4,14 +4,14 @@ ghost use Rattle.std.specs.Prelude.{◌≡◌, ◌+◌, ◌<◌, ◌^◌, ℕ, [
 ghost use Rattle.std.specs.List.{AllByRecursion};
 ghost use Rattle.script_steps.specs.Packing.{CanBePacked};
 ghost use Rattle.script_steps.specs.Rulings as rulings;
-ghost use Rattle.script_steps.specs.Rulings.{asked};
+ghost use Rattle.script_steps.specs.Rulings.{asked_operations};
 ghost use Rattle.board_node.specs.declared.spec.BoardSpec.{BoardSpec as BoardSpecValue};
 ghost use Rattle.script_plans.specs.declared.greeting.Greeting.{Greeting as GreetingValue};
 ghost use Rattle.transcript.specs.Text as texts;
 ghost use Rattle.transcript_reader.specs.Entries as places;
 ghost use Rattle.transcript_reader.specs.Entries.{IsHere, clients_from, entries, lines_of, operations_from};
 ghost use Rattle.transcript_reader.specs.Faults.{IsUnshown};
-ghost use Rattle.transcript_reader.specs.Fronts.{Finds};
+ghost use Rattle.ipb_base.specs.Fronts.{Finds};
 ghost use Rattle.transcript_reader.specs.Shown.{IsShownBy};
 ghost use Rattle.transcript_reader.specs.Walks.{AreBoards, AreClients, AreOperations, CanBeSent, HasRoom, IsClient};
 ghost use Rattle.transcript_reader.specs.Walks.{IsLeftOver, IsMissing, IsNextBoard, IsNextOperation, IsStuckBehind, IsTaken, asking};
@@ -106,10 +106,10 @@ impl<'a> Reader<'a> {
     ) -> Result<ShownOps, Unshown>
         requires room { AllByRecursion HasRoom session.now.told.now }
         requires packed { AllByRecursion CanBePacked steps.now }
-        ensures shows { IfOk result (AreOperations session.now.boards.now session.now.told.now (asked steps.now)
+        ensures shows { IfOk result (AreOperations session.now.boards.now session.now.told.now (asked_operations steps.now)
             self.old self.new) }
         ensures stuck { IfErr result (IsStuckBehind session.now.boards.now session.now.told.now
-            (operations_from 1 (asked steps.now)) (lines_of self.old.text.now) self.old.line) }
+            (operations_from 1 (asked_operations steps.now)) (lines_of self.old.text.now) self.old.line) }
     {
         let mut shows = Vec::new(alloc);
         let mut number: u32 = 1;
@@ -153,7 +153,7 @@ impl<'a> Reader<'a> {
         ensures shows { IfOk result (IsClient session.now.boards.now session.now.told.now client steps.now
             self.old self.new) }
         ensures stuck { IfErr result (IsStuckBehind session.now.boards.now session.now.told.now
-            (places.Heading client ∷ operations_from 1 (asked steps.now)) (lines_of self.old.text.now) self.old.line) }
+            (places.Heading client ∷ operations_from 1 (asked_operations steps.now)) (lines_of self.old.text.now) self.old.line) }
     {
         self.read_heading(client)?;
         self.read_operations(alloc, session, steps)

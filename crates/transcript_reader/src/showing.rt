@@ -5,8 +5,8 @@ ghost use Rattle.std.specs.List.{AllByRecursion};
 ghost use Rattle.ipb_base.specs.Word.{AreWords, IsWord};
 ghost use Rattle.transcript.specs.Claims.{IsPrinted, IsPrintedLate, IsPrintedPlace};
 ghost use Rattle.transcript_reader.specs.Walks.{IsPrintedShowing};
-ghost use Rattle.transcript_reader.specs.Fronts as front;
-ghost use Rattle.transcript_reader.specs.Fronts.{Finds, all_of};
+ghost use Rattle.ipb_base.specs.Fronts as front;
+ghost use Rattle.ipb_base.specs.Fronts.{Finds, all_of};
 ghost use Rattle.transcript_reader.specs.Reading as spec;
 ghost use Rattle.transcript_reader.specs.Reading.{next_place_at, next_word_at};
 

@@ -22,10 +22,10 @@ use Rattle.world_model.specs.declared.datagram.Direction.TheVariants.{ToBoard as
 use Rattle.world_model.specs.declared.offered.OpenPlace.{OpenPlace}
 use Rattle.world_model.specs.Messages.{ToHub, StatusReply, Reply as ReplyTo, control_packet, to_hub}
 use Rattle.world_model.specs.Messages.{ToBoard, StatusRequest, ResendRequest, ControlPacket, to_board}
-use Rattle.world_model.specs.Board.{Board, Hearing, expected, hear, hear_message, held, is_too_long, send_again}
+use Rattle.world_model.specs.Board.{Board, Hearing, expected_identifier, hear, hear_message, held_replies, is_too_long, send_again}
 use Rattle.world_model.specs.Board.{present_bus, tell_status, with_id}
 use Rattle.world_model.specs.Hub.{Hub, open_with, settle, take_message}
-use Rattle.world_model.specs.World.{World, answered, with_hub}
+use Rattle.world_model.specs.World.{World, air_after_answer, with_hub}
 use Rattle.world_model.specs.Links.{IsHeard, Told, then_told}
 use Rattle.world_model.specs.Links.{first_sends, first_sends_from, heard_by, heard_on}
 use Rattle.world_core.specs.Airs.{IsHeardAt, answers_of, may_hear}
@@ -165,13 +165,13 @@ again_has_bytes board (Some packet) = packet_has_bytes packet
 message_has_bytes : (board : Board) (m : Option ToBoard) → HasBytes (hear_message board m).answer
 message_has_bytes board None = tt
 message_has_bytes board (Some StatusRequest) =
-    packet_has_bytes (status_reply board.mtu board.buffers (expected board))
-message_has_bytes board (Some (ResendRequest id)) = again_has_bytes board (with_id id (held board))
+    packet_has_bytes (status_reply board.mtu board.buffers (expected_identifier board))
+message_has_bytes board (Some (ResendRequest id)) = again_has_bytes board (with_id id (held_replies board))
 message_has_bytes board (Some (ControlPacket order id body)) =
     let reply = control_packet order id (run_body (present_bus board) body).reply in
     if_has_bytes (is_too_long board body) _ _ tt
     (if_has_bytes (id == 0) _ _ (packet_has_bytes reply)
-    (if_has_bytes (id == expected board) _ _ (packet_has_bytes reply) tt))
+    (if_has_bytes (id == expected_identifier board) _ _ (packet_has_bytes reply) tt))
 
 answer_has_bytes : (board : Board) (bytes : List ℕ) → HasBytes (hear board bytes).answer
 answer_has_bytes board bytes = message_has_bytes board (to_board bytes)
@@ -179,7 +179,7 @@ answer_has_bytes board bytes = message_has_bytes board (to_board bytes)
 -- ---- a board hears a datagram of an air
 
 answered_of : (birth : ℕ) (answer : Option (List ℕ)) → HasBytes answer
-    → answers_of birth (answer_bytes answer) ≡ answered birth answer
+    → answers_of birth (answer_bytes answer) ≡ air_after_answer birth answer
 answered_of birth None has = refl
 answered_of birth (Some []) has = absurd has
 answered_of birth (Some (byte ∷ bytes)) has = refl
@@ -190,7 +190,7 @@ heard_air : (told : Told) (place : ℕ) (board : Board) (air : List Datagram)
     → record { board = board; air = air } ≡ heard_on told is.datagram.bytes
 heard_air told place board air is =
     let hearing = hear told.board is.datagram.bytes in
-    let same : air ≡ told.air ++ answered (first_sends told) hearing.answer = is.answer
+    let same : air ≡ told.air ++ air_after_answer (first_sends told) hearing.answer = is.answer
     ∙ ap (λ (more : List Datagram). told.air ++ more)
     (answered_of (first_sends told) hearing.answer (answer_has_bytes told.board is.datagram.bytes)) in
     let one : Told = record { board = board; air = air } in
@@ -237,7 +237,7 @@ pub board_heard : (w : World) (sent place : ℕ) (board : Board) (air : List Dat
     → record w { board = board; air = air } ≡ board_told w (slice_get w.air place)
 board_heard w sent place board air counted is =
     let hearing = hear w.board is.datagram.bytes in
-    let same : air ≡ w.air ++ answered (length w.hub.sent) hearing.answer = is.answer
+    let same : air ≡ w.air ++ air_after_answer (length w.hub.sent) hearing.answer = is.answer
     ∙ (ap (λ (birth : ℕ). w.air ++ answers_of birth (answer_bytes hearing.answer)) counted
     ∙ ap (λ (more : List Datagram). w.air ++ more)
     (answered_of (length w.hub.sent) hearing.answer (answer_has_bytes w.board is.datagram.bytes))) in
@@ -257,8 +257,8 @@ status_told board bytes is = ap (hear board) is ∙ ap (hear_message board) aske
 
 pub status_answered : (board : Board) (bytes out : List ℕ) → bytes ≡ packet_bytes status_request
     → out ≡ answer_bytes (hear board bytes).answer
-    → IsStatusReply (packet_bytes (status_reply board.mtu board.buffers (expected board))) board.mtu board.buffers
-    (expected board) → IsStatusReply out board.mtu board.buffers (expected board)
+    → IsStatusReply (packet_bytes (status_reply board.mtu board.buffers (expected_identifier board))) board.mtu board.buffers
+    (expected_identifier board) → IsStatusReply out board.mtu board.buffers (expected_identifier board)
 status_answered board bytes out is told known =
-    subst (λ (b : List ℕ). IsStatusReply b board.mtu board.buffers (expected board))
+    subst (λ (b : List ℕ). IsStatusReply b board.mtu board.buffers (expected_identifier board))
     (sym (told ∙ ap (λ (h : Hearing). answer_bytes h.answer) (status_told board bytes is))) known

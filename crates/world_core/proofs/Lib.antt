@@ -1,6 +1,6 @@
 mod Airs
 mod Store
-mod Sends
+pub mod Sends
 mod Hearing
 mod Moves
 mod OneMove

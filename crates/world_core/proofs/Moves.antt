@@ -15,7 +15,7 @@ use Rattle.status_packet.specs.Range.{IsMtu, IsBufferCount}
 use Rattle.board_bus.specs.Cells.{HoldsWords}
 use Rattle.world_model.specs.declared.settings.TheConstants.{MAX_WINDOW}
 use Rattle.world_model.specs.declared.heard.LogEntry.{LogEntry}
-use Rattle.world_model.specs.Board.{Board, body_of, executed, expected, numbered}
+use Rattle.world_model.specs.Board.{Board, body_of, bodies_executed, expected_identifier, numbered_count}
 use Rattle.world_model.specs.Hub.{Hub, new_hub, none_handed_out}
 use Rattle.world_model.specs.World.{World, moves_on, run_moves, start, step, told_in, with_told}
 use Rattle.world_model.specs.Facts.{IsStart}
@@ -86,7 +86,7 @@ nothing_logged (entry ∷ log) none = absurd cc
 
 -- a run can begin at a board that has executed nothing
 pub begins_there : (window : ℕ) (board : Board) → window ≤ MAX_WINDOW → IsMtu board.mtu → IsBufferCount board.buffers
-    → IsIdentifier board.first → HoldsWords board.opening → executed board ≡ [] → IsStart window board []
+    → IsIdentifier board.first → HoldsWords board.opening → bodies_executed board ≡ [] → IsStart window board []
 begins_there window board few mtu buffers first opening none = record {
   few = few;
   mtu = mtu;
@@ -107,13 +107,13 @@ pub new_bodies : (first window rounds : ℕ) (hub : Hub) → hub ≡ new_hub fir
 new_bodies first window rounds hub is = ap body_count is
 
 -- the hub of a board that has executed nothing knows the first identifier of it
-pub begun_there : (window rounds : ℕ) (old : Board) (next buffers : ℕ) (w : World) → executed old ≡ []
-    → identifier_at old.first 1 ≡ old.first → next ≡ expected old → buffers ≡ old.buffers → w.board ≡ old
+pub begun_there : (window rounds : ℕ) (old : Board) (next buffers : ℕ) (w : World) → bodies_executed old ≡ []
+    → identifier_at old.first 1 ≡ old.first → next ≡ expected_identifier old → buffers ≡ old.buffers → w.board ≡ old
     → w.hub ≡ new_hub next (min window buffers) rounds → w.air ≡ [] → told_in w ≡ none_handed_out
     → w ≡ start window rounds old []
 begun_there window rounds old next buffers w none at_first next_is buffers_are board hub air told =
     let first : next ≡ old.first = next_is
-    ∙ (ap (λ (log : List LogEntry). identifier_at old.first (numbered log + 1)) (nothing_logged old.log none)
+    ∙ (ap (λ (log : List LogEntry). identifier_at old.first (numbered_count log + 1)) (nothing_logged old.log none)
     ∙ at_first) in
     let new : w.hub ≡ new_hub old.first (min window old.buffers) rounds = hub
     ∙ (ap (λ (n : ℕ). new_hub n (min window buffers) rounds) first

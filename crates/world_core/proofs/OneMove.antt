@@ -12,7 +12,7 @@ use Rattle.world_model.specs.declared.moves.WorldMove.TheVariants.{Offer, Quiet,
 use Rattle.world_model.specs.Air.{goes_to, is_alive}
 use Rattle.world_model.specs.Hub.{hear_quiet, is_waiting, offer}
 use Rattle.world_model.specs.Sends.{pending}
-use Rattle.world_model.specs.World.{World, board_hears, flush, go_on, handed_out, hub_hears, step, taken, when_taken}
+use Rattle.world_model.specs.World.{World, board_hears, flush, go_on, handed_out, hub_hears, step, taken_datagram, when_taken}
 use Rattle.world_core.specs.Steps.{board_told, end_of, hub_told}
 
 pub moved_by_offer : (at : ℕ) (w after : World) (move : WorldMove) (tag : ℕ) (body words : List ℕ)
@@ -40,7 +40,7 @@ may_be_heard at false alive bytes is = absurd cc
 
 heard : (at sent : ℕ) (hearer : Direction) (r : Option Datagram) (hears : List ℕ → World)
     (told : Option Datagram → World) → ((d : Datagram) → hears d.bytes ≡ told (Some d))
-    → end_of (taken at sent hearer r) ≡ Ok tt → when_taken (taken at sent hearer r) hears ≡ Ok (told r)
+    → end_of (taken_datagram at sent hearer r) ≡ Ok tt → when_taken (taken_datagram at sent hearer r) hears ≡ Ok (told r)
 heard at sent hearer None hears told same is = absurd cc
 heard at sent hearer (Some d) hears told same is =
     ap (λ (r : Result (List ℕ) WorldEnd). when_taken r hears)
@@ -48,7 +48,7 @@ heard at sent hearer (Some d) hears told same is =
     ∙ ap (λ (v : World). Ok v) (same d)
 
 pub moved_by_hub : (at : ℕ) (w told after : World) (move : WorldMove) (place : ℕ) → move ≡ HubHears place
-    → end_of (taken at (length w.hub.sent) ToHub (slice_get w.air place)) ≡ Ok tt
+    → end_of (taken_datagram at (length w.hub.sent) ToHub (slice_get w.air place)) ≡ Ok tt
     → told ≡ hub_told w (slice_get w.air place) → after ≡ handed_out (flush (pending told.hub) told)
     → step at w move ≡ Ok after
 moved_by_hub at w told after move place is may heard_so moved =
@@ -58,7 +58,7 @@ moved_by_hub at w told after move place is may heard_so moved =
     ∙ ap (λ (v : World). Ok v) (ap goes (sym heard_so) ∙ sym moved))
 
 pub moved_by_board : (at : ℕ) (w after : World) (move : WorldMove) (place : ℕ) → move ≡ BoardHears place
-    → end_of (taken at (length w.hub.sent) ToBoard (slice_get w.air place)) ≡ Ok tt
+    → end_of (taken_datagram at (length w.hub.sent) ToBoard (slice_get w.air place)) ≡ Ok tt
     → after ≡ board_told w (slice_get w.air place) → step at w move ≡ Ok after
 moved_by_board at w after move place is may moved =
     ap (step at w) is
@@ -72,13 +72,13 @@ not_heard (Ok bytes) hears end is = absurd cc
 not_heard (Err other) hears end is = ap (λ (e : WorldEnd). Err e) (cc)
 
 pub refused_to_hub : (at : ℕ) (w : World) (move : WorldMove) (place : ℕ) (end : WorldEnd) → move ≡ HubHears place
-    → end_of (taken at (length w.hub.sent) ToHub (slice_get w.air place)) ≡ Err end → step at w move ≡ Err end
+    → end_of (taken_datagram at (length w.hub.sent) ToHub (slice_get w.air place)) ≡ Err end → step at w move ≡ Err end
 refused_to_hub at w move place end is why =
     ap (step at w) is
-    ∙ not_heard (taken at (length w.hub.sent) ToHub (slice_get w.air place)) (hub_hears w) end why
+    ∙ not_heard (taken_datagram at (length w.hub.sent) ToHub (slice_get w.air place)) (hub_hears w) end why
 
 pub refused_to_board : (at : ℕ) (w : World) (move : WorldMove) (place : ℕ) (end : WorldEnd) → move ≡ BoardHears place
-    → end_of (taken at (length w.hub.sent) ToBoard (slice_get w.air place)) ≡ Err end → step at w move ≡ Err end
+    → end_of (taken_datagram at (length w.hub.sent) ToBoard (slice_get w.air place)) ≡ Err end → step at w move ≡ Err end
 refused_to_board at w move place end is why =
     ap (step at w) is
-    ∙ not_heard (taken at (length w.hub.sent) ToBoard (slice_get w.air place)) (board_hears w) end why
+    ∙ not_heard (taken_datagram at (length w.hub.sent) ToBoard (slice_get w.air place)) (board_hears w) end why

@@ -13,7 +13,7 @@ use Rattle.world_model.specs.declared.datagram.Datagram.{Datagram}
 use Rattle.world_model.specs.declared.datagram.Direction.TheVariants.{ToBoard}
 use Rattle.world_model.specs.Board.{hear}
 use Rattle.world_model.specs.Air.{goes_to, is_alive}
-use Rattle.world_model.specs.World.{answered}
+use Rattle.world_model.specs.World.{air_after_answer}
 use Rattle.world_model.specs.Links.{IsHandedAt, IsHeard, Told, first_sends, heard_by, heard_on, hears_all}
 use Rattle.world_model.specs.Links.{then_told}
 use Rattle.world_core.specs.Telling.{IsGot, IsReceived, IsSettled, KeepsBut, Telling}
@@ -36,7 +36,7 @@ nothing_received held telling = record {
 -- ---- one datagram
 
 -- the board hears one: at most one answer joins the air
-one_answer : (birth : ℕ) (r : Option (List ℕ)) → length (answered birth r) ≤ 1
+one_answer : (birth : ℕ) (r : Option (List ℕ)) → length (air_after_answer birth r) ≤ 1
 one_answer birth None = omega arith
 one_answer birth (Some bytes) = omega arith
 
@@ -52,7 +52,7 @@ heard_grows : (told : Told) (r : Option Datagram) → GrowsByOne told (heard_by 
 heard_grows told None = tt
 heard_grows told (Some d) = if_grows told told (goes_to ToBoard d.direction) _
     (if_grows told told (is_alive (first_sends told) d) (Some (heard_on told d.bytes))
-    (let more = answered (first_sends told) (hear told.board d.bytes).answer in
+    (let more = air_after_answer (first_sends told) (hear told.board d.bytes).answer in
     let total = length-append told.air more in
     omega (arith, total, one_answer (first_sends told) (hear told.board d.bytes).answer)))
 

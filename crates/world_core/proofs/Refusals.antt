@@ -12,7 +12,7 @@ use Rattle.world_model.specs.declared.moves.WorldMove.{WorldMove}
 use Rattle.world_model.specs.declared.moves.WorldMove.TheVariants.{Offer, Quiet, HubHears, BoardHears}
 use Rattle.world_model.specs.Hub.{hear_quiet, is_waiting}
 use Rattle.world_model.specs.Air.{LIFETIME, goes_to, is_alive}
-use Rattle.world_model.specs.World.{World, board_hears, go_on, hub_hears, moves_on, run_moves, step, taken, when_taken}
+use Rattle.world_model.specs.World.{World, board_hears, go_on, hub_hears, moves_on, run_moves, step, taken_datagram, when_taken}
 use Rattle.world_core.proofs.Airs.{goes_self, same_way}
 use Rattle.world_core.specs.Runs.{IsNotThere, IsThere, IsTooOld, IsTooOldThere, StopsAt}
 
@@ -120,7 +120,7 @@ long_ago m at true false bytes hears is = (cc, refl, refl)
 long_ago m at false alive bytes hears is = absurd cc
 
 not_heard : (m at : ℕ) (hearer : Direction) (w : World) (place : ℕ) (hears : List ℕ → World) (r : Option Datagram)
-    → slice_get w.air place ≡ r → when_taken (taken m (length w.hub.sent) hearer r) hears ≡ Err (NotThere at)
+    → slice_get w.air place ≡ r → when_taken (taken_datagram m (length w.hub.sent) hearer r) hears ≡ Err (NotThere at)
     → (m ≡ at) × (¬ IsThere hearer w place)
 not_heard m at hearer w place hears None there is = (cc, λ datagram. absurd (let some = datagram.there in cc))
 not_heard m at hearer w place hears (Some d) there is =
@@ -135,7 +135,7 @@ not_heard m at hearer w place hears (Some d) there is =
     )
 
 too_old : (m at : ℕ) (hearer : Direction) (w : World) (place : ℕ) (hears : List ℕ → World) (r : Option Datagram)
-    → slice_get w.air place ≡ r → when_taken (taken m (length w.hub.sent) hearer r) hears ≡ Err (TooOld at)
+    → slice_get w.air place ≡ r → when_taken (taken_datagram m (length w.hub.sent) hearer r) hears ≡ Err (TooOld at)
     → (m ≡ at) × IsTooOldThere hearer w place
 too_old m at hearer w place hears None there is = absurd cc
 too_old m at hearer w place hears (Some d) there is =
@@ -192,7 +192,7 @@ other_way hearer w place d false is there none = is
 
 none_there : (m : ℕ) (hearer : Direction) (w : World) (place : ℕ) (hears : List ℕ → World) (r : Option Datagram)
     → slice_get w.air place ≡ r → (¬ IsThere hearer w place)
-    → when_taken (taken m (length w.hub.sent) hearer r) hears ≡ Err (NotThere m)
+    → when_taken (taken_datagram m (length w.hub.sent) hearer r) hears ≡ Err (NotThere m)
 none_there m hearer w place hears None there none = refl
 none_there m hearer w place hears (Some d) there none =
     ap (λ (way : Bool). heard_if m way (is_alive (length w.hub.sent) d) d.bytes hears)
@@ -200,12 +200,12 @@ none_there m hearer w place hears (Some d) there none =
 
 old_there : (m : ℕ) (hearer : Direction) (w : World) (place : ℕ) (hears : List ℕ → World)
     → IsTooOldThere hearer w place
-    → when_taken (taken m (length w.hub.sent) hearer (slice_get w.air place)) hears ≡ Err (TooOld m)
+    → when_taken (taken_datagram m (length w.hub.sent) hearer (slice_get w.air place)) hears ≡ Err (TooOld m)
 old_there m hearer w place hears old =
     let sent = length w.hub.sent in
     let d : Datagram = record { direction = hearer; bytes = old.datagram.bytes; birth = old.datagram.birth } in
     let late : is_alive sent d ≡ false = lt-leb (sent - d.birth) LIFETIME (omega (arith, old.too_old)) in
-    ap (λ (r : Option Datagram). when_taken (taken m sent hearer r) hears) old.datagram.there
+    ap (λ (r : Option Datagram). when_taken (taken_datagram m sent hearer r) hears) old.datagram.there
     ∙ (ap (λ (way : Bool). heard_if m way (is_alive sent d) d.bytes hears) (goes_self hearer)
     ∙ ap (λ (alive : Bool). heard_if m true alive d.bytes hears) late)
 

@@ -50,7 +50,7 @@ pub next_is : (old new : Hub) (send : Sending) → Some send ≡ sent_next (next
     → new ≡ hub_next old (next_send old) → next_send old ≡ Some (record { send = send; hub = new })
 next_is old new send told after = (taken_by old new (next_send old) send told after).is
 
-none_by : (r : Option Next) → None ≡ sent_next r → r ≡ None
+pub none_by : (r : Option Next) → None ≡ sent_next r → r ≡ None
 none_by None told = refl
 none_by (Some next) told = absurd cc
 

@@ -19,14 +19,14 @@ use Rattle.world_model.specs.declared.moves.WorldMove.{WorldMove}
 use Rattle.world_model.specs.declared.moves.WorldMove.TheVariants.{BoardHears, HubHears, Quiet}
 use Rattle.world_model.specs.Messages.{ToHub as ToTheHub, Reply, StatusReply, to_hub}
 use Rattle.world_model.specs.Board.{Board, hear}
-use Rattle.world_model.specs.Hub.{HandedOut, IsDrained, drained, hands_out, none_handed_out}
+use Rattle.world_model.specs.Hub.{HandedOut, IsDrained, after_handing_out, hands_out, none_handed_out}
 use Rattle.world_model.specs.Hub.{Hub, give_up, hear_quiet, hear_status, is_waiting, low, new_hub, offer, open_with}
-use Rattle.world_model.specs.Hub.{recovered, settle, some_waited, take_message, told_place, want_status, without}
-use Rattle.world_model.specs.Sends.{Next, Wanted, bytes_to_send, first_send, next_send, pending, wanted}
+use Rattle.world_model.specs.Hub.{after_recovery, settle, some_waited, take_message, told_place, want_status, without}
+use Rattle.world_model.specs.Sends.{Next, Wanted, bytes_to_send, first_send, next_send, pending, first_wanted}
 use Rattle.world_model.specs.Sends.{wanted_or_first, wishes}
 use Rattle.world_model.specs.Air.{goes_to, is_alive}
-use Rattle.world_model.specs.World.{World, answered, board_hears, flush, flush_on, go_on, handed_out, hub_hears}
-use Rattle.world_model.specs.World.{moves_on, run_moves, sent_into, start, step, taken, when_taken, with_hub}
+use Rattle.world_model.specs.World.{World, air_after_answer, board_hears, flush, flush_on, go_on, handed_out, hub_hears}
+use Rattle.world_model.specs.World.{moves_on, run_moves, sent_into, start, step, taken_datagram, when_taken, with_hub}
 use Rattle.world_model.specs.Facts.{IsStart}
 use Rattle.world_model.specs.History.{IsMove, IsRun}
 use Rattle.world_model.specs.Lanes.{IsLaneState, IsState, caught_up}
@@ -92,7 +92,7 @@ message_rests hub (Some (Reply id words)) is = settle_rests hub words (open_with
 
 -- no message changes whether the hub gave up
 
-recovered_gave_up : (hub : Hub) (r : Option ℕ) → (recovered hub r).gave_up ≡ hub.gave_up
+recovered_gave_up : (hub : Hub) (r : Option ℕ) → (after_recovery hub r).gave_up ≡ hub.gave_up
 recovered_gave_up hub None = refl
 recovered_gave_up hub (Some told) = refl
 
@@ -103,7 +103,7 @@ settle_gave_up hub words (Some o) = refl
 message_gave_up : (hub : Hub) (m : Option ToTheHub) → (take_message hub m).gave_up ≡ hub.gave_up
 message_gave_up hub None = refl
 message_gave_up hub (Some (StatusReply mtu buffers next)) = either (λ (h : Hub). h.gave_up ≡ hub.gave_up)
-    (nat_lt 0 hub.status_requests) (recovered hub (told_place hub next)) hub
+    (nat_lt 0 hub.status_requests) (after_recovery hub (told_place hub next)) hub
     (λ _. recovered_gave_up hub (told_place hub next)) (λ _. refl)
 message_gave_up hub (Some (Reply id words)) = settle_gave_up hub words (open_with hub.first id hub.open_places)
 
@@ -131,7 +131,7 @@ wanted_leaves hub (Some w) = record { gave_up = refl; fates = refl; lates = refl
 
 send_leaves : (hub : Hub) → Leaves hub (next_send hub)
 send_leaves hub = either (Leaves hub) hub.status_wanted _ _ (λ _. record { gave_up = refl; fates = refl; lates = refl })
-    (λ _. wanted_leaves hub (wanted hub.first hub.open_places))
+    (λ _. wanted_leaves hub (first_wanted hub.first hub.open_places))
 
 pub one_leaves : (hub : Hub) (next : Next) → next_send hub ≡ Some next
     → LeavesTold hub next
@@ -298,9 +298,9 @@ if_some false r x e = absurd cc
 
 taken_ok : (n sent : ℕ) (hearer : Direction) (r : Option Datagram) (datagram : Datagram) → r ≡ Some datagram
     → goes_to hearer datagram.direction ≡ true → is_alive sent datagram ≡ true
-    → taken n sent hearer r ≡ Ok datagram.bytes
+    → taken_datagram n sent hearer r ≡ Ok datagram.bytes
 taken_ok n sent hearer r datagram there way alive =
-    ap (taken n sent hearer) there
+    ap (taken_datagram n sent hearer) there
     ∙ (ap (λ (b : Bool). cond b (cond (is_alive sent datagram) (Ok datagram.bytes) (Err (TooOld n)))
     (Err (NotThere n))) way
     ∙ ap (λ (b : Bool). cond b (Ok datagram.bytes) (Err (TooOld n))) alive)
@@ -324,7 +324,7 @@ heard_step n place hub told new so_far (Some datagram) joined there heard =
     ∙ (ap (λ (birth : ℕ). Ok (record {
       board = (hear told.board datagram.bytes).board;
       hub = hub;
-      air = told.air ++ answered birth (hear told.board datagram.bytes).answer;
+      air = told.air ++ air_after_answer birth (hear told.board datagram.bytes).answer;
       fates = so_far.fates;
       lates = so_far.lates;
     })) (sym joined.counts)
@@ -456,7 +456,7 @@ lates_out law hub told (late ∷ lates) is joined =
 
 pub out_reached : FateLaw → LateLaw → (begin : World) (so_far : HandedOut) (hub : Hub) (told : Told)
     → (is : IsReached begin so_far hub told) → IsLaneState begin (handed_out (world_of_both hub told so_far))
-    → IsReached begin (hands_out so_far hub) (drained hub) told
+    → IsReached begin (hands_out so_far hub) (after_handing_out hub) told
 out_reached law late begin so_far hub told is state = record {
   joined = lates_out late (record hub { fates = [] }) told hub.lates refl
       (out_joined law hub told hub.fates refl is.joined);

@@ -6,7 +6,7 @@ use Rattle.std.proofs.lemmas.List.{take-append-le, drop-append-le, map-append, t
 use Rattle.std.proofs.Math.Seq.{drop-append_seam}
 use Rattle.world_model.specs.declared.datagram.Datagram.{Datagram}
 use Rattle.world_core.specs.declared.datagrams.Entry.{Entry}
-use Rattle.world_core.specs.Store.{datagram_in, stored, AreWithin}
+use Rattle.world_core.specs.Store.{datagram_in, stored_bytes, AreWithin}
 
 range_before : (bytes more : List ℕ) (start end : ℕ) → start ≤ end → end ≤ length bytes
     → slice_range (bytes ++ more) start end ≡ slice_range bytes start end
@@ -20,22 +20,22 @@ range_behind bytes more =
     ∙ take_all ((length bytes + length more) - length bytes) more (omega arith)
 
 stored_before : (bytes more : List ℕ) (entries : List Entry) → AreWithin (length bytes) entries
-    → stored (bytes ++ more) entries ≡ stored bytes entries
+    → stored_bytes (bytes ++ more) entries ≡ stored_bytes bytes entries
 stored_before bytes more [] within = refl
 stored_before bytes more (entry ∷ entries) within =
     ap (λ (b : List ℕ). record { direction = entry.direction; bytes = b; birth = entry.birth }
-    ∷ stored (bytes ++ more) entries) (range_before bytes more entry.start entry.end within.0.0 within.0.1)
+    ∷ stored_bytes (bytes ++ more) entries) (range_before bytes more entry.start entry.end within.0.0 within.0.1)
     ∙ ap (λ (ds : List Datagram). datagram_in bytes entry ∷ ds) (stored_before bytes more entries within.1)
 
 -- one more datagram, whose bytes stand behind the others
 pub stored_more : (bytes more : List ℕ) (entries : List Entry) (entry : Entry) → AreWithin (length bytes) entries
     → entry.start ≡ length bytes → entry.end ≡ length bytes + length more
-    → stored (bytes ++ more) (entries ++ entry ∷ []) ≡ stored bytes entries
+    → stored_bytes (bytes ++ more) (entries ++ entry ∷ []) ≡ stored_bytes bytes entries
     ++ record { direction = entry.direction; bytes = more; birth = entry.birth } ∷ []
 stored_more bytes more entries entry within starts ends =
     map-append (datagram_in (bytes ++ more)) entries (entry ∷ [])
     ∙ (ap (λ (ds : List Datagram). ds ++ datagram_in (bytes ++ more) entry ∷ []) (stored_before bytes more entries within)
-    ∙ ap (λ (b : List ℕ). stored bytes entries ++ record { direction = entry.direction; bytes = b; birth = entry.birth }
+    ∙ ap (λ (b : List ℕ). stored_bytes bytes entries ++ record { direction = entry.direction; bytes = b; birth = entry.birth }
     ∷ []) (ap (λ (s : ℕ). slice_range (bytes ++ more) s entry.end) starts
     ∙ (ap (slice_range (bytes ++ more) (length bytes)) ends ∙ range_behind bytes more)))
 

@@ -14,15 +14,15 @@ datagram_in bytes entry = record {
   birth = entry.birth;
 }
 
-abbrev pub stored : List ℕ → List Entry → List Datagram
-stored bytes entries = map (datagram_in bytes) entries
+abbrev pub stored_bytes : List ℕ → List Entry → List Datagram
+stored_bytes bytes entries = map (datagram_in bytes) entries
 
 -- all within a store of so many bytes
 abbrev pub AreWithin : ℕ → List Entry → Type 0
 AreWithin count entries = AllByRecursion (λ entry. (entry.start ≤ entry.end) × (entry.end ≤ count)) entries
 
 abbrev pub datagrams_of : Inside → List Datagram
-datagrams_of d = stored d.bytes.items d.entries.items
+datagrams_of d = stored_bytes d.bytes.items d.entries.items
 
 abbrev pub IsStored : Inside → Type 0
 IsStored d = AreWithin (length d.bytes.items) d.entries.items
@@ -31,6 +31,6 @@ IsStored d = AreWithin (length d.bytes.items) d.entries.items
 abbrev pub datagram_of : DatagramRef → Datagram
 datagram_of d = record { direction = d.direction; bytes = d.bytes.now; birth = d.birth }
 
-abbrev pub lent : Option DatagramRef → Option Datagram
-lent None = None
-lent (Some d) = Some (datagram_of d)
+abbrev pub lent_datagram : Option DatagramRef → Option Datagram
+lent_datagram None = None
+lent_datagram (Some d) = Some (datagram_of d)

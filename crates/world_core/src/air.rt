@@ -4,7 +4,7 @@ ghost use Rattle.std.specs.Prelude.{◌≡◌, ◌+◌, ◌<◌, ◌^◌, ◌++�
 ghost use Rattle.std.specs.Prelude.{IfOk, OnOk, OnErr, IfSome, IfNone};
 ghost use Rattle.std.specs.List.{slice_get};
 ghost use Rattle.world_model.specs.declared.datagram.Direction.TheVariants.{ToBoard};
-ghost use Rattle.world_model.specs.Board.{executed};
+ghost use Rattle.world_model.specs.Board.{bodies_executed};
 ghost use Rattle.world_model.specs.Air.{goes_to, is_alive};
 ghost use Rattle.world_model.specs.Links.{first_sends, heard_by, is_first_send, IsHandedAt, sent_on};
 ghost use Rattle.world_core.specs.Airs.{birth_after, IsHeardBy, may_hear};
@@ -47,7 +47,7 @@ impl Model for Air {
 impl Air {
     /// The air of a board that has executed nothing, with nothing in it.
     pub fn new(alloc: Global, board: Board) -> Air
-        requires { executed board ≡ [] }
+        requires { bodies_executed board ≡ [] }
         ensures { result ≡ record { board = board; air = [] } }
     {
         Air {

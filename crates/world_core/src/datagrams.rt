@@ -4,7 +4,7 @@ ghost use Rattle.std.specs.Prelude.{◌≡◌, ◌+◌, ◌^◌, ◌<◌, ◌≤
 ghost use Rattle.std.specs.List.{slice_get};
 ghost use Rattle.std.specs.Vec.{vec_len, vec_capacity};
 ghost use Rattle.world_core.specs.Airs.{answers_of, IsHeardAt};
-ghost use Rattle.world_core.specs.Store.{lent, stored, AreWithin};
+ghost use Rattle.world_core.specs.Store.{lent_datagram, stored_bytes, AreWithin};
 
 use crate::link::MAX_DATAGRAM;
 use board_node::Board;
@@ -81,7 +81,7 @@ impl Datagrams {
 
     /// The datagram at a place, from 0.
     pub(crate) fn get(&self, place: usize) -> Option<DatagramRef<'_>>
-        ensures { lent result ≡ slice_get self.now place }
+        ensures { lent_datagram result ≡ slice_get self.now place }
     {
         datagram_at(&self.bytes, &self.entries, place)
     }
@@ -137,7 +137,7 @@ impl Datagrams {
 /// The datagram at a place.
 fn datagram_at<'a>(bytes: &'a [u8], entries: &[Entry], place: usize) -> Option<DatagramRef<'a>>
     requires { AreWithin (length bytes.now) entries.now }
-    ensures { lent result ≡ slice_get (stored bytes.now entries.now) place }
+    ensures { lent_datagram result ≡ slice_get (stored_bytes bytes.now entries.now) place }
 {
     if place >= entries.len() {
         return None;
@@ -156,8 +156,8 @@ fn put_answer(bytes: &mut Vec<u8>, entries: &mut Vec<Entry>, answer: &[u8], birt
     requires entries { vec_len entries.old < vec_capacity entries.old }
     requires within { AreWithin (length bytes.old.items) entries.old.items }
     ensures within { AreWithin (length bytes.new.items) entries.new.items }
-    ensures put { stored bytes.new.items entries.new.items
-        ≡ stored bytes.old.items entries.old.items ++ answers_of birth answer.now }
+    ensures put { stored_bytes bytes.new.items entries.new.items
+        ≡ stored_bytes bytes.old.items entries.old.items ++ answers_of birth answer.now }
 {
     if answer.is_empty() {
         return;
@@ -177,7 +177,7 @@ fn put(
     requires entries { vec_len entries.old < vec_capacity entries.old }
     requires within { AreWithin (length bytes.old.items) entries.old.items }
     ensures within { AreWithin (length bytes.new.items) entries.new.items }
-    ensures put { stored bytes.new.items entries.new.items ≡ stored bytes.old.items entries.old.items
+    ensures put { stored_bytes bytes.new.items entries.new.items ≡ stored_bytes bytes.old.items entries.old.items
         ++ record { direction = direction; bytes = datagram.now; birth = birth } ∷ [] }
 {
     let start = bytes.len();

@@ -14,9 +14,9 @@ ghost use Rattle.ipb_base.specs.Numbers.{greatest_mtu};
 ghost use Rattle.reliable_engine.specs.Answers.{IsSendOf};
 ghost use Rattle.world_model.specs.declared.offered.Fate.TheVariants.{Replied, TimedOut};
 ghost use Rattle.world_model.specs.declared.offered.Offered.{Offered};
-ghost use Rattle.world_model.specs.Board.{Board, executed, replies};
+ghost use Rattle.world_model.specs.Board.{Board, bodies_executed, replies};
 ghost use Rattle.world_model.specs.Messages.{to_hub};
-ghost use Rattle.world_model.specs.Hub.{Hub, HandedOut, IsDrained, drained, hands_out, none_handed_out};
+ghost use Rattle.world_model.specs.Hub.{Hub, HandedOut, IsDrained, after_handing_out, hands_out, none_handed_out};
 ghost use Rattle.world_model.specs.Hub.{hear_quiet, is_waiting, new_hub, offer, take_message};
 ghost use Rattle.world_model.specs.Sends.{Next, bytes_to_send, next_send};
 ghost use Rattle.world_model.specs.World.{World, run_moves, start};
@@ -95,7 +95,7 @@ pub fn each_event_leads_to_a_state_of_a_run()
         → IsDrained hub → is_waiting hub ≡ true → IsReached begin so_far (hear_quiet hub) told }
     ensures handed_out { (begin : World) (so_far : HandedOut) (hub : Hub) (told : Told)
         → IsReached begin so_far hub told
-        → IsReached begin (hands_out so_far hub) (drained hub) told }
+        → IsReached begin (hands_out so_far hub) (after_handing_out hub) told }
 {
     a_give_up_ends_all_waiting();
     a_greeting_joins();
@@ -138,7 +138,7 @@ pub fn each_call_leads_to_a_state_of_a_run()
 /// no place has two late answers. Where no send waits and nothing is to be handed out, this is told of the state itself.
 pub fn a_state_of_a_run_tells_the_truth()
     ensures executed { (begin : World) (so_far : HandedOut) (hub : Hub) (told : Told)
-        → IsReached begin so_far hub told → IsPrefix (executed told.board) (bodies_of hub.sent) }
+        → IsReached begin so_far hub told → IsPrefix (bodies_executed told.board) (bodies_of hub.sent) }
     ensures fates { (begin : World) (so_far : HandedOut) (hub : Hub) (told : Told)
         → IsReached begin so_far hub told → AreRight hub.sent (replies told.board) hub.fates }
     ensures all_fates { (hub : Hub) (told : Told) (so_far : HandedOut)

@@ -9,7 +9,7 @@ ghost use Rattle.world_model.specs.Hub.{hear_quiet, is_waiting, offer};
 ghost use Rattle.world_model.specs.Sends.{pending};
 ghost use Rattle.world_model.specs.Facts.{IsSendable};
 ghost use Rattle.world_model.specs.History.{IsMove};
-ghost use Rattle.world_model.specs.World.{flush, go_on, handed_out, step, taken};
+ghost use Rattle.world_model.specs.World.{flush, go_on, handed_out, step, taken_datagram};
 ghost use Rattle.world_core.specs.Runs.{IsShortMove};
 ghost use Rattle.world_core.specs.Messages.{IsWritable};
 ghost use Rattle.world_core.specs.Steps.{board_told, end_of, HasSpellings, hub_told, put_into, world_of};
@@ -91,7 +91,7 @@ impl Run {
     /// Whether the datagram at a place in the air may be heard by this side.
     fn check(&self, at: usize, hearer: Direction, place: usize) -> Result<(), WorldEnd>
         ensures { result
-            ≡ end_of (taken at (length self.now.hub.sent) hearer (slice_get self.now.air place)) }
+            ≡ end_of (taken_datagram at (length self.now.hub.sent) hearer (slice_get self.now.air place)) }
     {
         let Some(datagram) = self.air.get(place) else {
             return Err(WorldEnd::NotThere { at });

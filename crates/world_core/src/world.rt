@@ -6,7 +6,7 @@ ghost use Rattle.std.specs.List.{AllByRecursion, slice_get};
 ghost use Rattle.reliable_engine.specs.Answers.{body_count};
 ghost use Rattle.world_model.specs.declared.moves.WorldEnd.TheVariants.{NotThere, TooOld, NoMemory as no_memory};
 ghost use Rattle.world_model.specs.declared.offered.Fate.TheVariants.{Replied, TimedOut};
-ghost use Rattle.world_model.specs.Board.{executed, expected};
+ghost use Rattle.world_model.specs.Board.{bodies_executed, expected_identifier};
 ghost use Rattle.world_model.specs.World.{run_moves, start};
 ghost use Rattle.world_model.specs.History.{IsAnsweredLate, IsExecutedAtMostOnce, IsExecutedThere, IsHandedOut};
 ghost use Rattle.world_model.specs.History.{IsLateAnswer, IsRun, IsTrueHistory};
@@ -101,7 +101,7 @@ pub fn run_world(
     board: Board,
     moves: &[WorldMove],
 ) -> Result<World, WorldEnd>
-    requires fresh { executed board ≡ [] }
+    requires fresh { bodies_executed board ≡ [] }
     requires short { AllByRecursion IsShortMove moves.now }
     requires few { length moves.now ≤ 2 ^ 61 }
     // The world after all the moves.
@@ -146,7 +146,7 @@ fn run(
     board: Board,
     moves: &[WorldMove],
 ) -> Result<World, WorldEnd>
-    requires fresh { executed board ≡ [] }
+    requires fresh { bodies_executed board ≡ [] }
     requires short { AllByRecursion IsShortMove moves.now }
     requires few { length moves.now ≤ 2 ^ 61 }
     ensures ran { IfOk result (IsRun settings.window settings.rounds board [] moves.now) }
@@ -166,7 +166,7 @@ fn run(
 
 /// A run before its first move.
 fn begin(alloc: Global, settings: Settings, board: Board) -> Result<Run, NoMemory>
-    requires { executed board ≡ [] }
+    requires { bodies_executed board ≡ [] }
     ensures begun { IfOk result (λ run. world_of run ≡ start settings.window settings.rounds board []) }
     ensures spellings { IfOk result (λ run. HasSpellings run.hub) }
     ensures counted { IfOk result (λ run. body_count run.hub ≡ 0) }
@@ -188,7 +188,7 @@ fn begin(alloc: Global, settings: Settings, board: Board) -> Result<Run, NoMemor
 fn status_of(alloc: Global, board: &mut Board) -> Result<Status, NoMemory>
     ensures board { OnOk result (board.new ≡ board.old) }
     ensures buffers { IfOk result (λ status. status.buffers ≡ board.old.buffers) }
-    ensures next { IfOk result (λ status. status.next ≡ expected board.old) }
+    ensures next { IfOk result (λ status. status.next ≡ expected_identifier board.old) }
 {
     what_is_written_is_known();
     identifiers_follow_each_other();

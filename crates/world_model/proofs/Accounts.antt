@@ -19,9 +19,9 @@ use Rattle.world_model.specs.Places.{at_place}
 use Rattle.world_model.specs.Messages.{ToHub, to_hub}
 use Rattle.world_model.specs.Board.{Board}
 use Rattle.world_model.specs.Hub.{Hub, want_control, offer, goes_before, insert_fate, tag_of, open_with, without}
-use Rattle.world_model.specs.Hub.{settle, recover, take_message, abandoned, time_out, unsent, give_up, hear_quiet}
+use Rattle.world_model.specs.Hub.{settle, recover, take_message, abandoned_place, time_out, unsent_fate, give_up, hear_quiet}
 use Rattle.world_model.specs.Hub.{insert_late, places}
-use Rattle.world_model.specs.Sends.{Next, Wanted, after_open, wanted, opened, next_send, pending}
+use Rattle.world_model.specs.Sends.{Next, Wanted, after_open, first_wanted, opened_place, next_send, pending}
 use Rattle.world_model.specs.World.{World, flush, handed_out, with_hub, go_on, step, run_moves, start}
 use Rattle.world_model.specs.History.{IsMove, IsRun, IsHandedOut, IsAccounted, IsOffered, offers, times, tag_of_offered}
 use Rattle.world_model.specs.History.{tag_of_fate, waited_tags, placed_tags}
@@ -111,21 +111,21 @@ alike_later : (o : OpenPlace) (os : List OpenPlace) (r : Option Wanted)
 alike_later o os None is = tt
 alike_later o os (Some w) is = alike_cons o o os w.open_places refl refl is
 
-wanted_alike : (first : ℕ) (os : List OpenPlace) → IfSome (wanted first os) (λ (w : Wanted). AreAlike os w.open_places)
+wanted_alike : (first : ℕ) (os : List OpenPlace) → IfSome (first_wanted first os) (λ (w : Wanted). AreAlike os w.open_places)
 wanted_alike first [] = tt
 wanted_alike first (o ∷ os) = either (λ (r : Option Wanted). IfSome r (λ (w : Wanted). AreAlike (o ∷ os) w.open_places))
     o.resend _ _
     (λ _. alike_cons o (record o { resend = false }) os os refl refl (alike_same os))
     (λ _. either (λ (r : Option Wanted). IfSome r (λ (w : Wanted). AreAlike (o ∷ os) w.open_places)) o.control _ _
     (λ _. alike_cons o (record o { control = false }) os os refl refl (alike_same os))
-    (λ _. alike_later o os (wanted first os) (wanted_alike first os)))
+    (λ _. alike_later o os (first_wanted first os) (wanted_alike first os)))
 
-pub wanted_is_alike : (first : ℕ) (os : List OpenPlace) (w : Wanted) → wanted first os ≡ Some w
+pub wanted_is_alike : (first : ℕ) (os : List OpenPlace) (w : Wanted) → first_wanted first os ≡ Some w
     → AreAlike os w.open_places
 wanted_is_alike first os w e = subst (λ (r : Option Wanted). IfSome r (λ (x : Wanted). AreAlike os x.open_places)) e
     (wanted_alike first os)
 
-none_waited : (sent : List Offered) (os : List OpenPlace) → waited_tags sent (map abandoned os) ≡ []
+none_waited : (sent : List Offered) (os : List OpenPlace) → waited_tags sent (map abandoned_place os) ≡ []
 none_waited sent [] = refl
 none_waited sent (o ∷ os) = none_waited sent os
 
@@ -159,11 +159,11 @@ waited_before sent more (o ∷ os) all =
 
 -- the place of a first send is waited for
 waits_push : (tag : ℕ) (sent : List Offered) (o : Offered) (os : List OpenPlace) → AreUpTo (length sent) (places os)
-    → waits tag (sent ++ o ∷ []) (os ++ opened (length sent + 1) ∷ []) ≡ waits tag sent os + times tag (o.tag ∷ [])
+    → waits tag (sent ++ o ∷ []) (os ++ opened_place (length sent + 1) ∷ []) ≡ waits tag sent os + times tag (o.tag ∷ [])
 waits_push tag sent o os all =
     let more = sent ++ o ∷ [] in
     let here : tag_of (at_place more (length sent + 1)) ≡ o.tag = ap tag_of (at_seam sent [] o) in
-    ap (times tag) (waited-append more os (opened (length sent + 1) ∷ []))
+    ap (times tag) (waited-append more os (opened_place (length sent + 1) ∷ []))
     ∙ (times-append tag (waited_tags more os) (tag_of (at_place more (length sent + 1)) ∷ [])
     ∙ (ap (λ (tags : List ℕ). times tag tags + times tag (tag_of (at_place more (length sent + 1)) ∷ []))
     (waited_before sent (o ∷ []) os all)
@@ -249,11 +249,11 @@ time_out_count F tag rounds is one sent (o ∷ os) fates =
       | false ↦ time_out_count F tag rounds is one sent os fates
     ]
 
-unsent_tags : (queue : List Offered) → map tag_of_fate (map unsent queue) ≡ map tag_of_offered queue
+unsent_tags : (queue : List Offered) → map tag_of_fate (map unsent_fate queue) ≡ map tag_of_offered queue
 unsent_tags [] = refl
 unsent_tags (o ∷ os) = ap (λ (tags : List ℕ). o.tag ∷ tags) (unsent_tags os)
 
-unsent_unplaced : (queue : List Offered) → placed_tags (map unsent queue) ≡ []
+unsent_unplaced : (queue : List Offered) → placed_tags (map unsent_fate queue) ≡ []
 unsent_unplaced [] = refl
 unsent_unplaced (o ∷ os) = unsent_unplaced os
 
@@ -339,14 +339,14 @@ give_up_balanced : (tag offered : ℕ) (told : List (ℕ × Fate)) (h : Hub) →
 give_up_balanced tag offered told h is =
     let late = time_out h.rounds h.sent h.open_places h.fates in
     let none = ap (times tag) (none_waited h.sent h.open_places) in
-    let same = places_map abandoned h.open_places (λ _. refl) in
+    let same = places_map abandoned_place h.open_places (λ _. refl) in
     record {
       up_to = subst (AreUpTo (length h.sent)) (sym same) is.up_to;
       all = omega (
         arith,
         is.all,
         none,
-        count_append (tagged_fates tag) (tagged_count tag) late (map unsent h.queue),
+        count_append (tagged_fates tag) (tagged_count tag) late (map unsent_fate h.queue),
         ap (times tag) (unsent_tags h.queue),
         time_out_count (tagged_fates tag) tag h.rounds (tagged_count tag) (λ _ _. refl) h.sent h.open_places h.fates,
       );
@@ -354,7 +354,7 @@ give_up_balanced tag offered told h is =
         arith,
         is.placed,
         none,
-        count_append (placed_fates tag) (placed_count tag) late (map unsent h.queue),
+        count_append (placed_fates tag) (placed_count tag) late (map unsent_fate h.queue),
         ap (times tag) (unsent_unplaced h.queue),
         time_out_count (placed_fates tag) tag h.rounds (placed_count tag) (λ _ _. refl) h.sent h.open_places h.fates,
       );
@@ -378,7 +378,7 @@ first_balanced : (tag offered : ℕ) (told : List (ℕ × Fate)) (h : Hub) (o : 
     → IsBalanced tag offered told (record h {
       sent = h.sent ++ o ∷ [];
       queue = later;
-      open_places = h.open_places ++ opened (length h.sent + 1) ∷ [];
+      open_places = h.open_places ++ opened_place (length h.sent + 1) ∷ [];
     })
 first_balanced tag offered told h o later e is =
     let len = length-append h.sent (o ∷ []) in
@@ -387,7 +387,7 @@ first_balanced tag offered told h o later e is =
     ∙ times-append tag (map tag_of_offered h.sent) (o.tag ∷ []) in
     let waited = waits_push tag h.sent o h.open_places is.up_to in
     record {
-      up_to = up_to_push (length h.sent) (length (h.sent ++ o ∷ [])) h.open_places (opened (length h.sent + 1))
+      up_to = up_to_push (length h.sent) (length (h.sent ++ o ∷ [])) h.open_places (opened_place (length h.sent + 1))
           (omega arith) (omega arith) is.up_to;
       all = omega (arith, is.all, front, waited);
       placed = omega (arith, is.placed, sent, waited);

@@ -27,8 +27,8 @@ use Rattle.world_model.specs.declared.offered.Fate.TheVariants.{Replied, TimedOu
 use Rattle.world_model.specs.Places.{at_place}
 use Rattle.world_model.specs.Messages.{ToBoard, ToHub, StatusRequest, ResendRequest, ControlPacket, StatusReply, Reply}
 use Rattle.world_model.specs.Messages.{control_packet, to_board, to_hub}
-use Rattle.world_model.specs.Board.{Board, Hearing, body_of, executed, replies, present_bus, numbered, expected}
-use Rattle.world_model.specs.Board.{numbered_replies, held, with_id, is_too_long, dropped, tell_status}
+use Rattle.world_model.specs.Board.{Board, Hearing, body_of, bodies_executed, replies, present_bus, numbered_count, expected_identifier}
+use Rattle.world_model.specs.Board.{numbered_replies, held_replies, with_id, is_too_long, hearing_dropped, tell_status}
 use Rattle.world_model.specs.Board.{send_again, execute, hear_control, hear_message, hear}
 use Rattle.world_model.specs.Air.{LIFETIME}
 use Rattle.world_model.specs.Facts.{IsWindow, IsExecuted, IsBoard, IsLogged, IsDatagram, IsSaid, IsSaidToBoard}
@@ -42,13 +42,13 @@ use Rattle.world_model.proofs.Replies.{replies_sendable, present_holds, reply_se
 use Rattle.world_model.specs.Below.{Below}
 
 module _ (below : Below) where
-  pub replies_length : (b : Board) → length (replies b) ≡ length (executed b)
-  replies_length b = below.bodies.one_each b.opening (executed b)
+  pub replies_length : (b : Board) → length (replies b) ≡ length (bodies_executed b)
+  replies_length b = below.bodies.one_each b.opening (bodies_executed b)
 
-  pub executed_length : (b : Board) → length (executed b) ≡ length b.log
+  pub executed_length : (b : Board) → length (bodies_executed b) ≡ length b.log
   executed_length b = length-map b.log body_of
 
-  pub numbered_all : (mtu : ℕ) (log : List LogEntry) → AllByRecursion (IsLogged mtu) log → numbered log ≡ length log
+  pub numbered_all : (mtu : ℕ) (log : List LogEntry) → AllByRecursion (IsLogged mtu) log → numbered_count log ≡ length log
   numbered_all mtu [] all = refl
   numbered_all mtu (e ∷ es) all = rw all.0.numbered (let h = numbered_all mtu es all.1 in omega arith)
 
@@ -218,7 +218,7 @@ module _ (below : Below) where
 
   -- a board that heard: it grew, and its answer holds
   pub record HasHeard (first : ℕ) (all : List (List ℕ)) (ps : List ℕ) (old : Board) (h : Hearing) : Type 0 where
-    pub log : IsExecuted all (executed h.board) ps
+    pub log : IsExecuted all (bodies_executed h.board) ps
     pub node : IsBoard first h.board
     pub later : List (List ℕ)
     pub grew : replies h.board ≡ replies old ++ later
@@ -227,19 +227,19 @@ module _ (below : Below) where
   pub record IsHere (first window : ℕ) (all : List (List ℕ)) (ps : List ℕ) (b : Board) : Type 0 where
     pub hub : IsWindow window (length all) ps
     pub sendable : AllByRecursion IsSendable all
-    pub log : IsExecuted all (executed b) ps
+    pub log : IsExecuted all (bodies_executed b) ps
     pub node : IsBoard first b
 
   near : (first window : ℕ) (all : List (List ℕ)) (ps : List ℕ) (b : Board) → IsHere first window all ps b
-      → length all ≤ length (executed b) + MOST_OPEN
-  near first window all ps b is = sent_near window all (executed b) ps is.hub is.log
+      → length all ≤ length (bodies_executed b) + MOST_OPEN
+  near first window all ps b is = sent_near window all (bodies_executed b) ps is.hub is.log
 
   numbered_is : (first window : ℕ) (all : List (List ℕ)) (ps : List ℕ) (b : Board) → IsHere first window all ps b
-      → numbered b.log ≡ length (executed b)
+      → numbered_count b.log ≡ length (bodies_executed b)
   numbered_is first window all ps b is = numbered_all b.mtu b.log is.node.log ∙ sym (executed_length b)
 
   dropped_heard : (first window : ℕ) (all : List (List ℕ)) (ps : List ℕ) (b : Board) (cause : DropCause)
-      → IsHere first window all ps b → HasHeard first all ps b (dropped b cause)
+      → IsHere first window all ps b → HasHeard first all ps b (hearing_dropped b cause)
   dropped_heard first window all ps b cause is = record {
     log = is.log;
     node = is.node;
@@ -254,12 +254,12 @@ module _ (below : Below) where
       let n = near first window all ps b is in
       let count = numbered_is first window all ps b is in
       let same = replies_length b in
-      let said : IsToldOf first (length (replies b)) (length all) (expected b) = record {
-        place = length (executed b) + 1;
+      let said : IsToldOf first (length (replies b)) (length all) (expected_identifier b) = record {
+        place = length (bodies_executed b) + 1;
         from_one = omega arith;
         up_to_next = omega arith;
         identifier = ap (λ k. identifier_at b.first (k + 1)) count
-            ∙ ap (λ f. identifier_at f (length (executed b) + 1)) (sym is.node.same_first);
+            ∙ ap (λ f. identifier_at f (length (bodies_executed b) + 1)) (sym is.node.same_first);
         recent = omega arith;
       } in
       record {
@@ -270,8 +270,8 @@ module _ (below : Below) where
         answer = record {
           born = omega arith;
           said = subst (IsSaidToHub first (replies b) (length all))
-              (sym (status_read below b.mtu b.buffers (expected b) is.node.mtu is.node.buffers
-              (is_identifier b.first (numbered b.log + 1)))) said;
+              (sym (status_read below.packets.back b.mtu b.buffers (expected_identifier b) is.node.mtu is.node.buffers
+              (is_identifier b.first (numbered_count b.log + 1)))) said;
         };
       }
 
@@ -280,10 +280,10 @@ module _ (below : Below) where
       → IsSendable words → IsReplyOf first answers birth id words
       → IsSaidToHub first answers birth (to_hub (packet_bytes (control_packet order id words)))
   reply_said first answers birth order id words fits is said =
-      subst (IsSaidToHub first answers birth) (sym (reply_read below order id words fits is)) said
+      subst (IsSaidToHub first answers birth) (sym (reply_read below.packets.back order id words fits is)) said
 
   resent : (first window : ℕ) (all : List (List ℕ)) (ps : List ℕ) (b : Board) (id : ℕ) (packet : Packet)
-      → IsHere first window all ps b → with_id id (held b) ≡ Some packet
+      → IsHere first window all ps b → with_id id (held_replies b) ≡ Some packet
       → HasHeard first all ps b (send_again b (Some packet))
   resent first window all ps b id packet is found =
       let n = near first window all ps b is in
@@ -291,7 +291,7 @@ module _ (below : Below) where
       let packets = numbered_replies b.first 1 b.log (replies b) in
       let count = replies_count b.mtu b.first 1 b.log (replies b) is.node.log (same ∙ executed_length b) in
       let skipped = length packets - b.buffers in
-      let f = with_id_found id (held b) packet found in
+      let f = with_id_found id (held_replies b) packet found in
       let at = get_drop skipped packets f.past packet f.there in
       let r = reply_at b.mtu b.first 1 (skipped + f.past) b.log (replies b) packet is.node.log at in
       let next : 1 + (skipped + f.past) ≡ skipped + f.past + 1 = omega arith in
@@ -303,7 +303,7 @@ module _ (below : Below) where
         place = 1 + (skipped + f.past);
         at = here;
         identifier = ap (λ (k : ℕ). identifier_at k (1 + (skipped + f.past))) (sym is.node.same_first);
-        sent = omega (arith, within, same, front_length (executed b) all is.log.front);
+        sent = omega (arith, within, same, front_length (bodies_executed b) all is.log.front);
         recent = omega (arith, is.node.buffers.1);
       } in
       record {
@@ -321,24 +321,24 @@ module _ (below : Below) where
       }
 
   resend_heard : (first window : ℕ) (all : List (List ℕ)) (ps : List ℕ) (b : Board) (id : ℕ) (r : Option Packet)
-      → IsHere first window all ps b → with_id id (held b) ≡ r → HasHeard first all ps b (send_again b r)
+      → IsHere first window all ps b → with_id id (held_replies b) ≡ r → HasHeard first all ps b (send_again b r)
   resend_heard first window all ps b id None is e = dropped_heard first window all ps b causes.NotHeld is
   resend_heard first window all ps b id (Some packet) is e = resent first window all ps b id packet is e
 
   abbrev pub with_entry : Board → LogEntry → Board
   with_entry b e = record b { log = b.log ++ e ∷ [] }
 
-  pub executed_entry : (b : Board) (e : LogEntry) → executed (with_entry b e) ≡ executed b ++ e.body ∷ []
+  pub executed_entry : (b : Board) (e : LogEntry) → bodies_executed (with_entry b e) ≡ bodies_executed b ++ e.body ∷ []
   executed_entry b e = map-append body_of b.log (e ∷ [])
 
   pub replies_entry : (b : Board) (e : LogEntry) → replies (with_entry b e) ≡ replies b ++
       (run_body (present_bus b) e.body).reply ∷ []
   replies_entry b e = ap (λ (bs : List (List ℕ)). (replay b.opening bs).replies) (executed_entry b e)
-      ∙ below.bodies.more b.opening (executed b) (e.body ∷ [])
+      ∙ below.bodies.more b.opening (bodies_executed b) (e.body ∷ [])
 
   execute_heard : (first window : ℕ) (all : List (List ℕ)) (ps : List ℕ) (b : Board) (order : Order) (id : ℕ)
       (body : List ℕ) → IsHere first window all ps b
-      → at_place all (length (executed b) + 1) ≡ Some body → id ≡ identifier_at first (length (executed b) + 1)
+      → at_place all (length (bodies_executed b) + 1) ≡ Some body → id ≡ identifier_at first (length (bodies_executed b) + 1)
       → IsSendable body → reply_room body + 1 ≤ payload_of b.mtu
       → HasHeard first all ps b (execute b id (record { numbered = true; order = order; body = body }))
   execute_heard first window all ps b order id body is at named sendable room =
@@ -351,14 +351,14 @@ module _ (below : Below) where
         at = subst (λ (rs : List (List ℕ)). at_place rs (length (replies b) + 1) ≡ Some reply) (sym (replies_entry b e))
             (at_seam (replies b) [] reply);
         identifier = named ∙ ap (λ (k : ℕ). identifier_at first (k + 1)) (sym same);
-        sent = omega (arith, same, at_within all (length (executed b) + 1) body at);
+        sent = omega (arith, same, at_within all (length (bodies_executed b) + 1) body at);
         recent = omega arith;
       } in
       let can = reply_sendable below b.mtu (present_bus b) body is.node.mtu
       (present_holds below first b is.node) sendable.words room in
       record {
         log = subst (λ (bs : List (List ℕ)). IsExecuted all bs ps) (sym (executed_entry b e))
-            (executed_next all (executed b) ps body is.log (front_grows (executed b) all body is.log.front at));
+            (executed_next all (bodies_executed b) ps body is.log (front_grows (bodies_executed b) all body is.log.front at));
         node = record {
           identifier = is.node.identifier;
           same_first = is.node.same_first;
@@ -373,7 +373,7 @@ module _ (below : Below) where
         answer = record {
           born = omega arith;
           said = reply_said first (replies (with_entry b e)) (length all) order id reply
-              (omega (arith, named, id_fits first (length (executed b) + 1))) can said;
+              (omega (arith, named, id_fits first (length (bodies_executed b) + 1))) can said;
         };
       }
 
@@ -391,26 +391,26 @@ module _ (below : Below) where
   control_heard first window birth all ps b order id body is born alive said =
       let n = near first window all ps b is in
       let count = numbered_is first window all ps b is in
-      let fl = front_length (executed b) all is.log.front in
+      let fl = front_length (bodies_executed b) all is.log.front in
       let one = at_from_one all said.place body said.at in
       either (HasHeard first all ps b) (is_too_long b body) _ _
       (λ _. dropped_heard first window all ps b causes.TooLong is)
       (λ short. either (HasHeard first all ps b) (id == 0) _ _
       (λ zero_id. absurd (let z = eqb-true id 0 zero_id in
       omega (arith, said.identifier, not_zero first said.place)))
-      (λ _. either (HasHeard first all ps b) (id == expected b) _ _
+      (λ _. either (HasHeard first all ps b) (id == expected_identifier b) _ _
       (λ expects.
-      let e = eqb-true id (expected b) expects in
-      let next : expected b ≡ identifier_at first (length (executed b) + 1) =
+      let e = eqb-true id (expected_identifier b) expects in
+      let next : expected_identifier b ≡ identifier_at first (length (bodies_executed b) + 1) =
       ap (λ (k : ℕ). identifier_at b.first (k + 1)) count
-      ∙ ap (λ (f : ℕ). identifier_at f (length (executed b) + 1)) (sym is.node.same_first) in
-      let same : said.place ≡ length (executed b) + 1 =
-      one_place first said.place (length (executed b) + 1) is.node.identifier one (omega arith)
+      ∙ ap (λ (f : ℕ). identifier_at f (length (bodies_executed b) + 1)) (sym is.node.same_first) in
+      let same : said.place ≡ length (bodies_executed b) + 1 =
+      one_place first said.place (length (bodies_executed b) + 1) is.node.identifier one (omega arith)
       (omega (arith, said.sent)) (omega (arith, said.recent)) (sym said.identifier ∙ (e ∙ next)) in
       let at = subst (λ (k : ℕ). at_place all k ≡ Some body) same said.at in
-      let got : slice_get all (length (executed b)) ≡ Some body = rw add-one at at in
+      let got : slice_get all (length (bodies_executed b)) ≡ Some body = rw add-one at at in
       execute_heard first window all ps b order id body is at (e ∙ next)
-      (all_get IsSendable all (length (executed b)) body is.sendable got) (room_fits b body short))
+      (all_get IsSendable all (length (bodies_executed b)) body is.sendable got) (room_fits b body short))
       (λ _. dropped_heard first window all ps b causes.OtherId is)))
 
   message_heard : (first window birth : ℕ) (all : List (List ℕ)) (ps : List ℕ) (b : Board) (m : Option ToBoard)
@@ -422,7 +422,7 @@ module _ (below : Below) where
   message_heard first window birth all ps b (Some StatusRequest) is born alive said =
       status_heard first window all ps b is
   message_heard first window birth all ps b (Some (ResendRequest id)) is born alive said =
-      resend_heard first window all ps b id (with_id id (held b)) is refl
+      resend_heard first window all ps b id (with_id id (held_replies b)) is refl
   message_heard first window birth all ps b (Some (ControlPacket order id body)) is born alive said =
       control_heard first window birth all ps b order id body is born alive said
 

@@ -15,12 +15,12 @@ use Rattle.world_model.specs.Messages.{ToHub, StatusReply, Reply, to_hub}
 use Rattle.world_model.specs.Board.{Board}
 use Rattle.world_model.specs.declared.offered.Offered.{Offered}
 use Rattle.world_model.specs.declared.offered.OpenPlace.{OpenPlace}
-use Rattle.world_model.specs.Hub.{Hub, low, offer, open_with, settle, recovered, told_place, take_message, want_status}
+use Rattle.world_model.specs.Hub.{Hub, low, offer, open_with, settle, after_recovery, told_place, take_message, want_status}
 use Rattle.world_model.specs.Hub.{HandedOut, IsDrained, none_handed_out}
 use Rattle.world_model.specs.Hub.{give_up, hear_quiet, hear_reply, hear_status, is_waiting}
-use Rattle.world_model.specs.Sends.{Next, Wanted, after_open, wanted, opened, first_send, wanted_or_first, next_send}
+use Rattle.world_model.specs.Sends.{Next, Wanted, after_open, first_wanted, opened_place, first_send, wanted_or_first, next_send}
 use Rattle.world_model.specs.Sends.{pending, wishes}
-use Rattle.world_model.specs.World.{World, sent_into, flush_on, flush, with_hub, go_on, taken, hub_hears, board_hears}
+use Rattle.world_model.specs.World.{World, sent_into, flush_on, flush, with_hub, go_on, taken_datagram, hub_hears, board_hears}
 use Rattle.world_model.specs.World.{when_taken, step, moves_on, run_moves, start}
 use Rattle.world_model.specs.History.{IsMove, IsRun}
 use Rattle.world_model.proofs.Lists.{either}
@@ -36,7 +36,7 @@ fewer_later : (o : OpenPlace) (os : List OpenPlace) (r : Option Wanted) → Fewe
 fewer_later o os None f = tt
 fewer_later o os (Some w) f = omega arith
 
-wanted_fewer : (first : ℕ) (os : List OpenPlace) → FewerWishes os (wanted first os)
+wanted_fewer : (first : ℕ) (os : List OpenPlace) → FewerWishes os (first_wanted first os)
 wanted_fewer first [] = tt
 wanted_fewer first (o ∷ os) = either (FewerWishes (o ∷ os)) o.resend _ _
     (λ e. rw e (omega arith))
@@ -44,7 +44,7 @@ wanted_fewer first (o ∷ os) = either (FewerWishes (o ∷ os)) o.resend _ _
     (λ e. rw e (omega arith))
     (λ _. fewer_later o os _ (wanted_fewer first os)))
 
-wishes_push : (os : List OpenPlace) (place : ℕ) → wishes (os ++ opened place ∷ []) ≡ wishes os
+wishes_push : (os : List OpenPlace) (place : ℕ) → wishes (os ++ opened_place place ∷ []) ≡ wishes os
 wishes_push [] place = refl
 wishes_push (o ∷ os) place = ap (λ (n : ℕ). cond o.resend 1 0 + cond o.control 1 0 + n) (wishes_push os place)
 
@@ -66,7 +66,7 @@ wanted_falls h (Some w) f = omega arith
 pub send_falls : (h : Hub) → Falls h (next_send h)
 send_falls h = either (Falls h) h.status_wanted _ _
     (λ e. rw e (omega arith))
-    (λ _. wanted_falls h (wanted h.first h.open_places) (wanted_fewer h.first h.open_places))
+    (λ _. wanted_falls h (first_wanted h.first h.open_places) (wanted_fewer h.first h.open_places))
 
 -- ---- with fuel enough, more fuel changes nothing
 
@@ -132,7 +132,7 @@ flush_sends_all (suc most) w few = last_of_flush most w (next_send w.hub) refl (
 
 pub send_cases : (Q : Next → Type 0) (h : Hub) → Q (record
     { send = sends.Status; hub = record h { status_wanted = false } })
-    → ((w : Wanted) → wanted h.first h.open_places ≡ Some w
+    → ((w : Wanted) → first_wanted h.first h.open_places ≡ Some w
     → Q (record { send = w.send; hub = record h { open_places = w.open_places } }))
     → ((o : Offered) (later : List Offered) → h.queue ≡ o ∷ later → length h.sent + 2 ≤ h.window + low h
     → Q (record {
@@ -140,7 +140,7 @@ pub send_cases : (Q : Next → Type 0) (h : Hub) → Q (record
       hub = record h {
         sent = h.sent ++ o ∷ [];
         queue = later;
-        open_places = h.open_places ++ opened (length h.sent + 1) ∷ [];
+        open_places = h.open_places ++ opened_place (length h.sent + 1) ∷ [];
       };
     }))
     → IfSome (next_send h) Q
@@ -152,13 +152,13 @@ send_cases Q h status want first =
           (nat_le (length h.sent + 1 + 1) (h.window + low h)) _ _
           (λ room. first o later e (let r = leb-true _ _ room in omega arith)) (λ _. tt)
     ] in
-    let by_wish : (r : Option Wanted) → wanted h.first h.open_places ≡ r → IfSome (wanted_or_first h r) Q =
-    λ r. elim r as (λ (x : Option Wanted). wanted h.first h.open_places ≡ x → IfSome (wanted_or_first h x) Q) [
+    let by_wish : (r : Option Wanted) → first_wanted h.first h.open_places ≡ r → IfSome (wanted_or_first h r) Q =
+    λ r. elim r as (λ (x : Option Wanted). first_wanted h.first h.open_places ≡ x → IfSome (wanted_or_first h x) Q) [
       | None ↦ λ _. by_queue h.queue refl
       | Some w ↦ λ e. want w e
     ] in
     either (λ (r : Option Next). IfSome r Q) h.status_wanted _ _ (λ _. status)
-    (λ _. by_wish (wanted h.first h.open_places) refl)
+    (λ _. by_wish (first_wanted h.first h.open_places) refl)
 
 flush_keeps_by : (Q : World → Type 0) (w : World) (later : Next → World) (r : Option Next) → Q w
     → IfSome r (λ (n : Next). Q (sent_into w n)) → ((n : Next) → Q (sent_into w n) → Q (later n))
@@ -189,17 +189,17 @@ pub reply_cases : (Q : Hub → Type 0) (h : Hub) (id : ℕ) (words : List ℕ) �
 reply_cases Q h id words same settled =
     settled_or_not Q h id words (open_with h.first id h.open_places) refl same settled
 
-recovered_or_not : (Q : Hub → Type 0) (h : Hub) (r : Option ℕ) → Q h → ((told : ℕ) → Q (recovered h (Some told)))
-    → Q (recovered h r)
+recovered_or_not : (Q : Hub → Type 0) (h : Hub) (r : Option ℕ) → Q h → ((told : ℕ) → Q (after_recovery h (Some told)))
+    → Q (after_recovery h r)
 recovered_or_not Q h None same again = same
 recovered_or_not Q h (Some told) same again = again told
 
-pub status_cases : (Q : Hub → Type 0) (h : Hub) (next : ℕ) → Q h → ((told : ℕ) → Q (recovered h (Some told)))
+pub status_cases : (Q : Hub → Type 0) (h : Hub) (next : ℕ) → Q h → ((told : ℕ) → Q (after_recovery h (Some told)))
     → Q (hear_status h next)
 status_cases Q h next same again = either Q (nat_lt 0 h.status_requests) _ _
     (λ _. recovered_or_not Q h (told_place h next) same again) (λ _. same)
 
-pub message_cases : (Q : Hub → Type 0) (h : Hub) (m : Option ToHub) → Q h → ((told : ℕ) → Q (recovered h (Some told)))
+pub message_cases : (Q : Hub → Type 0) (h : Hub) (m : Option ToHub) → Q h → ((told : ℕ) → Q (after_recovery h (Some told)))
     → ((id : ℕ) (words : List ℕ) (o : OpenPlace) → open_with h.first id h.open_places ≡ Some o
     → Q (settle h words (Some o))) → Q (take_message h m)
 message_cases Q h None same again settled = same
@@ -236,9 +236,9 @@ step_cases Q at w (Offer tag body) offers quiet hub board = offers tag body refl
 step_cases Q at w Quiet offers quiet hub board = either (λ (r : Result World WorldEnd). IfOk r Q) (is_waiting w.hub) _ _
     (λ _. quiet refl) (λ _. tt)
 step_cases Q at w (HubHears i) offers quiet hub board =
-    taken_by Q (taken at (length w.hub.sent) goes.ToHub (slice_get w.air i)) (hub_hears w) (λ bytes. hub i bytes refl)
+    taken_by Q (taken_datagram at (length w.hub.sent) goes.ToHub (slice_get w.air i)) (hub_hears w) (λ bytes. hub i bytes refl)
 step_cases Q at w (BoardHears i) offers quiet hub board =
-    taken_by Q (taken at (length w.hub.sent) goes.ToBoard (slice_get w.air i)) (board_hears w)
+    taken_by Q (taken_datagram at (length w.hub.sent) goes.ToBoard (slice_get w.air i)) (board_hears w)
     (λ bytes. board i bytes refl)
 
 run_step_by : (Q P : World → Type 0) (r : Result World WorldEnd) (later : World → Result World WorldEnd) → IfOk r Q
@@ -279,7 +279,7 @@ first_told held h (o ∷ later) =
       hub = record h {
         sent = h.sent ++ o ∷ [];
         queue = later;
-        open_places = h.open_places ++ opened (length h.sent + 1) ∷ [];
+        open_places = h.open_places ++ opened_place (length h.sent + 1) ∷ [];
       };
     } in
     elim (nat_le (length h.sent + 1 + 1) (h.window + low h))
@@ -298,11 +298,11 @@ pub send_told : (held : HandedOut) (h : Hub) → ToldAlike held (next_send h) (n
 send_told held h =
     let next : Next = record { send = sends.Status; hub = record h { status_wanted = false } } in
     elim h.status_wanted as (λ b. ToldAlike held (cond b (Some next)
-    (wanted_or_first h (wanted h.first h.open_places)))
+    (wanted_or_first h (first_wanted h.first h.open_places)))
     (cond b (Some (record { send = next.send; hub = with_waiting held next.hub }))
-    (wanted_or_first (with_waiting held h) (wanted h.first h.open_places)))) [
+    (wanted_or_first (with_waiting held h) (first_wanted h.first h.open_places)))) [
       | true ↦ refl
-      | false ↦ or_told held h (wanted h.first h.open_places)
+      | false ↦ or_told held h (first_wanted h.first h.open_places)
     ]
 
 told_none : (held : HandedOut) (r s : Option Next) → ToldAlike held r s → r ≡ None → s ≡ None

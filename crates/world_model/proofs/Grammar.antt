@@ -174,7 +174,7 @@ module _ (below : Below) where
   pub control_known : (bytes : List ℕ) (order : Order) (id : ℕ) (body : List ℕ)
       → IsPacket (control_packet order id body) → bytes ≡ packet_bytes (control_packet order id body)
       → to_board bytes ≡ Some (ControlPacket order id body)
-  control_known bytes order id body is e = ap to_board e ∙ board_reads below (control_packet order id body) is
+  control_known bytes order id body is e = ap to_board e ∙ board_reads below.packets.back (control_packet order id body) is
 
   pub resend_found : (bytes : List ℕ) (id : ℕ) → AreBytes bytes → to_board bytes ≡ Some (ResendRequest id)
       → (id < 2 ^ 16) × (bytes ≡ packet_bytes (resend_request id))
@@ -194,7 +194,7 @@ module _ (below : Below) where
   pub reply_known : (bytes : List ℕ) (order : Order) (id : ℕ) (words : List ℕ)
       → IsPacket (control_packet order id words) → bytes ≡ packet_bytes (control_packet order id words)
       → to_hub bytes ≡ Some (Reply id words)
-  reply_known bytes order id words is e = ap to_hub e ∙ hub_reads below (control_packet order id words) is
+  reply_known bytes order id words is e = ap to_hub e ∙ hub_reads below.packets.back (control_packet order id words) is
 
   -- ---- status packets
 
@@ -242,7 +242,7 @@ module _ (below : Below) where
         length = omega arith;
         order = λ e. absurd cc;
       } in
-      ap to_board r.2 ∙ (board_reads below packet can ∙ ap
+      ap to_board r.2 ∙ (board_reads below.packets.back packet can ∙ ap
       (λ (n : ℕ). if n == 15 then Some StatusRequest else None) fifteen)
 
   -- a status reply: its first three words tell the status
@@ -368,6 +368,6 @@ module _ (below : Below) where
         order = λ e. absurd cc;
       } in
       let spelled : bytes ≡ packet_bytes packet = r.2 ∙ sym (in_order_append front r.0) in
-      ap to_hub spelled ∙ (hub_reads below packet can
+      ap to_hub spelled ∙ (hub_reads below.packets.back packet can
       ∙ (ap (λ (n : ℕ). if n == 12 then status_with mtu buffers (header_of (packet_header next 0)) else None) twelve
-      ∙ status_is below mtu buffers next mtu_is buffers_are next_is))
+      ∙ status_is below.packets.back mtu buffers next mtu_is buffers_are next_is))

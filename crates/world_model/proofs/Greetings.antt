@@ -23,12 +23,12 @@ use Rattle.world_model.specs.declared.sending.Sending.TheVariants as sends
 use Rattle.world_model.specs.Places.{at_place}
 use Rattle.world_model.specs.Messages.{ToBoard, ToHub, StatusRequest, ResendRequest, ControlPacket, StatusReply}
 use Rattle.world_model.specs.Messages.{to_board, to_hub}
-use Rattle.world_model.specs.Board.{Board, Hearing, body_of, executed, replies, expected, held, with_id, is_too_long}
+use Rattle.world_model.specs.Board.{Board, Hearing, body_of, bodies_executed, replies, expected_identifier, held_replies, with_id, is_too_long}
 use Rattle.world_model.specs.Board.{tell_status, send_again, hear_message, hear}
 use Rattle.world_model.specs.Hub.{Hub, words_of}
 use Rattle.world_model.specs.Sends.{Next, next_send, bytes_to_send}
 use Rattle.world_model.specs.Air.{is_alive, goes_to}
-use Rattle.world_model.specs.World.{answered, sent_into}
+use Rattle.world_model.specs.World.{air_after_answer, sent_into}
 use Rattle.world_model.specs.Facts.{IsStart, IsGreeting, IsGreetingOf, IsSound, IsSendable, AreSendable, IsDatagram}
 use Rattle.world_model.specs.Facts.{bodies_of}
 use Rattle.world_model.specs.Links.{Told, IsHeard, IsHanded, is_first_message}
@@ -65,12 +65,12 @@ HearGrew b h = record h.board { log = b.log } ≡ b
 message_rest : (b : Board) (m : Option ToBoard) → HearGrew b (hear_message b m)
 message_rest b None = refl
 message_rest b (Some StatusRequest) = refl
-message_rest b (Some (ResendRequest id)) = elim (with_id id (held b)) as (λ r. HearGrew b (send_again b r))
+message_rest b (Some (ResendRequest id)) = elim (with_id id (held_replies b)) as (λ r. HearGrew b (send_again b r))
     [ None ↦ refl | Some packet ↦ refl ]
 message_rest b (Some (ControlPacket order id body)) =
     either (HearGrew b) (is_too_long b body) _ _ (λ _. refl)
     (λ _. either (HearGrew b) (id == 0) _ _ (λ _. refl)
-    (λ _. either (HearGrew b) (id == expected b) _ _ (λ _. refl) (λ _. refl)))
+    (λ _. either (HearGrew b) (id == expected_identifier b) _ _ (λ _. refl) (λ _. refl)))
 
 hear_grew : (b : Board) (bytes : List ℕ) → BoardGrew b (hear b bytes).board
 hear_grew b bytes = record { log = message_logs b (to_board bytes); rest = message_rest b (to_board bytes) }
@@ -95,7 +95,7 @@ one_grew t (Some d) = either (λ (x : Option Told). IfSome x (LinkGrew t)) (goes
     (λ _. record {
       board = hear_grew t.board d.bytes;
       air =
-          (answered (first_sends t) (hear t.board d.bytes).answer, refl);
+          (air_after_answer (first_sends t) (hear t.board d.bytes).answer, refl);
     })
     (λ _. tt))
     (λ _. tt)
@@ -128,8 +128,8 @@ module _ (below : Below) where
   replies_grew old new g =
       let same : new.opening ≡ old.opening = ap (λ (b : Board). b.opening) g.rest in
       let more = g.log.0 in (
-        (replay (replay old.opening (executed old)).cells (map body_of more)).replies,
-        ap (λ (cells : _). (replay cells (executed new)).replies) same
+        (replay (replay old.opening (bodies_executed old)).cells (map body_of more)).replies,
+        ap (λ (cells : _). (replay cells (bodies_executed new)).replies) same
             ∙ (ap (λ (log : List LogEntry). (replay old.opening (map body_of log)).replies) g.log.1
             ∙ grown_replies old.opening old.log more),
       )
@@ -157,11 +157,11 @@ module _ (below : Below) where
       let bytes = packet_bytes status_request in
       let birth : birth_of t bytes ≡ 0 =
       ap (λ (b : Bool). if b then first_sends t + 1 else first_sends t)
-      (ap (is_first_message t.board.first (first_sends t)) (request_read below)) ∙ counted_none window t is in
-      started window t.board t.air _ is (record { birth = birth; bytes = request_read below })
+      (ap (is_first_message t.board.first (first_sends t)) (request_read below.packets.back)) ∙ counted_none window t is in
+      started window t.board t.air _ is (record { birth = birth; bytes = request_read below.packets.back })
 
   -- a fresh board expects its first packet
-  expects_first : (b : Board) → IsIdentifier b.first → b.log ≡ [] → expected b ≡ b.first
+  expects_first : (b : Board) → IsIdentifier b.first → b.log ≡ [] → expected_identifier b ≡ b.first
   expects_first b is fresh = rw fresh (omega (arith, is.from_one, is.up_to_end))
 
   abbrev pub GoesOn : ℕ → Told → Told → Type 0
@@ -170,7 +170,7 @@ module _ (below : Below) where
   status_starts : (window : ℕ) (t : Told) → IsStart window t.board t.air
       → GoesOn window t (record {
         board = t.board;
-        air = t.air ++ answered (first_sends t)
+        air = t.air ++ air_after_answer (first_sends t)
             (tell_status t.board).answer;
       })
   status_starts window t is = (
@@ -187,7 +187,7 @@ module _ (below : Below) where
   greeting_heard window t bytes is e =
       subst (λ (m : Option ToBoard). GoesOn window t (record {
         board = (hear_message t.board m).board;
-        air = t.air ++ answered (first_sends t)
+        air = t.air ++ air_after_answer (first_sends t)
             (hear_message t.board m).answer;
       })) (sym e) (status_starts window t is)
 
@@ -233,7 +233,7 @@ module _ (below : Below) where
       let g = all_get (IsGreeting t.board) t.air h.place (record
       { direction = goes.ToHub; bytes = bytes; birth = h.at.birth }) is.greetings h.at.there in
       let mine : to_hub bytes ≡ Some (StatusReply t.board.mtu t.board.buffers t.board.first) = ap to_hub g.bytes
-      ∙ status_read below t.board.mtu t.board.buffers t.board.first is.mtu is.buffers is.first in
+      ∙ status_read below.packets.back t.board.mtu t.board.buffers t.board.first is.mtu is.buffers is.first in
       let same : Some (StatusReply mtu buffers next) ≡ Some (StatusReply t.board.mtu t.board.buffers t.board.first) =
       sym reads ∙ mine in
       (cc, cc, cc)

@@ -13,7 +13,7 @@ use Rattle.world_model.specs.declared.datagram.Direction.TheVariants as goes
 use Rattle.world_model.specs.Places.{at_place}
 use Rattle.world_model.specs.Messages.{Reply, to_hub}
 use Rattle.world_model.proofs.Places.{one_place}
-use Rattle.world_model.specs.Board.{Board, executed, replies}
+use Rattle.world_model.specs.Board.{Board, bodies_executed, replies}
 use Rattle.world_model.specs.Hub.{low}
 use Rattle.world_model.specs.World.{World, start}
 use Rattle.world_model.specs.Facts.{IsLateReply, IsSound, IsTagged, IsRightFate, IsReplyOf, IsSaidToHub, bodies_of}
@@ -50,23 +50,23 @@ module _ (below : Below) where
     late = λ place words told. late_reply w place words is told;
   }
 
-  pub in_order : (w : World) (place : ℕ) (body : List ℕ) → IsSound w → at_place (executed w.board) place ≡ Some body
+  pub in_order : (w : World) (place : ℕ) (body : List ℕ) → IsSound w → at_place (bodies_executed w.board) place ≡ Some body
       → at_place (bodies_of w.hub.sent) place ≡ Some body
   in_order w place body is at = subst (λ (all : List (List ℕ)). at_place all place ≡ Some body) (sym is.log.front.1)
-      (at_front (executed w.board) is.log.front.0 place body at)
+      (at_front (bodies_executed w.board) is.log.front.0 place body at)
 
-  pub no_more : (w : World) → IsSound w → length (executed w.board) ≤ length w.hub.sent
+  pub no_more : (w : World) → IsSound w → length (bodies_executed w.board) ≤ length w.hub.sent
   no_more w is = omega (
     arith,
-    front_length (executed w.board) (bodies_of w.hub.sent) is.log.front,
+    front_length (bodies_executed w.board) (bodies_of w.hub.sent) is.log.front,
     length-map w.hub.sent offered_body,
   )
 
   -- what was executed at a place is the body of the offer that was sent there
   executed_body : (w : World) (place : ℕ) (o : Offered) → IsSound w → at_place w.hub.sent place ≡ Some o → 1 ≤ place
-      → place ≤ length (executed w.board) → at_place (executed w.board) place ≡ Some o.body
+      → place ≤ length (bodies_executed w.board) → at_place (bodies_executed w.board) place ≡ Some o.body
   executed_body w place o is at one within =
-      let x = at_exists (executed w.board) place one within in
+      let x = at_exists (bodies_executed w.board) place one within in
       let mine = in_order w place x.0 is x.1 in
       let other = at_map offered_body w.hub.sent place o at in
       let same : Some x.0 ≡ Some o.body = sym mine ∙ other in
@@ -100,8 +100,8 @@ module _ (below : Below) where
       }
 
   there_or_nowhere : (w : World) (place : ℕ) (o : Offered) → IsSound w → at_place w.hub.sent place ≡ Some o
-      → (length (executed w.board) < place) ⊎ (at_place (executed w.board) place ≡ Some o.body)
-  there_or_nowhere w place o is at = elim (cases_lt (length (executed w.board)) place) [
+      → (length (bodies_executed w.board) < place) ⊎ (at_place (bodies_executed w.board) place ≡ Some o.body)
+  there_or_nowhere w place o is at = elim (cases_lt (length (bodies_executed w.board)) place) [
     | inl later ↦ inl later
     | inr within ↦ inr (executed_body w place o is at (at_from_one w.hub.sent place o at) (omega arith))
   ]

@@ -21,12 +21,12 @@ use Rattle.world_model.specs.declared.sending.Sending.TheVariants as sends
 use Rattle.world_model.specs.Places.{at_place}
 use Rattle.world_model.specs.Messages.{control_packet, to_board}
 use Rattle.world_model.specs.Hub.{Hub, low, want_control, offer, goes_before, insert_fate, tag_of, words_of, open_with}
-use Rattle.world_model.specs.Hub.{without, settle, hear_reply, recover, recovered, told_place, hear_status}
-use Rattle.world_model.specs.Hub.{abandoned, time_out, unsent, give_up, want_status, hear_quiet, places}
+use Rattle.world_model.specs.Hub.{without, settle, hear_reply, recover, after_recovery, told_place, hear_status}
+use Rattle.world_model.specs.Hub.{abandoned_place, time_out, unsent_fate, give_up, want_status, hear_quiet, places}
 use Rattle.world_model.specs.Hub.{HandedOut, insert_late, place_of, least, to_hand_out}
-use Rattle.world_model.specs.Sends.{Next, Wanted, after_open, wanted, opened, first_send, wanted_or_first, next_send}
+use Rattle.world_model.specs.Sends.{Next, Wanted, after_open, first_wanted, opened_place, first_send, wanted_or_first, next_send}
 use Rattle.world_model.specs.Sends.{bytes_to_send}
-use Rattle.world_model.specs.Board.{Board, executed, replies}
+use Rattle.world_model.specs.Board.{Board, bodies_executed, replies}
 use Rattle.world_model.specs.Air.{LIFETIME}
 use Rattle.world_model.specs.World.{World, sent_into, told_in, with_hub}
 use Rattle.world_model.specs.Facts.{IsExecuted, IsDatagram, IsSaidToBoard, IsControlOf, IsReplyOf}
@@ -103,7 +103,7 @@ wanted_later first o os (Some w) is = record {
   wish = wish_later first o.place (places os) w.send is.wish;
 }
 
-pub wanted_is : (first : ℕ) (os : List OpenPlace) → IsWantedOr first os (wanted first os)
+pub wanted_is : (first : ℕ) (os : List OpenPlace) → IsWantedOr first os (first_wanted first os)
 wanted_is first [] = tt
 wanted_is first (o ∷ os) = either (IsWantedOr first (o ∷ os)) o.resend _ _
     (λ _. record {
@@ -153,7 +153,7 @@ all_timed_out P from rounds sent (o ∷ os) fates late one rising all =
     (λ _. all))
 
 pub all_unsent : (P : ℕ × Fate → Type 0) (queue : List Offered) → ((tag : ℕ) → P (tag, Unsent))
-    → AllByRecursion P (map unsent queue)
+    → AllByRecursion P (map unsent_fate queue)
 all_unsent P [] is = tt
 all_unsent P (o ∷ os) is = (is o.tag, all_unsent P os is)
 
@@ -215,13 +215,13 @@ module _ (below : Below) where
   quiet_holds w is = either (λ (h : Hub). IsSound (with_hub w h)) (nat_lt w.hub.status_requests w.hub.rounds)
       (want_status w.hub) (give_up w.hub)
       (λ _. same_places _ _ _ _ _ _ _ _ _ _ _ _ _ refl is.queued_bodies is.waiting_fates is)
-      (λ _. same_places _ _ _ _ _ _ _ _ _ _ _ _ _ (places_map abandoned w.hub.open_places (λ _. refl)) tt
+      (λ _. same_places _ _ _ _ _ _ _ _ _ _ _ _ _ (places_map abandoned_place w.hub.open_places (λ _. refl)) tt
       (AllByRecursion-append _ _ _ (all_timed_out (IsRightFate w.hub.sent (replies w.board))
       (least (places w.hub.open_places) (length w.hub.sent + 1)) w.hub.rounds w.hub.sent w.hub.open_places
       w.hub.fates (tagged w.hub.sent) is.hub.from_one is.hub.rising is.waiting_fates)
       (all_unsent (IsRightFate w.hub.sent (replies w.board)) w.hub.queue (λ _. tt))) is)
 
-  recovered_holds : (w : World) (e : Option ℕ) → IsSound w → IsSound (with_hub w (recovered w.hub e))
+  recovered_holds : (w : World) (e : Option ℕ) → IsSound w → IsSound (with_hub w (after_recovery w.hub e))
   recovered_holds w None is = is
   recovered_holds w (Some e) is = same_places _ _ _ _ _ _ _ _ _ _ _ _ _
       (places_map (recover e) w.hub.open_places (recover_place e)) is.queued_bodies is.waiting_fates is
@@ -246,7 +246,7 @@ module _ (below : Below) where
       let sent = length w.hub.sent in
       let from = has_from o.place (least ps (sent + 1)) (sent + 1) ps is.hub.rising found.there in
       let under = has_below o.place (least ps (sent + 1)) (sent + 1) ps is.hub.rising found.there in
-      let front : length (executed w.board) ≤ sent = omega (arith, front_length (executed w.board) all is.log.front) in
+      let front : length (bodies_executed w.board) ≤ sent = omega (arith, front_length (bodies_executed w.board) all is.log.front) in
       let same : o.place ≡ said.place =
       one_place w.hub.first o.place said.place is.node.identifier (omega (arith, is.hub.from_one)) one
       (omega (arith, said.recent)) (omega (arith, is.hub.within, is.hub.few)) (found.named ∙ said.identifier) in
@@ -259,7 +259,7 @@ module _ (below : Below) where
         hub = rw gone (window_less _ _ o.place ps is.hub);
         sent_bodies = is.sent_bodies;
         queued_bodies = is.queued_bodies;
-        log = rw gone (executed_less all (executed w.board) ps o.place is.log (omega arith));
+        log = rw gone (executed_less all (bodies_executed w.board) ps o.place is.log (omega arith));
         node = is.node;
         said = is.said;
         waiting_fates = either (AreRight w.hub.sent (replies w.board)) o.waited _ _
@@ -316,7 +316,7 @@ module _ (below : Below) where
       } in
       subst (λ (words : List ℕ). IsSaidToBoard first (bodies_of sent) birth
       (to_board (packet_bytes (control_packet Big id words)))) (sym body)
-      (subst (IsSaidToBoard first (bodies_of sent) birth) (sym (control_read below Big id o.body fits can)) said)
+      (subst (IsSaidToBoard first (bodies_of sent) birth) (sym (control_read below.packets.back Big id o.body fits can)) said)
 
   -- what can be sent at a place
   pub sendable_at : (sent : List Offered) (place : ℕ) (o : Offered) → AreSendable sent → at_place sent place ≡ Some o
@@ -327,9 +327,9 @@ module _ (below : Below) where
   wish_said : (w : World) (s : Sending) → IsSound w → IsWish w.hub.first (places w.hub.open_places) s
       → IsSaidToBoard w.hub.first (bodies_of w.hub.sent) (length w.hub.sent) (to_board (bytes_to_send w.hub s))
   wish_said w sends.Status is wish = subst (IsSaidToBoard w.hub.first (bodies_of w.hub.sent) (length w.hub.sent))
-      (sym (request_read below)) tt
+      (sym (request_read below.packets.back)) tt
   wish_said w (sends.Resend id) is wish = subst (IsSaidToBoard w.hub.first (bodies_of w.hub.sent) (length w.hub.sent))
-      (sym (resend_read below id (named_fits w.hub.first (places w.hub.open_places) id wish))) tt
+      (sym (resend_read below.packets.back id (named_fits w.hub.first (places w.hub.open_places) id wish))) tt
   wish_said w (sends.Control place id) is wish =
       let ps = places w.hub.open_places in
       let sent = length w.hub.sent in
@@ -343,7 +343,7 @@ module _ (below : Below) where
   first_holds : (w : World) (o : Offered) (later : List Offered) → IsSound w → IsSendable o.body → AreSendable later
       → length w.hub.sent + 1 + 1 ≤ w.hub.window + least (places w.hub.open_places) (length w.hub.sent + 1)
       → Holds w.hub.first w.hub.window (w.hub.sent ++ o ∷ []) later
-      (places (w.hub.open_places ++ opened (length w.hub.sent + 1) ∷ [])) (to_hand_out w.hub) w.board
+      (places (w.hub.open_places ++ opened_place (length w.hub.sent + 1) ∷ [])) (to_hand_out w.hub) w.board
       (w.air ++ record {
         direction = goes.ToBoard;
         bytes =
@@ -358,7 +358,7 @@ module _ (below : Below) where
       let len = length-map w.hub.sent offered_body in
       let more = map-append offered_body w.hub.sent (o ∷ []) in
       let longer = length-append w.hub.sent (o ∷ []) in
-      let pushed = map-append place_of w.hub.open_places (opened (sent + 1) ∷ []) in
+      let pushed = map-append place_of w.hub.open_places (opened_place (sent + 1) ∷ []) in
       let here = at_seam w.hub.sent [] o in
       let grown : AllByRecursion (IsDatagram w.hub.first (all ++ o.body ∷ []) (replies w.board)) w.air =
       subst (λ (rs : List (List ℕ)). AllByRecursion (IsDatagram w.hub.first (all ++ o.body ∷ []) rs) w.air)
@@ -372,8 +372,8 @@ module _ (below : Below) where
         hub = rw (pushed, longer) (window_push _ sent ps is.hub (omega arith));
         sent_bodies = AllByRecursion-append _ w.hub.sent (o ∷ []) is.sent_bodies (can, tt);
         queued_bodies = rest;
-        log = rw (pushed, more) (subst (λ (n : ℕ). IsExecuted (all ++ o.body ∷ []) (executed w.board)
-            (ps ++ (n + 1) ∷ [])) len (executed_push all (executed w.board) ps o.body is.log));
+        log = rw (pushed, more) (subst (λ (n : ℕ). IsExecuted (all ++ o.body ∷ []) (bodies_executed w.board)
+            (ps ++ (n + 1) ∷ [])) len (executed_push all (bodies_executed w.board) ps o.body is.log));
         node = is.node;
         said = joined _ _ _ w.air _ (rw more grown) (record {
           born = omega (arith, length-map (w.hub.sent ++ o ∷ []) offered_body);
@@ -429,4 +429,4 @@ module _ (below : Below) where
         waiting_lates = is.waiting_lates;
         told_lates = is.told_lates;
       })
-      (λ _. wanted_holds w (wanted w.hub.first w.hub.open_places) is (wanted_is w.hub.first w.hub.open_places))
+      (λ _. wanted_holds w (first_wanted w.hub.first w.hub.open_places) is (wanted_is w.hub.first w.hub.open_places))

@@ -15,14 +15,14 @@ use Rattle.world_model.specs.declared.moves.WorldMove.TheVariants.{Offer, Quiet,
 use Rattle.world_model.specs.declared.moves.WorldEnd.{WorldEnd}
 use Rattle.world_model.specs.Messages.{ToBoard, StatusRequest, ResendRequest, ControlPacket, ToHub, StatusReply, Reply}
 use Rattle.world_model.specs.Messages.{to_board, to_hub}
-use Rattle.world_model.specs.Board.{Board, Hearing, expected, held, with_id, is_too_long, send_again, hear_message}
+use Rattle.world_model.specs.Board.{Board, Hearing, expected_identifier, held_replies, with_id, is_too_long, send_again, hear_message}
 use Rattle.world_model.specs.Board.{hear}
 use Rattle.world_model.specs.declared.offered.OpenPlace.{OpenPlace}
-use Rattle.world_model.specs.Hub.{Hub, low, offer, open_with, settle, recovered, told_place, take_message}
+use Rattle.world_model.specs.Hub.{Hub, low, offer, open_with, settle, after_recovery, told_place, take_message}
 use Rattle.world_model.specs.Hub.{want_status, give_up, hear_quiet, is_waiting}
-use Rattle.world_model.specs.Sends.{Next, Wanted, wanted, first_send, wanted_or_first, next_send, pending}
-use Rattle.world_model.specs.World.{World, sent_into, flush_on, flush, handed_out, with_hub, go_on, taken, hub_hears}
-use Rattle.world_model.specs.World.{answered, board_hears, when_taken, step, moves_on, run_moves}
+use Rattle.world_model.specs.Sends.{Next, Wanted, first_wanted, first_send, wanted_or_first, next_send, pending}
+use Rattle.world_model.specs.World.{World, sent_into, flush_on, flush, handed_out, with_hub, go_on, taken_datagram, hub_hears}
+use Rattle.world_model.specs.World.{air_after_answer, board_hears, when_taken, step, moves_on, run_moves}
 use Rattle.world_model.proofs.Lists.{either}
 
 -- ---- what the hub hears leaves what was sent
@@ -31,7 +31,7 @@ settle_sent : (h : Hub) (words : List ℕ) (r : Option OpenPlace) → (settle h 
 settle_sent h words None = refl
 settle_sent h words (Some o) = refl
 
-recovered_sent : (h : Hub) (r : Option ℕ) → (recovered h r).sent ≡ h.sent
+recovered_sent : (h : Hub) (r : Option ℕ) → (after_recovery h r).sent ≡ h.sent
 recovered_sent h None = refl
 recovered_sent h (Some e) = refl
 
@@ -99,7 +99,7 @@ wanted_more h (Some w) = prefix_same h.sent h.sent refl
 
 send_more : (h : Hub) → SendsMore h (next_send h)
 send_more h = either (SendsMore h) h.status_wanted _ _ (λ _. prefix_same h.sent h.sent refl)
-    (λ _. wanted_more h (wanted h.first h.open_places))
+    (λ _. wanted_more h (first_wanted h.first h.open_places))
 
 flush_by : (later : Next → World) (w : World) (r : Option Next) → SendsMore w.hub r
     → ((n : Next) → Grew (sent_into w n) (later n)) → Grew w (flush_on r later w)
@@ -152,7 +152,7 @@ LogsMore b h = IsPrefix {T = LogEntry} b.log h.board.log
 pub message_logs : (b : Board) (m : Option ToBoard) → LogsMore b (hear_message b m)
 message_logs b None = prefix_same b.log b.log refl
 message_logs b (Some StatusRequest) = prefix_same b.log b.log refl
-message_logs b (Some (ResendRequest id)) = elim (with_id id (held b)) as (λ r. LogsMore b (send_again b r))
+message_logs b (Some (ResendRequest id)) = elim (with_id id (held_replies b)) as (λ r. LogsMore b (send_again b r))
     [ None ↦ prefix_same b.log b.log refl | Some packet ↦ prefix_same b.log b.log refl ]
 message_logs b (Some (ControlPacket order id body)) =
     either (LogsMore b) (is_too_long b body) _ _ (λ _. prefix_same b.log b.log refl)
@@ -160,14 +160,14 @@ message_logs b (Some (ControlPacket order id body)) =
       record { numbered = false; order = order; body = body } ∷ [],
       refl,
     ))
-    (λ _. either (LogsMore b) (id == expected b) _ _ (λ _.
+    (λ _. either (LogsMore b) (id == expected_identifier b) _ _ (λ _.
     (record { numbered = true; order = order; body = body } ∷ [], refl)) (λ _. prefix_same b.log b.log refl)))
 
 board_grew : (w : World) (bytes : List ℕ) → Grew w (board_hears w bytes)
 board_grew w bytes = record {
   sent = prefix_same w.hub.sent w.hub.sent refl;
   log = message_logs w.board (to_board bytes);
-  air = (answered (length w.hub.sent) (hear w.board bytes).answer, refl);
+  air = (air_after_answer (length w.hub.sent) (hear w.board bytes).answer, refl);
   fates = prefix_same w.fates w.fates refl;
   lates = prefix_same w.lates w.lates refl;
 }
@@ -183,9 +183,9 @@ pub step_grew : (at : ℕ) (w : World) (m : WorldMove) → IfOk (step at w m) (G
 step_grew at w (Offer tag body) = go_on_grew w (offer w.hub (record { tag = tag; body = body })) refl
 step_grew at w Quiet = either (λ (r : Result World WorldEnd). IfOk r (Grew w)) (is_waiting w.hub) _ _
     (λ _. go_on_grew w (hear_quiet w.hub) (quiet_sent w.hub)) (λ _. tt)
-step_grew at w (HubHears i) = when_grew w (taken at (length w.hub.sent) goes.ToHub (slice_get w.air i)) (hub_hears w)
+step_grew at w (HubHears i) = when_grew w (taken_datagram at (length w.hub.sent) goes.ToHub (slice_get w.air i)) (hub_hears w)
     (λ bytes. go_on_grew w (take_message w.hub (to_hub bytes)) (message_sent w.hub (to_hub bytes)))
-step_grew at w (BoardHears i) = when_grew w (taken at (length w.hub.sent) goes.ToBoard (slice_get w.air i))
+step_grew at w (BoardHears i) = when_grew w (taken_datagram at (length w.hub.sent) goes.ToBoard (slice_get w.air i))
     (board_hears w) (board_grew w)
 
 grew_on : (w v : World) (r : Result World WorldEnd) → Grew w v → IfOk r (Grew v) → IfOk r (Grew w)

@@ -20,12 +20,12 @@ use Rattle.world_model.specs.declared.moves.WorldEnd.{WorldEnd}
 use Rattle.world_model.specs.Messages.{ToHub, to_hub}
 use Rattle.world_model.specs.Board.{Board}
 use Rattle.world_model.specs.Hub.{Hub, HandedOut, want_control, offer, goes_before, insert_fate, insert_late, tag_of}
-use Rattle.world_model.specs.Hub.{open_with, without, settle, recover, take_message, abandoned, time_out, unsent}
+use Rattle.world_model.specs.Hub.{open_with, without, settle, recover, take_message, abandoned_place, time_out, unsent_fate}
 use Rattle.world_model.specs.Hub.{give_up}
-use Rattle.world_model.specs.Hub.{and_then, to_hand_out, want_status, hear_quiet, hands_out, drained, none_handed_out}
+use Rattle.world_model.specs.Hub.{and_then, to_hand_out, want_status, hear_quiet, hands_out, after_handing_out, none_handed_out}
 use Rattle.world_model.specs.Hub.{new_hub, place_of}
 use Rattle.world_model.specs.Hub.{places}
-use Rattle.world_model.specs.Sends.{Next, Wanted, after_open, wanted, opened, next_send, pending}
+use Rattle.world_model.specs.Sends.{Next, Wanted, after_open, first_wanted, opened_place, next_send, pending}
 use Rattle.world_model.specs.World.{World, flush, go_on, start, step, told_in, with_hub}
 use Rattle.world_model.specs.Facts.{has}
 use Rattle.world_model.specs.History.{IsRun, times}
@@ -259,7 +259,7 @@ all_timed_out rounds sent told (o ∷ os) fs are =
     )
 
 abandoned_all : (rounds : ℕ) (fs : List (ℕ × Fate)) (os : List OpenPlace) → AreTimedOut rounds fs os
-    → AreWaited rounds fs (map abandoned os)
+    → AreWaited rounds fs (map abandoned_place os)
 abandoned_all rounds fs [] are = tt
 abandoned_all rounds fs (o ∷ os) are = ((λ _. are.0), abandoned_all rounds fs os are.1)
 
@@ -273,7 +273,7 @@ time_out_replies place rounds sent (o ∷ os) fs =
     ∙ either (λ (gs : List (ℕ × Fate)). replied_times place gs ≡ replied_times place fs) o.waited _ _
     (λ _. omega (arith, count_inserted (replied_times place) (replied_count place) o.place new fs)) (λ _. refl)
 
-unsent_replies : (place : ℕ) (queue : List Offered) → replied_times place (map unsent queue) ≡ 0
+unsent_replies : (place : ℕ) (queue : List Offered) → replied_times place (map unsent_fate queue) ≡ 0
 unsent_replies place [] = refl
 unsent_replies place (o ∷ os) = unsent_replies place os
 
@@ -284,14 +284,14 @@ give_up_place before h place n is =
     let F = replied_times place in
     let count = replied_count place in
     let outs = time_out h.rounds h.sent h.open_places h.fates in
-    let open_same = ap (times place) (places_map abandoned h.open_places (λ _. refl)) in
+    let open_same = ap (times place) (places_map abandoned_place h.open_places (λ _. refl)) in
     omega (
       arith,
       is,
       open_same,
       count_append F count before.fates h.fates,
-      count_append F count before.fates (outs ++ map unsent h.queue),
-      count_append F count outs (map unsent h.queue),
+      count_append F count before.fates (outs ++ map unsent_fate h.queue),
+      count_append F count outs (map unsent_fate h.queue),
       time_out_replies place h.rounds h.sent h.open_places h.fates,
       unsent_replies place h.queue,
     )
@@ -300,8 +300,8 @@ give_up_keeps_late : (before : HandedOut) (h : Hub) → AreOfTimedOut before h �
 give_up_keeps_late before h is =
     let told = before.fates in
     let outs = time_out h.rounds h.sent h.open_places h.fates in
-    let all = outs ++ map unsent h.queue in
-    let keeps : Keeps h.rounds outs all = in_front h.rounds outs (map unsent h.queue) in
+    let all = outs ++ map unsent_fate h.queue in
+    let keeps : Keeps h.rounds outs all = in_front h.rounds outs (map unsent_fate h.queue) in
     kept before (give_up h) (record {
       waited = more_waited h.rounds (told ++ outs) (told ++ all) _ (behind h.rounds told outs all keeps)
           (abandoned_all h.rounds (told ++ outs) h.open_places
@@ -432,7 +432,7 @@ message_keeps_late before h m is = message_cases (AreOfTimedOut before) h m is
 -- ---- sends
 
 wanted_waited : (rounds first : ℕ) (fs : List (ℕ × Fate)) (os : List OpenPlace) → AreWaited rounds fs os
-    → IfSome (wanted first os) (λ (w : Wanted). AreWaited rounds fs w.open_places)
+    → IfSome (first_wanted first os) (λ (w : Wanted). AreWaited rounds fs w.open_places)
 wanted_waited rounds first fs [] are = tt
 wanted_waited rounds first fs (o ∷ os) are =
     let P : Option Wanted → Type 0 = λ r. IfSome r (λ (w : Wanted). AreWaited rounds fs w.open_places) in
@@ -442,10 +442,10 @@ wanted_waited rounds first fs (o ∷ os) are =
       | Some w ↦ λ is. (are.0, is)
     ] in
     either P o.resend _ _ (λ _. (are.0, are.1)) (λ _. either P o.control _ _ (λ _. (are.0, are.1))
-    (λ _. later (wanted first os) (wanted_waited rounds first fs os are.1)))
+    (λ _. later (first_wanted first os) (wanted_waited rounds first fs os are.1)))
 
 wanted_is_waited : (rounds first : ℕ) (fs : List (ℕ × Fate)) (os : List OpenPlace) (w : Wanted)
-    → wanted first os ≡ Some w → AreWaited rounds fs os → AreWaited rounds fs w.open_places
+    → first_wanted first os ≡ Some w → AreWaited rounds fs os → AreWaited rounds fs w.open_places
 wanted_is_waited rounds first fs os w e are = subst
     (λ (r : Option Wanted). IfSome r (λ (x : Wanted). AreWaited rounds fs x.open_places)) e
     (wanted_waited rounds first fs os are)
@@ -457,9 +457,9 @@ one_more_sent sent place = grind (arith, nat_tests)
 
 first_place : (told : HandedOut) (os : List OpenPlace) (sent place n : ℕ)
     → standings told (places os) place ≡ n
-    → standings told (places (os ++ opened (sent + 1) ∷ [])) place ≡ n + times place ((sent + 1) ∷ [])
+    → standings told (places (os ++ opened_place (sent + 1) ∷ [])) place ≡ n + times place ((sent + 1) ∷ [])
 first_place told os sent place n is =
-    let push = ap (times place) (map-append place_of os (opened (sent + 1) ∷ []))
+    let push = ap (times place) (map-append place_of os (opened_place (sent + 1) ∷ []))
     ∙ times-append place (places os) ((sent + 1) ∷ []) in
     omega (arith, is, push)
 
@@ -480,7 +480,7 @@ sends_keeps_late before h is = send_cases (λ (n : Next). AreOfTimedOut before n
     (λ o later e room. kept before (record h {
       sent = h.sent ++ o ∷ [];
       queue = later;
-      open_places = h.open_places ++ opened (length h.sent + 1) ∷ [];
+      open_places = h.open_places ++ opened_place (length h.sent + 1) ∷ [];
     }) (record {
       waited = AllByRecursion-append _ h.open_places _ is.waited ((λ not. absurd (cc)), tt);
       timed_out = is.timed_out;
@@ -513,7 +513,7 @@ handed_keeps_late before front rest h f l is =
     })
 
 pub all_handed_keep_late : (before : HandedOut) (h : Hub) → AreOfTimedOut before h
-    → AreOfTimedOut (hands_out before h) (drained h)
+    → AreOfTimedOut (hands_out before h) (after_handing_out h)
 all_handed_keep_late before h = handed_keeps_late before (to_hand_out h) none_handed_out h (append-nil h.fates)
     (append-nil h.lates)
 

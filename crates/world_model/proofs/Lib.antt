@@ -1,6 +1,6 @@
 pub mod Lists
 pub mod Places
-mod Readings
+pub mod Readings
 mod Replies
 mod Boards
 pub mod Hubs

@@ -20,13 +20,13 @@ use Rattle.world_model.specs.declared.sending.Sending.TheVariants as sends
 use Rattle.world_model.specs.Places.{at_place}
 use Rattle.world_model.specs.Messages.{ToBoard, StatusRequest, ResendRequest, ControlPacket}
 use Rattle.world_model.specs.Messages.{to_board, to_hub}
-use Rattle.world_model.specs.Board.{Board, Hearing, expected, held, with_id, is_too_long, send_again}
+use Rattle.world_model.specs.Board.{Board, Hearing, expected_identifier, held_replies, with_id, is_too_long, send_again}
 use Rattle.world_model.specs.Board.{hear_message, hear, replies}
 use Rattle.world_model.specs.Hub.{Hub, low, words_of, offer}
 use Rattle.world_model.specs.Hub.{none_handed_out, to_hand_out, take_message, hear_quiet, new_hub, places, least}
-use Rattle.world_model.specs.Sends.{Next, Wanted, wanted, first_send, wanted_or_first, next_send, bytes_to_send}
+use Rattle.world_model.specs.Sends.{Next, Wanted, first_wanted, first_send, wanted_or_first, next_send, bytes_to_send}
 use Rattle.world_model.specs.Air.{is_alive, goes_to}
-use Rattle.world_model.specs.World.{World, answered}
+use Rattle.world_model.specs.World.{World, air_after_answer}
 use Rattle.world_model.specs.Facts.{IsSound, Holds, IsSendable, AreSendable, IsStart, IsSaid, IsGreeting, IsGreetingOf}
 use Rattle.world_model.specs.Facts.{AreLateReplies, AreRight, bodies_of, has}
 use Rattle.world_model.specs.Links.{Told, IsHeard, IsHanded, is_first_message, is_first_send}
@@ -74,9 +74,9 @@ module _ (below : Below) where
 
   wish_counted : (w : World) (s : Sending) → IsSound w → IsWish w.hub.first (places w.hub.open_places) s
       → is_first_send w.hub.first (length w.hub.sent) goes.ToBoard (bytes_to_send w.hub s) ≡ false
-  wish_counted w sends.Status is wish = ap (is_first_message w.hub.first (length w.hub.sent)) (request_read below)
+  wish_counted w sends.Status is wish = ap (is_first_message w.hub.first (length w.hub.sent)) (request_read below.packets.back)
   wish_counted w (sends.Resend id) is wish = ap (is_first_message w.hub.first (length w.hub.sent))
-      (resend_read below id (named_fits w.hub.first (places w.hub.open_places) id wish))
+      (resend_read below.packets.back id (named_fits w.hub.first (places w.hub.open_places) id wish))
   wish_counted w (sends.Control place id) is wish =
       let ps = places w.hub.open_places in
       let sent = length w.hub.sent in
@@ -86,7 +86,7 @@ module _ (below : Below) where
       let can : IsSendable (words_of (at_place w.hub.sent place)) =
       subst IsSendable (sym (ap words_of x.1)) (sendable_at below w.hub.sent place x.0 is.sent_bodies x.1) in
       ap (is_first_message w.hub.first (length w.hub.sent))
-      (control_read below Big id (words_of (at_place w.hub.sent place))
+      (control_read below.packets.back Big id (words_of (at_place w.hub.sent place))
       (omega (arith, wish.1, id_fits w.hub.first place)) can)
       ∙ (ap (λ (k : ℕ). k == identifier_at w.hub.first (length w.hub.sent + 1)) wish.1 ∙ not_first w place is wish.0)
 
@@ -105,7 +105,7 @@ module _ (below : Below) where
       let can : IsSendable (words_of (at_place (w.hub.sent ++ o ∷ []) (length w.hub.sent + 1))) =
       subst IsSendable (sym here) all.0 in
       let read = ap (is_first_message w.hub.first (length w.hub.sent))
-      (control_read below Big id _ (id_fits w.hub.first (length w.hub.sent + 1)) can) in
+      (control_read below.packets.back Big id _ (id_fits w.hub.first (length w.hub.sent + 1)) can) in
       rw (read, eq-eqb id id refl) (sym (length_push w.hub.sent o)))
       (λ _. tt)
 
@@ -127,12 +127,12 @@ module _ (below : Below) where
   send_counted w is = either (IsCounted w) w.hub.status_wanted _ _
       (λ _. not_counted w (record { send = sends.Status; hub = record w.hub { status_wanted = false } })
       (wish_counted w sends.Status is tt) refl)
-      (λ _. wanted_counted w (wanted w.hub.first w.hub.open_places) is (wanted_is w.hub.first w.hub.open_places))
+      (λ _. wanted_counted w (first_wanted w.hub.first w.hub.open_places) is (wanted_is w.hub.first w.hub.open_places))
 
   -- ---- a receive: the board hears some datagrams
 
   answer_counts : (first count : ℕ) (air : List Datagram) (birth : ℕ) (r : Option (List ℕ))
-      → first_sends_from first count (air ++ answered birth r) ≡ first_sends_from first count air
+      → first_sends_from first count (air ++ air_after_answer birth r) ≡ first_sends_from first count air
   answer_counts first count air birth None = ap (first_sends_from first count) (append-nil air)
   answer_counts first count air birth (Some bytes) = count_more first count air
       (record { direction = goes.ToHub; bytes = bytes; birth = birth })
@@ -143,12 +143,12 @@ module _ (below : Below) where
   message_first : (b : Board) (m : Option ToBoard) → KeepsFirst b.first (hear_message b m)
   message_first b None = refl
   message_first b (Some StatusRequest) = refl
-  message_first b (Some (ResendRequest id)) = elim (with_id id (held b)) as (λ r. KeepsFirst b.first (send_again b r))
+  message_first b (Some (ResendRequest id)) = elim (with_id id (held_replies b)) as (λ r. KeepsFirst b.first (send_again b r))
       [ None ↦ refl | Some packet ↦ refl ]
   message_first b (Some (ControlPacket order id body)) =
       either (KeepsFirst b.first) (is_too_long b body) _ _ (λ _. refl)
       (λ _. either (KeepsFirst b.first) (id == 0) _ _ (λ _. refl)
-      (λ _. either (KeepsFirst b.first) (id == expected b) _ _ (λ _. refl) (λ _. refl)))
+      (λ _. either (KeepsFirst b.first) (id == expected_identifier b) _ _ (λ _. refl) (λ _. refl)))
 
   pub hear_first : (b : Board) (bytes : List ℕ) → (hear b bytes).board.first ≡ b.first
   hear_first b bytes = message_first b (to_board bytes)
@@ -157,9 +157,9 @@ module _ (below : Below) where
       → IsTaken below (together hub t) goes.ToBoard bytes → IsJoined hub (heard_on t bytes)
   heard_joined hub t bytes is taken = record {
     sound = subst (λ (n : ℕ). Holds hub.first hub.window hub.sent hub.queue (places hub.open_places) (to_hand_out hub)
-        (hear t.board bytes).board (t.air ++ answered n (hear t.board bytes).answer) none_handed_out) (sym is.counts)
+        (hear t.board bytes).board (t.air ++ air_after_answer n (hear t.board bytes).answer) none_handed_out) (sym is.counts)
         (board_goes_on below (together hub t) bytes is.sound taken);
-    counts = ap (λ (f : ℕ). first_sends_from f 0 (t.air ++ answered (first_sends t) (hear t.board bytes).answer))
+    counts = ap (λ (f : ℕ). first_sends_from f 0 (t.air ++ air_after_answer (first_sends t) (hear t.board bytes).answer))
         (hear_first t.board bytes)
         ∙ (answer_counts t.board.first 0 t.air (first_sends t) (hear t.board bytes).answer ∙ is.counts);
   }

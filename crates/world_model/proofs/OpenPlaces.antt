@@ -9,7 +9,7 @@ use Rattle.packet_ids.specs.Identifier.{identifier_at, IsIdentifier}
 use Rattle.world_model.specs.declared.offered.OpenPlace.{OpenPlace}
 use Rattle.world_model.specs.Messages.{ToHub}
 use Rattle.world_model.specs.Hub.{Hub, hear_reply, open_with, place_of, places, recover, settle, take_message}
-use Rattle.world_model.specs.Sends.{Next, next_send, opened}
+use Rattle.world_model.specs.Sends.{Next, next_send, opened_place}
 use Rattle.world_model.specs.Facts.{AreRising, IsWindow, has}
 use Rattle.world_model.proofs.Places.{has_below, has_from, less, one_place}
 use Rattle.world_model.proofs.Hubs.{IsWantedOr, has_first, has_later, places_map, places_without, recover_place}
@@ -153,7 +153,7 @@ opens hub = send_cases (OpensNextOrNone hub) hub
     let wants = subst (IsWantedOr hub.first hub.open_places) is (wanted_is hub.first hub.open_places) in
     ap (has place) (sym wants.same) ∙ there))
     (λ o later queue room place there. there_or_last place (length hub.sent + 1) (places hub.open_places)
-    (ap (has place) (sym (map-append place_of hub.open_places (opened (length hub.sent + 1) ∷ []))) ∙ there))
+    (ap (has place) (sym (map-append place_of hub.open_places (opened_place (length hub.sent + 1) ∷ []))) ∙ there))
 
 pub send_opens : (hub : Hub) (next : Next) → next_send hub ≡ Some next → OpensNextOrNone hub next
 send_opens hub next e = subst (λ (r : Option Next). IfSome r (OpensNextOrNone hub)) e (opens hub)

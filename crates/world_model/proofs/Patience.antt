@@ -18,8 +18,8 @@ use Rattle.world_model.specs.Places.{at_place}
 use Rattle.world_model.specs.Messages.{to_hub}
 use Rattle.world_model.specs.Board.{Board}
 use Rattle.world_model.specs.Hub.{HandedOut}
-use Rattle.world_model.specs.Hub.{Hub, offer, goes_before, insert_fate, tag_of, settle, recovered, take_message}
-use Rattle.world_model.specs.Hub.{time_out, unsent, want_status, give_up, hear_quiet, places, place_of, least}
+use Rattle.world_model.specs.Hub.{Hub, offer, goes_before, insert_fate, tag_of, settle, after_recovery, take_message}
+use Rattle.world_model.specs.Hub.{time_out, unsent_fate, want_status, give_up, hear_quiet, places, place_of, least}
 use Rattle.world_model.specs.Sends.{Next, pending}
 use Rattle.world_model.specs.World.{World, sent_into, flush, with_hub, go_on, step, run_moves, start}
 use Rattle.world_model.specs.Facts.{AreRising, IsSound}
@@ -129,7 +129,7 @@ heard_settles : (w : World) (m : WorldMove) (at number : ℕ) → m ≡ HubHears
 heard_settles w m at number is none = step_cases (IsSettledOr w) at w m
     (λ tag body e. absurd (cc)) (λ e. absurd (cc))
     (λ i bytes _. message_cases (λ (h : Hub). IsSettledOr w (go_on w h)) w.hub (to_hub bytes)
-    (inl (no_fate w w.hub none)) (λ told. inl (no_fate w (recovered w.hub (Some told)) none))
+    (inl (no_fate w w.hub none)) (λ told. inl (no_fate w (after_recovery w.hub (Some told)) none))
     (λ id words o _. inr ((after_event w (settle w.hub words (Some o))).requests)))
     (λ i bytes e. absurd (cc))
 
@@ -158,7 +158,7 @@ late_settles : (w : World) (m : WorldMove) (at number : ℕ) → m ≡ HubHears 
 late_settles w m at number is none = step_cases (IsLateOr w) at w m
     (λ tag body e. absurd (cc)) (λ e. absurd (cc))
     (λ i bytes _. message_cases (λ (h : Hub). IsLateOr w (go_on w h)) w.hub (to_hub bytes)
-    (inl (no_late w w.hub none)) (λ told. inl (no_late w (recovered w.hub (Some told)) none))
+    (inl (no_late w w.hub none)) (λ told. inl (no_late w (after_recovery w.hub (Some told)) none))
     (λ id words o _. inr ((after_event w (settle w.hub words (Some o))).requests)))
     (λ i bytes e. absurd (cc))
 
@@ -212,7 +212,7 @@ timed_out_after rounds sent (o ∷ os) fates all = timed_out_after rounds sent o
     (λ _. inserted_after rounds o.place (tag_of (at_place sent o.place), TimedOut o.place rounds) fates refl all)
     (λ _. all))
 
-unsent_after : (rounds : ℕ) (queue : List Offered) → AllByRecursion (IsAfter rounds) (map unsent queue)
+unsent_after : (rounds : ℕ) (queue : List Offered) → AllByRecursion (IsAfter rounds) (map unsent_fate queue)
 unsent_after rounds [] = tt
 unsent_after rounds (o ∷ os) = (tt, unsent_after rounds os)
 
@@ -237,7 +237,7 @@ event_after rounds w h told is =
 give_up_after : (rounds : ℕ) (h : Hub) → AreAfter rounds h → AreAfter rounds (give_up h)
 give_up_after rounds h is = record {
   same = is.same;
-  waiting = AllByRecursion-append (IsAfter rounds) (time_out h.rounds h.sent h.open_places h.fates) (map unsent h.queue)
+  waiting = AllByRecursion-append (IsAfter rounds) (time_out h.rounds h.sent h.open_places h.fates) (map unsent_fate h.queue)
       (rw (is.same) (timed_out_after rounds h.sent h.open_places h.fates is.waiting)) (unsent_after rounds h.queue);
 }
 
@@ -303,7 +303,7 @@ timed_out_few rounds sent (o ∷ os) fates =
     ))
     (λ _. omega (arith, timed_out_few rounds sent os fates))
 
-unsent_none : (queue : List Offered) → timeouts (map unsent queue) ≡ 0
+unsent_none : (queue : List Offered) → timeouts (map unsent_fate queue) ≡ 0
 unsent_none [] = refl
 unsent_none (o ∷ os) = unsent_none os
 
@@ -386,7 +386,7 @@ give_up_costs window rounds w few all =
     omega (
       arith,
       few,
-      count_append timeouts timeouts_count late (map unsent w.hub.queue),
+      count_append timeouts timeouts_count late (map unsent_fate w.hub.queue),
       unsent_none w.hub.queue,
       timed_out_few w.hub.rounds w.hub.sent w.hub.open_places w.hub.fates,
     ) in
@@ -448,7 +448,7 @@ step_costs window rounds at w m is few = step_cases (CostsFew window rounds (m �
     (λ e. rw e (quiet_costs window rounds w is few))
     (λ i bytes e. rw e (message_cases (λ (h : Hub). CostsFew window rounds [] w (go_on w h)) w.hub (to_hub bytes)
     (same_costs window rounds w w.hub refl refl) (λ told. same_costs window rounds w
-    (recovered w.hub (Some told)) refl refl) (λ id words o _. settle_costs window rounds w words o)))
+    (after_recovery w.hub (Some told)) refl refl) (λ id words o _. settle_costs window rounds w words o)))
     (λ i bytes e. omega arith)
 
 costs_then : (window rounds : ℕ) (m : WorldMove) (ms : List WorldMove) (a b c : World)

@@ -14,16 +14,16 @@ use Rattle.status_packet.specs.Packets.{status_request, status_reply, resend_req
 use Rattle.world_model.specs.Messages.{StatusRequest, ResendRequest, ControlPacket, StatusReply, Reply}
 use Rattle.world_model.specs.Messages.{control_packet, packet_to_board, packet_to_hub, to_board, to_hub, status_with}
 use Rattle.world_model.specs.Facts.{IsSendable}
-use Rattle.world_model.specs.Below.{Below}
+use Rattle.world_model.specs.Below.{ReadsBack}
 
-module _ (below : Below) where
+module _ (back : ReadsBack) where
   pub board_reads : (p : Packet) → IsPacket p → to_board (packet_bytes p) ≡ packet_to_board (Ok p)
   unfolding to_board
-  board_reads p is = ap packet_to_board (below.packets.again p is)
+  board_reads p is = ap packet_to_board (back.packet p is)
 
   pub hub_reads : (p : Packet) → IsPacket p → to_hub (packet_bytes p) ≡ packet_to_hub (Ok p)
   unfolding to_hub
-  hub_reads p is = ap packet_to_hub (below.packets.again p is)
+  hub_reads p is = ap packet_to_hub (back.packet p is)
 
   -- a body that can be sent makes a control packet in either order
   pub is_control_packet : (order : Order) (id : ℕ) (body : List ℕ) → id < 2 ^ 16 → IsSendable body
@@ -59,7 +59,7 @@ module _ (below : Below) where
       → status_with mtu buffers (header_of (packet_header next 0)) ≡ Some (StatusReply mtu buffers next)
   status_is mtu buffers next mtu_is buffers_is next_is =
       rw (
-        below.packets.header next 0 (omega (arith, next_is.up_to_end)) (omega arith),
+        back.header next 0 (omega (arith, next_is.up_to_end)) (omega arith),
         le-leb _ _ mtu_is.0,
         le-leb _ _ mtu_is.1,
         le-leb _ _ buffers_is.0,

@@ -20,10 +20,10 @@ use Rattle.world_model.specs.declared.moves.WorldEnd.TheVariants.{NotThere, TooO
 use Rattle.world_model.specs.Messages.{to_hub}
 use Rattle.world_model.specs.Hub.{HandedOut, and_then, none_handed_out, to_hand_out}
 use Rattle.world_model.specs.Hub.{Hub, IsDrained, low, want_control, offer, take_message, hear_quiet, is_waiting}
-use Rattle.world_model.specs.Sends.{Next, Wanted, after_open, wanted, opened, first_send, wanted_or_first, next_send}
+use Rattle.world_model.specs.Sends.{Next, Wanted, after_open, first_wanted, opened_place, first_send, wanted_or_first, next_send}
 use Rattle.world_model.specs.Sends.{pending, wishes, bytes_to_send}
 use Rattle.world_model.specs.Air.{is_alive, goes_to}
-use Rattle.world_model.specs.World.{World, sent_into, flush_on, flush, handed_out, with_hub, go_on, taken, hub_hears}
+use Rattle.world_model.specs.World.{World, sent_into, flush_on, flush, handed_out, with_hub, go_on, taken_datagram, hub_hears}
 use Rattle.world_model.specs.World.{told_in, with_told, board_hears, when_taken, step, moves_on, run_moves}
 use Rattle.world_model.specs.Facts.{IsSendable}
 use Rattle.world_model.specs.History.{IsMove}
@@ -61,7 +61,7 @@ first_alike h o (x ∷ later) =
       hub = record h {
         sent = h.sent ++ x ∷ [];
         queue = later;
-        open_places = h.open_places ++ opened (length h.sent + 1) ∷ [];
+        open_places = h.open_places ++ opened_place (length h.sent + 1) ∷ [];
       };
     } in
     elim (nat_le (length h.sent + 1 + 1) (h.window + low h))
@@ -80,11 +80,11 @@ send_alike : (h : Hub) (o : Offered) → QueuedAlike h o (next_send h) (next_sen
 send_alike h o =
     let next : Next = record { send = sends.Status; hub = record h { status_wanted = false } } in
     elim h.status_wanted as (λ b. QueuedAlike h o (cond b (Some next)
-    (wanted_or_first h (wanted h.first h.open_places)))
+    (wanted_or_first h (first_wanted h.first h.open_places)))
     (cond b (Some (record { send = next.send; hub = queued next.hub o }))
-    (wanted_or_first (queued h o) (wanted h.first h.open_places)))) [
+    (wanted_or_first (queued h o) (first_wanted h.first h.open_places)))) [
       | true ↦ refl
-      | false ↦ or_alike h o (wanted h.first h.open_places)
+      | false ↦ or_alike h o (first_wanted h.first h.open_places)
     ]
 
 abbrev pub all_sent : World → World
@@ -201,7 +201,7 @@ same_way at to sent true d hears new e = same_alive at to (is_alive sent d) d.by
 same_way at to sent false d hears new e = absurd (cc)
 
 same_taken : (at to sent : ℕ) (hearer : Direction) (r : Option Datagram) (hears : List ℕ → World) (new : World)
-    → when_taken (taken at sent hearer r) hears ≡ Ok new → when_taken (taken to sent hearer r) hears ≡ Ok new
+    → when_taken (taken_datagram at sent hearer r) hears ≡ Ok new → when_taken (taken_datagram to sent hearer r) hears ≡ Ok new
 same_taken at to sent hearer None hears new e = absurd (cc)
 same_taken at to sent hearer (Some d) hears new e = same_way at to sent (goes_to hearer d.direction) d hears new e
 
@@ -318,7 +318,7 @@ no_wish_later : (o : OpenPlace) (os : List OpenPlace) (r : Option Wanted) → o.
 no_wish_later o os None a b f = rw (a, b) (omega arith)
 no_wish_later o os (Some w) a b f = tt
 
-no_wish : (first : ℕ) (os : List OpenPlace) → NoWish os (wanted first os)
+no_wish : (first : ℕ) (os : List OpenPlace) → NoWish os (first_wanted first os)
 no_wish first [] = refl
 no_wish first (o ∷ os) = either (NoWish (o ∷ os)) o.resend _ _ (λ _. tt)
     (λ a. either (NoWish (o ∷ os)) o.control _ _ (λ _. tt) (λ b. no_wish_later o os _ a b (no_wish first os)))
@@ -328,10 +328,10 @@ none_by_wish : (h : Hub) (r : Option Wanted) → wanted_or_first h r ≡ None �
 none_by_wish h None e f = f
 none_by_wish h (Some w) e f = absurd (cc)
 
-none_by_status : (h : Hub) (b : Bool) (n : Next) → cond b (Some n) (wanted_or_first h (wanted h.first h.open_places))
+none_by_status : (h : Hub) (b : Bool) (n : Next) → cond b (Some n) (wanted_or_first h (first_wanted h.first h.open_places))
     ≡ None → length h.queue ≡ 0 → cond b 1 0 + wishes h.open_places + length h.queue ≡ 0
 none_by_status h true n e few = absurd (cc)
-none_by_status h false n e few = let none = none_by_wish h (wanted h.first h.open_places) e
+none_by_status h false n e few = let none = none_by_wish h (first_wanted h.first h.open_places) e
     (no_wish h.first h.open_places) in omega arith
 
 none_pending : (h : Hub) → next_send h ≡ None → length h.queue ≡ 0 → pending h ≡ 0

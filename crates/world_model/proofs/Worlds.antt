@@ -15,12 +15,12 @@ use Rattle.world_model.specs.declared.moves.WorldMove.{WorldMove}
 use Rattle.world_model.specs.declared.moves.WorldMove.TheVariants.{Offer, Quiet, HubHears, BoardHears}
 use Rattle.world_model.specs.declared.moves.WorldEnd.{WorldEnd}
 use Rattle.world_model.specs.Messages.{ToHub, StatusReply, Reply, to_hub}
-use Rattle.world_model.specs.Board.{Board, executed, replies, hear}
+use Rattle.world_model.specs.Board.{Board, bodies_executed, replies, hear}
 use Rattle.world_model.specs.Hub.{Hub, take_message, is_waiting, places}
 use Rattle.world_model.specs.Sends.{Next, next_send, pending}
 use Rattle.world_model.specs.Air.{LIFETIME, is_alive, goes_to}
-use Rattle.world_model.specs.World.{World, sent_into, flush_on, flush, handed_out, with_hub, go_on, taken, hub_hears}
-use Rattle.world_model.specs.World.{answered, board_hears, when_taken, step, moves_on, run_moves, start}
+use Rattle.world_model.specs.World.{World, sent_into, flush_on, flush, handed_out, with_hub, go_on, taken_datagram, hub_hears}
+use Rattle.world_model.specs.World.{air_after_answer, board_hears, when_taken, step, moves_on, run_moves, start}
 use Rattle.world_model.specs.Facts.{IsDatagram, IsSaid, IsSaidToBoard, IsSaidToHub}
 use Rattle.world_model.specs.Facts.{IsToldOf, AreRight, IsSound, bodies_of, offered_body}
 use Rattle.world_model.specs.Facts.{IsSendable, IsGreetingOf, IsGreeting, IsStart}
@@ -77,7 +77,7 @@ module _ (below : Below) where
   same_way goes.ToHub goes.ToHub e = refl
 
   taken_is : (at : ℕ) (w : World) (hearer : Direction) (k : ℕ) (r : Option Datagram) → IsSound w → slice_get w.air k ≡ r
-      → IsTakenOr w hearer (taken at (length w.hub.sent) hearer r)
+      → IsTakenOr w hearer (taken_datagram at (length w.hub.sent) hearer r)
   taken_is at w hearer k None is e = tt
   taken_is at w hearer k (Some d) is e = either (IsTakenOr w hearer) (goes_to hearer d.direction) _ _
       (λ way. either (IsTakenOr w hearer) (is_alive (length w.hub.sent) d) _ _
@@ -105,7 +105,7 @@ module _ (below : Below) where
 
   answer_joins : (first : ℕ) (all : List (List ℕ)) (b : Board) (air : List Datagram) (birth : ℕ) (r : Option (List ℕ))
       → birth ≡ length all → AllByRecursion (IsDatagram first all (replies b)) air → IsAnswered below first all b r
-      → AllByRecursion (IsDatagram first all (replies b)) (air ++ answered birth r)
+      → AllByRecursion (IsDatagram first all (replies b)) (air ++ air_after_answer birth r)
   answer_joins first all b air birth None same is new = rw append-nil is
   answer_joins first all b air birth (Some bytes) same is new =
       AllByRecursion-append _ air (record { direction = goes.ToHub; bytes = bytes; birth = birth } ∷ []) is
@@ -197,7 +197,7 @@ module _ (below : Below) where
       } in
       subst (λ (b : List ℕ). IsSaidToHub board.first (replies board) 0 (to_hub b)) (sym e)
       (subst (IsSaidToHub board.first (replies board) 0) (sym
-      (status_read below board.mtu board.buffers board.first is.mtu is.buffers is.first)) said)
+      (status_read below.packets.back board.mtu board.buffers board.first is.mtu is.buffers is.first)) said)
 
   greeted : (window : ℕ) (board : Board) (air : List Datagram) (d : Datagram) → IsStart window board air
       → IsGreeting board d → IsDatagram board.first [] (replies board) d
@@ -210,7 +210,7 @@ module _ (below : Below) where
   pub start_holds : (window rounds : ℕ) (board : Board) (air : List Datagram) → IsStart window board air
       → IsSound (start window rounds board air)
   start_holds window rounds board air is =
-      let none : executed board ≡ [] = rw (is.fresh) refl in
+      let none : bodies_executed board ≡ [] = rw (is.fresh) refl in
       record {
         hub = record {
           few = omega (arith, is.few);

@@ -11,13 +11,17 @@ use Rattle.transaction_codec.specs.Answer.{CanAnswer, reply_room}
 use Rattle.board_bus.specs.Cells.{CellMap, HoldsWords}
 use Rattle.board_bus.specs.Bodies.{replay, run_body}
 
--- packets and their headers are read as they are spelled, and only so
-pub record ReadsPackets : Type 0 where
-  pub again : (packet : Packet) → IsPacket packet → packet_of (packet_bytes packet) ≡ Ok packet
-  pub found : (bytes : List ℕ) (packet : Packet) → AreBytes bytes → packet_of bytes ≡ Ok packet
-      → IsPacket packet × (bytes ≡ packet_bytes packet)
+-- packets and their headers are read as they are spelled
+pub record ReadsBack : Type 0 where
+  pub packet : (packet : Packet) → IsPacket packet → packet_of (packet_bytes packet) ≡ Ok packet
   pub header : (id kind : ℕ) → id < 2 ^ 16 → kind < 2 ^ 4
       → header_of (packet_header id kind) ≡ Some (record { id = id; kind = kind })
+
+-- and only so
+pub record ReadsPackets : Type 0 where
+  pub back : ReadsBack
+  pub found : (bytes : List ℕ) (packet : Packet) → AreBytes bytes → packet_of bytes ≡ Ok packet
+      → IsPacket packet × (bytes ≡ packet_bytes packet)
   pub header_found : (word : ℕ) (header : Header) → header_of word ≡ Some header
       → word ≡ packet_header header.id header.kind
   pub written_back : (order : Order) (bytes : List ℕ) → AreBytes bytes → length bytes % 4 ≡ 0

@@ -32,24 +32,24 @@ pub record Board : Type 0 where
 abbrev pub body_of : LogEntry → List ℕ
 body_of entry = entry.body
 
-abbrev pub executed : Board → List (List ℕ)
-executed board = map body_of board.log
+abbrev pub bodies_executed : Board → List (List ℕ)
+bodies_executed board = map body_of board.log
 
 -- the replies to them, and the bus that they left: those of a bus with a single thread
 abbrev pub replies : Board → List (List ℕ)
-replies board = (replay board.opening (executed board)).replies
+replies board = (replay board.opening (bodies_executed board)).replies
 
 abbrev pub present_bus : Board → CellMap
-present_bus board = (replay board.opening (executed board)).cells
+present_bus board = (replay board.opening (bodies_executed board)).cells
 
 -- how many of the packets were numbered: identifier 0 does not count
-abbrev pub numbered : List LogEntry → ℕ
-numbered [] = 0
-numbered (entry ∷ log) = (if entry.numbered then 1 else 0) + numbered log
+abbrev pub numbered_count : List LogEntry → ℕ
+numbered_count [] = 0
+numbered_count (entry ∷ log) = (if entry.numbered then 1 else 0) + numbered_count log
 
 -- the identifier that it expects next. IPbus 2.0, reliability mechanism.
-abbrev pub expected : Board → ℕ
-expected board = identifier_at board.first (numbered board.log + 1)
+abbrev pub expected_identifier : Board → ℕ
+expected_identifier board = identifier_at board.first (numbered_count board.log + 1)
 
 -- the replies to numbered packets as they were sent, in order; `place` is that of the next numbered packet
 abbrev pub numbered_replies : ℕ → ℕ → List LogEntry → List (List ℕ) → List Packet
@@ -65,8 +65,8 @@ abbrev pub last_of : {A : Type 0} → ℕ → List A → List A
 last_of most xs = drop (length xs - most) xs
 
 -- the replies that it holds: the last ones to numbered packets, as many as it has buffers
-abbrev pub held : Board → List Packet
-held board = last_of board.buffers (numbered_replies board.first 1 board.log (replies board))
+abbrev pub held_replies : Board → List Packet
+held_replies board = last_of board.buffers (numbered_replies board.first 1 board.log (replies board))
 
 abbrev pub with_id : ℕ → List Packet → Option Packet
 with_id id [] = None
@@ -83,20 +83,20 @@ pub record Hearing : Type 0 where
   pub answer : Option (List ℕ)
   pub board : Board
 
-abbrev pub dropped : Board → DropCause → Hearing
-dropped board cause = record { heard = Dropped cause; answer = None; board = board }
+abbrev pub hearing_dropped : Board → DropCause → Hearing
+hearing_dropped board cause = record { heard = Dropped cause; answer = None; board = board }
 
 -- a status request: the MTU, the buffers and the expected identifier
 abbrev pub tell_status : Board → Hearing
 tell_status board = record {
   heard = StatusSent;
-  answer = Some (packet_bytes (status_reply board.mtu board.buffers (expected board)));
+  answer = Some (packet_bytes (status_reply board.mtu board.buffers (expected_identifier board)));
   board = board;
 }
 
 -- a re-send request: the reply as it was first sent, where it is held
 abbrev pub send_again : Board → Option Packet → Hearing
-send_again board None = dropped board NotHeld
+send_again board None = hearing_dropped board NotHeld
 send_again board (Some packet) = record { heard = Resent; answer = Some (packet_bytes packet); board = board }
 
 -- a control packet that is executed: its body on the present bus, the reply in its order and under its identifier
@@ -109,15 +109,15 @@ execute board id entry = record {
 
 abbrev pub hear_control : Board → Order → ℕ → List ℕ → Hearing
 hear_control board order id body =
-    if is_too_long board body then dropped board TooLong
+    if is_too_long board body then hearing_dropped board TooLong
     else if id == 0 then execute board id (record { numbered = false; order = order; body = body })
-    else if id == expected board then execute board id (record { numbered = true; order = order; body = body })
-    else dropped board OtherId
+    else if id == expected_identifier board then execute board id (record { numbered = true; order = order; body = body })
+    else hearing_dropped board OtherId
 
 abbrev pub hear_message : Board → Option ToBoard → Hearing
-hear_message board None = dropped board NotPacket
+hear_message board None = hearing_dropped board NotPacket
 hear_message board (Some StatusRequest) = tell_status board
-hear_message board (Some (ResendRequest id)) = send_again board (with_id id (held board))
+hear_message board (Some (ResendRequest id)) = send_again board (with_id id (held_replies board))
 hear_message board (Some (ControlPacket order id body)) = hear_control board order id body
 
 -- what a board does with a datagram, whatever its bytes

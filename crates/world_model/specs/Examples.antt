@@ -7,7 +7,7 @@ use Rattle.world_model.specs.declared.moves.WorldMove.{WorldMove}
 use Rattle.world_model.specs.declared.moves.WorldEnd.{WorldEnd}
 use Rattle.board_bus.specs.declared.kind.RangeKind.TheVariants.{Rw}
 use Rattle.board_bus.specs.Ranges.{opening_bus}
-use Rattle.world_model.specs.Board.{Board, executed}
+use Rattle.world_model.specs.Board.{Board, bodies_executed}
 use Rattle.world_model.specs.World.{World, run_moves, start}
 
 -- a board of 16 words that opens with 0xabcd at address 4, as it expects its first packet
@@ -48,7 +48,7 @@ bytes_of datagram = datagram.bytes
 
 abbrev pub standing : Result World WorldEnd → Result Standing WorldEnd
 standing (Ok w) = Ok (record {
-  executed_bodies = executed w.board;
+  executed_bodies = bodies_executed w.board;
   fates = w.fates;
   lates = w.lates;
   open_places = w.hub.open_places;

@@ -33,7 +33,7 @@ use Rattle.world_model.specs.declared.offered.Fate.TheVariants.{Replied, TimedOu
 use Rattle.world_model.specs.Places.{at_place}
 use Rattle.world_model.specs.Messages.{ToBoard as MessageToBoard, ToHub as MessageToHub, StatusRequest, ResendRequest}
 use Rattle.world_model.specs.Messages.{ControlPacket, StatusReply, Reply, to_board, to_hub}
-use Rattle.world_model.specs.Board.{Board, executed, replies}
+use Rattle.world_model.specs.Board.{Board, bodies_executed, replies}
 use Rattle.world_model.specs.Hub.{Hub, HandedOut, least, places, to_hand_out}
 use Rattle.world_model.specs.World.{World, told_in}
 
@@ -173,7 +173,7 @@ pub record Holds (first window : ℕ) (sent queue : List Offered) (ps : List ℕ
   pub hub : IsWindow window (length sent) ps
   pub sent_bodies : AreSendable sent
   pub queued_bodies : AreSendable queue
-  pub log : IsExecuted (bodies_of sent) (executed board) ps
+  pub log : IsExecuted (bodies_of sent) (bodies_executed board) ps
   pub node : IsBoard first board
   pub said : AllByRecursion (IsDatagram first (bodies_of sent) (replies board)) air
   pub waiting_fates : AreRight sent (replies board) waiting.fates

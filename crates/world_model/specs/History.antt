@@ -13,7 +13,7 @@ use Rattle.world_model.specs.declared.offered.Fate.TheVariants.{Replied, TimedOu
 use Rattle.world_model.specs.declared.moves.WorldMove.{WorldMove}
 use Rattle.world_model.specs.declared.moves.WorldMove.TheVariants.{Offer, Quiet, HubHears, BoardHears}
 use Rattle.world_model.specs.Places.{at_place}
-use Rattle.world_model.specs.Board.{Board, executed}
+use Rattle.world_model.specs.Board.{Board, bodies_executed}
 use Rattle.world_model.specs.Hub.{tag_of}
 use Rattle.world_model.specs.Air.{LIFETIME}
 use Rattle.world_model.specs.World.{World, run_moves, start}
@@ -59,25 +59,25 @@ pub record IsAliveInAir (w : World) (bytes : List ℕ) : Type 0 where
 -- fate is Replied, and each place with a late answer, has the reply that a bus with a single thread gives there, when
 -- the executed bodies are replayed by place over the bus that the board opened with.
 pub record IsTrueHistory (w : World) : Type 0 where
-  pub in_order : IsPrefix (executed w.board) (bodies_of w.hub.sent)
+  pub in_order : IsPrefix (bodies_executed w.board) (bodies_of w.hub.sent)
   pub replied : (tag place : ℕ) (words : List ℕ) → IsHandedOut w tag (Replied place words)
-      → at_place (replay w.board.opening (executed w.board)).replies place ≡ Some words
+      → at_place (replay w.board.opening (bodies_executed w.board)).replies place ≡ Some words
   pub late : (place : ℕ) (words : List ℕ) → IsLateAnswer w place words
-      → at_place (replay w.board.opening (executed w.board)).replies place ≡ Some words
+      → at_place (replay w.board.opening (bodies_executed w.board)).replies place ≡ Some words
 
 -- the body of this tag was sent at this place and executed there
 pub record IsExecutedThere (w : World) (tag place : ℕ) : Type 0 where
   pub body : Offered
   pub sent : at_place w.hub.sent place ≡ Some body
   pub tag_is : body.tag ≡ tag
-  pub there : at_place (executed w.board) place ≡ Some body.body
+  pub there : at_place (bodies_executed w.board) place ≡ Some body.body
 
 -- the body of this tag was sent at this place, and was executed there or nowhere
 pub record IsExecutedAtMostOnce (w : World) (tag place : ℕ) : Type 0 where
   pub body : Offered
   pub sent : at_place w.hub.sent place ≡ Some body
   pub tag_is : body.tag ≡ tag
-  pub there : (length (executed w.board) < place) ⊎ (at_place (executed w.board) place ≡ Some body.body)
+  pub there : (length (bodies_executed w.board) < place) ⊎ (at_place (bodies_executed w.board) place ≡ Some body.body)
 
 -- a body was timed out at this place, and was executed there all the same
 pub record IsAnsweredLate (w : World) (place : ℕ) : Type 0 where

@@ -116,15 +116,15 @@ place_with first place (suc count) id =
 abbrev pub recover : ℕ → OpenPlace → OpenPlace
 recover told o = if nat_lt o.place told then record o { resend = true } else record o { control = true }
 
-abbrev pub recovered : Hub → Option ℕ → Hub
-recovered hub None = hub
-recovered hub (Some told) = record hub { open_places = map (recover told) hub.open_places }
+abbrev pub after_recovery : Hub → Option ℕ → Hub
+after_recovery hub None = hub
+after_recovery hub (Some told) = record hub { open_places = map (recover told) hub.open_places }
 
 abbrev pub told_place : Hub → ℕ → Option ℕ
 told_place hub next = place_with hub.first (low hub) (length hub.sent + 2 - low hub) next
 
 abbrev pub hear_status : Hub → ℕ → Hub
-hear_status hub next = if nat_lt 0 hub.status_requests then recovered hub (told_place hub next) else hub
+hear_status hub next = if nat_lt 0 hub.status_requests then after_recovery hub (told_place hub next) else hub
 
 -- What a hub hears. Only a status reply and a reply change it.
 abbrev pub take_message : Hub → Option ToHub → Hub
@@ -134,8 +134,8 @@ take_message hub (Some (Reply id words)) = hear_reply hub id words
 
 -- A quiet receive begins a round, or ends the last one: then each place that is waited for is timed out, each body
 -- without a place is unsent, and nothing is wanted or waited for any more. The open places stay open.
-abbrev pub abandoned : OpenPlace → OpenPlace
-abandoned o = record { place = o.place; waited = false; resend = false; control = false }
+abbrev pub abandoned_place : OpenPlace → OpenPlace
+abandoned_place o = record { place = o.place; waited = false; resend = false; control = false }
 
 abbrev pub time_out : ℕ → List Offered → List OpenPlace → List (ℕ × Fate) → List (ℕ × Fate)
 time_out rounds sent [] fates = fates
@@ -145,17 +145,17 @@ time_out rounds sent (o ∷ os) fates =
     then insert_fate o.place (tag_of (at_place sent o.place), TimedOut o.place rounds) fates
     else fates)
 
-abbrev pub unsent : Offered → ℕ × Fate
-unsent offered = (offered.tag, Unsent)
+abbrev pub unsent_fate : Offered → ℕ × Fate
+unsent_fate offered = (offered.tag, Unsent)
 
 abbrev pub give_up : Hub → Hub
 give_up hub = record hub {
   queue = [];
-  open_places = map abandoned hub.open_places;
+  open_places = map abandoned_place hub.open_places;
   status_requests = 0;
   status_wanted = false;
   gave_up = true;
-  fates = time_out hub.rounds hub.sent hub.open_places hub.fates ++ map unsent hub.queue;
+  fates = time_out hub.rounds hub.sent hub.open_places hub.fates ++ map unsent_fate hub.queue;
 }
 
 abbrev pub want_status : Hub → Hub
@@ -196,8 +196,8 @@ abbrev pub hands_out : HandedOut → Hub → HandedOut
 hands_out before hub = and_then before (to_hand_out hub)
 
 -- the hub after it handed out what it has
-abbrev pub drained : Hub → Hub
-drained hub = record hub { fates = []; lates = [] }
+abbrev pub after_handing_out : Hub → Hub
+after_handing_out hub = record hub { fates = []; lates = [] }
 
 -- no fate and no late answer waits to be handed out
 pub record IsDrained (hub : Hub) : Type 0 where

@@ -11,7 +11,7 @@ use Rattle.world_model.specs.Messages.{ToBoard as MessageToBoard, StatusRequest,
 use Rattle.world_model.specs.Board.{Board, hear}
 use Rattle.world_model.specs.Hub.{Hub}
 use Rattle.world_model.specs.Air.{is_alive, goes_to}
-use Rattle.world_model.specs.World.{World, answered}
+use Rattle.world_model.specs.World.{World, air_after_answer}
 use Rattle.world_model.specs.Facts.{IsSound}
 
 pub record Told : Type 0 where
@@ -54,7 +54,7 @@ sent_on told bytes = record told {
 abbrev pub heard_on : Told → List ℕ → Told
 heard_on told bytes =
     let heard = hear told.board bytes in
-    record { board = heard.board; air = told.air ++ answered (first_sends told) heard.answer }
+    record { board = heard.board; air = told.air ++ air_after_answer (first_sends told) heard.answer }
 
 abbrev pub heard_by : Told → Option Datagram → Option Told
 heard_by told None = None

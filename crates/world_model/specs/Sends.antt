@@ -29,9 +29,9 @@ after_open o None = None
 after_open o (Some w) = Some (record w { open_places = o ∷ w.open_places })
 
 -- Low places are served first; a reply is asked for before its packet is repeated.
-abbrev pub wanted : ℕ → List OpenPlace → Option Wanted
-wanted first [] = None
-wanted first (o ∷ os) =
+abbrev pub first_wanted : ℕ → List OpenPlace → Option Wanted
+first_wanted first [] = None
+first_wanted first (o ∷ os) =
     if o.resend
     then Some (record {
       send = sends.Resend (identifier_at first o.place);
@@ -42,12 +42,12 @@ wanted first (o ∷ os) =
       send = sends.Control o.place (identifier_at first o.place);
       open_places = record o { control = false } ∷ os;
     })
-    else after_open o (wanted first os)
+    else after_open o (first_wanted first os)
 
 -- The body at the front of the queue gets the next place, where the window has room: from the lowest open place to that
 -- one, both counted, there are no more places than the window.
-abbrev pub opened : ℕ → OpenPlace
-opened place = record { place = place; waited = true; resend = false; control = false }
+abbrev pub opened_place : ℕ → OpenPlace
+opened_place place = record { place = place; waited = true; resend = false; control = false }
 
 abbrev pub first_send : Hub → List Offered → Option Next
 first_send hub [] = None
@@ -59,7 +59,7 @@ first_send hub (offered ∷ later) =
       hub = record hub {
         sent = hub.sent ++ offered ∷ [];
         queue = later;
-        open_places = hub.open_places ++ opened place ∷ [];
+        open_places = hub.open_places ++ opened_place place ∷ [];
       };
     })
     else None
@@ -73,7 +73,7 @@ abbrev pub next_send : Hub → Option Next
 next_send hub =
     if hub.status_wanted
     then Some (record { send = sends.Status; hub = record hub { status_wanted = false } })
-    else wanted_or_first hub (wanted hub.first hub.open_places)
+    else wanted_or_first hub (first_wanted hub.first hub.open_places)
 
 -- at most how many sends come before another event
 abbrev pub wishes : List OpenPlace → ℕ

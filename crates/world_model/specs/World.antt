@@ -13,7 +13,7 @@ use Rattle.world_model.specs.declared.moves.WorldEnd.{WorldEnd}
 use Rattle.world_model.specs.declared.moves.WorldEnd.TheVariants.{NotThere, TooOld}
 use Rattle.world_model.specs.Messages.{to_hub}
 use Rattle.world_model.specs.Board.{Board, hear}
-use Rattle.world_model.specs.Hub.{Hub, HandedOut, drained, hands_out}
+use Rattle.world_model.specs.Hub.{Hub, HandedOut, after_handing_out, hands_out}
 use Rattle.world_model.specs.Hub.{offer, take_message, hear_quiet, is_waiting, new_hub}
 use Rattle.world_model.specs.Sends.{Next, next_send, pending, bytes_to_send}
 use Rattle.world_model.specs.Air.{is_alive, goes_to}
@@ -56,7 +56,7 @@ with_told w told = record w { fates = told.fates; lates = told.lates }
 
 -- fates and late answers are handed out
 abbrev pub handed_out : World → World
-handed_out w = with_told (record w { hub = drained w.hub }) (hands_out (told_in w) w.hub)
+handed_out w = with_told (record w { hub = after_handing_out w.hub }) (hands_out (told_in w) w.hub)
 
 abbrev pub with_hub : World → Hub → World
 with_hub w hub = record w { hub = hub }
@@ -66,9 +66,9 @@ abbrev pub go_on : World → Hub → World
 go_on w hub = handed_out (flush (pending hub) (with_hub w hub))
 
 -- A datagram for this hearer that is alive, or why there is none: the number of the move is named.
-abbrev pub taken : ℕ → ℕ → Direction → Option Datagram → Result (List ℕ) WorldEnd
-taken at sent hearer None = Err (NotThere at)
-taken at sent hearer (Some datagram) =
+abbrev pub taken_datagram : ℕ → ℕ → Direction → Option Datagram → Result (List ℕ) WorldEnd
+taken_datagram at sent hearer None = Err (NotThere at)
+taken_datagram at sent hearer (Some datagram) =
     if goes_to hearer datagram.direction
     then (if is_alive sent datagram then Ok datagram.bytes else Err (TooOld at))
     else Err (NotThere at)
@@ -78,14 +78,14 @@ abbrev pub hub_hears : World → List ℕ → World
 hub_hears w bytes = go_on w (take_message w.hub (to_hub bytes))
 
 -- the board hears these bytes, and its answer joins the air
-abbrev pub answered : ℕ → Option (List ℕ) → List Datagram
-answered birth None = []
-answered birth (Some bytes) = record { direction = ToHub; bytes = bytes; birth = birth } ∷ []
+abbrev pub air_after_answer : ℕ → Option (List ℕ) → List Datagram
+air_after_answer birth None = []
+air_after_answer birth (Some bytes) = record { direction = ToHub; bytes = bytes; birth = birth } ∷ []
 
 abbrev pub board_hears : World → List ℕ → World
 board_hears w bytes =
     let heard = hear w.board bytes in
-    record w { board = heard.board; air = w.air ++ answered (length w.hub.sent) heard.answer }
+    record w { board = heard.board; air = w.air ++ air_after_answer (length w.hub.sent) heard.answer }
 
 abbrev pub when_taken : Result (List ℕ) WorldEnd → (List ℕ → World) → Result World WorldEnd
 when_taken (Ok bytes) hears = Ok (hears bytes)
@@ -95,8 +95,8 @@ when_taken (Err end) hears = Err end
 abbrev pub step : ℕ → World → WorldMove → Result World WorldEnd
 step at w (Offer tag body) = Ok (go_on w (offer w.hub (record { tag = tag; body = body })))
 step at w Quiet = if is_waiting w.hub then Ok (go_on w (hear_quiet w.hub)) else Err (NotThere at)
-step at w (HubHears i) = when_taken (taken at (length w.hub.sent) ToHub (slice_get w.air i)) (hub_hears w)
-step at w (BoardHears i) = when_taken (taken at (length w.hub.sent) ToBoard (slice_get w.air i)) (board_hears w)
+step at w (HubHears i) = when_taken (taken_datagram at (length w.hub.sent) ToHub (slice_get w.air i)) (hub_hears w)
+step at w (BoardHears i) = when_taken (taken_datagram at (length w.hub.sent) ToBoard (slice_get w.air i)) (board_hears w)
 
 -- moves one after another, numbered from `at`, up to the first that is not allowed
 abbrev pub moves_on : Result World WorldEnd → (World → Result World WorldEnd) → Result World WorldEnd

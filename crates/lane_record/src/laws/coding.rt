@@ -5,12 +5,12 @@ ghost use Rattle.ipb_base.specs.Lists.{IsPrefix};
 ghost use Rattle.turn_pass.specs.Record.{Begins};
 ghost use Rattle.lane_record.specs.declared.item.Item.{Item};
 ghost use Rattle.lane_record.specs.declared.item.TheConstants as constants;
-ghost use Rattle.lane_record.specs.Coding.{ASK, Head, PLAN, SEAL, TOOK, head_numbers, item_from, record_of, recorded};
+ghost use Rattle.lane_record.specs.Coding.{ASK, Head, PLAN, SEAL, TOOK, head_numbers, item_from, record_of, as_recorded};
 
 /// The numbers of an entry and its content spell that entry and no other.
 pub fn an_entry_is_spelled_by_numbers()
-    ensures read { (item : Item) → item_from (recorded item) ≡ Some item }
-    ensures one { (item other : Item) → recorded item ≡ recorded other → item ≡ other }
+    ensures read { (item : Item) → item_from (as_recorded item) ≡ Some item }
+    ensures one { (item other : Item) → as_recorded item ≡ as_recorded other → item ≡ other }
     ensures kinds { (constants.PLAN ≡ PLAN) × (constants.SEAL ≡ SEAL) × (constants.ASK ≡ ASK)
         × (constants.TOOK ≡ TOOK) }
 {}

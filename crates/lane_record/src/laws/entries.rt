@@ -3,7 +3,7 @@
 ghost use Rattle.std.specs.Prelude.{◌≡◌, ℕ, ◌∷◌, [], ◌++◌, ◌<◌, ◌≤◌, List, Option, Some, length, take, false};
 ghost use Rattle.lane_record.specs.declared.item.Item.{Item};
 ghost use Rattle.lane_record.specs.declared.outcome.Outcome.{Outcome};
-ghost use Rattle.lane_record.specs.Items.{asked, found, is_sealed, plan_in, planned};
+ghost use Rattle.lane_record.specs.Items.{asked_count, told_by_first, is_sealed, plan_in, planned_count};
 ghost use Rattle.lane_record.specs.Claims.{Claim, IsAskOf, claims};
 ghost use Rattle.lane_record.specs.FirstSends.{HasPlaceAfter, PlacesCount, places_given};
 ghost use Rattle.lane_record.specs.Legal.{IsLegal};
@@ -70,14 +70,14 @@ pub fn a_front_of_a_legal_record_is_legal()
 pub fn an_ask_is_of_its_plan()
     ensures body { (items : List Item) (outcomes : List (Option Outcome)) (k client seq : ℕ) (claim : Claim)
         → IsLegal items outcomes → IsAskOf items k client seq claim
-        → found plan_in client seq items ≡ Some claim.body }
+        → told_by_first plan_in client seq items ≡ Some claim.body }
     ensures once { (items : List Item) (outcomes : List (Option Outcome)) (j k client seq : ℕ) (one other : Claim)
         → IsLegal items outcomes → IsAskOf items j client seq one → IsAskOf items k client seq other → j ≡ k }
     ensures planned { (items : List Item) (outcomes : List (Option Outcome)) (client seq : ℕ) (body : List ℕ)
-        → IsLegal items outcomes → found plan_in client seq items ≡ Some body → seq < planned client items }
+        → IsLegal items outcomes → told_by_first plan_in client seq items ≡ Some body → seq < planned_count client items }
     ensures there { (items : List Item) (outcomes : List (Option Outcome)) (client seq : ℕ)
-        → IsLegal items outcomes → seq < planned client items
-        → (body : List ℕ) × (found plan_in client seq items ≡ Some body) }
+        → IsLegal items outcomes → seq < planned_count client items
+        → (body : List ℕ) × (told_by_first plan_in client seq items ≡ Some body) }
     ensures asked { (items : List Item) (outcomes : List (Option Outcome)) (client : ℕ)
-        → IsLegal items outcomes → asked client items ≤ planned client items }
+        → IsLegal items outcomes → asked_count client items ≤ planned_count client items }
 {}

@@ -10,7 +10,7 @@ ghost use Rattle.lane_record.specs.declared.item.Item.{Item};
 ghost use Rattle.lane_record.specs.declared.outcome.Outcome.{Outcome};
 ghost use Rattle.lane_record.specs.Outcomes.{place_of};
 ghost use Rattle.lane_record.specs.Lists.{CountsFrom};
-ghost use Rattle.lane_record.specs.Claims.{Claim, IsAskOf, IsFinished, claims, outcome_taken, taken};
+ghost use Rattle.lane_record.specs.Claims.{Claim, IsAskOf, IsFinished, claims, outcome_taken, taken_outcomes};
 ghost use Rattle.lane_record.specs.FirstSends.{IsOfAsk, bodies_sent, first_sends, places_of};
 ghost use Rattle.lane_record.specs.Legal.{IsLegal};
 ghost use Rattle.lane_record.specs.Offers.{Agrees};
@@ -20,7 +20,7 @@ ghost use Rattle.lane_record.specs.Offers.{Agrees};
 /// there.
 pub fn a_finished_record_tells_all()
     ensures outcomes { (items : List Item) (outcomes : List (Option Outcome)) → IsLegal items outcomes
-        → IsFinished items → outcomes ≡ taken items }
+        → IsFinished items → outcomes ≡ taken_outcomes items }
     ensures places { (items : List Item) (outcomes : List (Option Outcome)) → IsLegal items outcomes
         → IsFinished items → CountsFrom 1 (places_of (first_sends items)) }
     ensures of_asks { (items : List Item) → AllByRecursion (IsOfAsk items) (first_sends items) }

@@ -1,7 +1,7 @@
 //! The order in which registers are put among the earlier ones, and ask for the first of them that they overlap.
 ghost use Rattle.std.specs.Prelude.{◌≡◌, ◌+◌, ◌<◌, ◌^◌, IfOk, length, nat_eq, string_bytes};
 ghost use Rattle.std.specs.List.{starts_with};
-ghost use Rattle.node_tree.specs.Named.{named, AreInOrder};
+ghost use Rattle.node_tree.specs.Named.{named_entries, AreInOrder};
 ghost use Rattle.node_tree.specs.OverlapSearch.{AreAllEvents, IsTimeline, Grows, AddsAt, BeginsWith, event_at};
 
 use super::noting::note_each;
@@ -30,7 +30,7 @@ pub(super) fn events_of(
 ) -> Result<Vec<Event>, NoMemory>
     requires lengths { length firsts.old ≡ length entries.now }
     requires in_order { AreInOrder entries.now }
-    ensures { IfOk result (λ events. AreAllEvents (named entries.now) firsts.old firsts.new events.items) }
+    ensures { IfOk result (λ events. AreAllEvents (named_entries entries.now) firsts.old firsts.new events.items) }
 {
     let mut events = Vec::with_capacity(alloc, entries.len().saturating_mul(2))?;
     let mut open_places = Vec::new(alloc);
@@ -52,8 +52,8 @@ fn close(
 ) -> Result<(), NoMemory>
     requires in_order { AreInOrder entries.now }
     requires within { place < length entries.now }
-    requires timeline { IsTimeline (named entries.now) place open_places.old.items events.old.items }
-    ensures timeline { IfOk result (λ _. IsTimeline (named entries.now) place open_places.new.items events.new.items) }
+    requires timeline { IsTimeline (named_entries entries.now) place open_places.old.items events.old.items }
+    ensures timeline { IfOk result (λ _. IsTimeline (named_entries entries.now) place open_places.new.items events.new.items) }
     ensures grows { IfOk result (λ _. Grows events.old.items events.new.items) }
 {
     while let Some(earlier) = open_places.pop() {
@@ -70,7 +70,7 @@ fn close(
 fn begins_with(entries: &[Entry], later: usize, earlier: usize) -> bool
     requires before { earlier < later }
     requires within { later < length entries.now }
-    ensures { BeginsWith (named entries.now) later earlier result }
+    ensures { BeginsWith (named_entries entries.now) later earlier result }
 {
     name_begins_with(&entries[later], &entries[earlier])
 }
@@ -89,7 +89,7 @@ fn push_event(
     asks: bool,
 ) -> Result<(), NoMemory>
     requires { place < length entries.now }
-    ensures { IfOk result (λ _. AddsAt (named entries.now) place asks events.old.items events.new.items) }
+    ensures { IfOk result (λ _. AddsAt (named_entries entries.now) place asks events.old.items events.new.items) }
 {
     let entry = &entries[place];
     let event = event_of(entry, place, asks);

@@ -8,7 +8,7 @@ ghost use Rattle.world_model.specs.declared.moves.WorldMove.{WorldMove};
 ghost use Rattle.world_model.specs.declared.offered.Fate.TheVariants.{Replied, TimedOut};
 ghost use Rattle.world_model.specs.declared.offered.Offered.{Offered};
 ghost use Rattle.world_model.specs.Places.{at_place};
-ghost use Rattle.world_model.specs.Board.{Board, executed};
+ghost use Rattle.world_model.specs.Board.{Board, bodies_executed};
 ghost use Rattle.world_model.specs.Messages.{Reply, to_hub};
 ghost use Rattle.world_model.specs.Hub.{low};
 ghost use Rattle.world_model.specs.Sends.{next_send};
@@ -33,9 +33,9 @@ pub fn each_body_is_executed_once()
 pub fn nothing_is_executed_twice_or_out_of_order()
     ensures in_order { (window rounds : ℕ) (board : Board) (air : List Datagram) (moves : List WorldMove) (w : World)
         (place : ℕ) (body : List ℕ) → IsRun window rounds board air moves w
-        → at_place (executed w.board) place ≡ Some body → at_place (bodies_of w.hub.sent) place ≡ Some body }
+        → at_place (bodies_executed w.board) place ≡ Some body → at_place (bodies_of w.hub.sent) place ≡ Some body }
     ensures no_more { (window rounds : ℕ) (board : Board) (air : List Datagram) (moves : List WorldMove) (w : World)
-        → IsRun window rounds board air moves w → length (executed w.board) ≤ length w.hub.sent }
+        → IsRun window rounds board air moves w → length (bodies_executed w.board) ≤ length w.hub.sent }
 {
     laws_below();
 }

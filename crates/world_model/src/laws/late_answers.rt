@@ -9,7 +9,7 @@ ghost use Rattle.world_model.specs.declared.offered.Offered.{Offered};
 ghost use Rattle.world_model.specs.declared.offered.OpenPlace.{OpenPlace};
 ghost use Rattle.world_model.specs.Board.{Board};
 ghost use Rattle.world_model.specs.Messages.{ToHub};
-ghost use Rattle.world_model.specs.Hub.{Hub, HandedOut, drained, hands_out, insert_late, none_handed_out, without};
+ghost use Rattle.world_model.specs.Hub.{Hub, HandedOut, after_handing_out, hands_out, insert_late, none_handed_out, without};
 ghost use Rattle.world_model.specs.Hub.{hear_quiet, hear_reply, new_hub, offer, open_with, take_message};
 ghost use Rattle.world_model.specs.Sends.{Next, next_send};
 ghost use Rattle.world_model.specs.World.{World, told_in};
@@ -43,7 +43,7 @@ pub fn a_late_answer_is_of_a_timed_out_body()
     ensures sent { (before : HandedOut) (hub : Hub) (next : Next)
         → AreOfTimedOut before hub → next_send hub ≡ Some next → AreOfTimedOut before next.hub }
     ensures handed_out { (before : HandedOut) (hub : Hub)
-        → AreOfTimedOut before hub → AreOfTimedOut (hands_out before hub) (drained hub) }
+        → AreOfTimedOut before hub → AreOfTimedOut (hands_out before hub) (after_handing_out hub) }
     ensures one_fate { (before : HandedOut) (hub : Hub) (fate : ℕ × Fate) (fates : List (ℕ × Fate))
         → AreOfTimedOut before hub → hub.fates ≡ fate ∷ fates
         → AreOfTimedOut (record before { fates = before.fates ++ fate ∷ [] }) (record hub { fates = fates }) }

@@ -10,7 +10,7 @@ ghost use Rattle.packet_codec.specs.Packet.{packet_bytes};
 ghost use Rattle.status_packet.specs.Packets.{status_request};
 ghost use Rattle.world_model.specs.declared.heard.LogEntry.{LogEntry};
 ghost use Rattle.world_model.specs.Messages.{StatusReply, to_hub};
-ghost use Rattle.world_model.specs.Board.{Board, executed, replies};
+ghost use Rattle.world_model.specs.Board.{Board, bodies_executed, replies};
 ghost use Rattle.world_model.specs.Hub.{Hub, offer, take_message, hear_quiet, new_hub};
 ghost use Rattle.world_model.specs.Sends.{Next, next_send, bytes_to_send};
 ghost use Rattle.world_model.specs.Facts.{IsSendable, IsSound, IsStart, AreLateReplies, AreRight, bodies_of};
@@ -50,7 +50,7 @@ pub fn each_event_keeps_them_joined()
 /// late answer is the reply at its place.
 pub fn joined_ones_tell_the_truth()
     ensures executed { (hub : Hub) (told : Told) → IsJoined hub told
-        → IsPrefix (executed told.board) (bodies_of hub.sent) }
+        → IsPrefix (bodies_executed told.board) (bodies_of hub.sent) }
     ensures fates { (hub : Hub) (told : Told) → IsJoined hub told
         → AreRight hub.sent (replies told.board) hub.fates }
     ensures lates { (hub : Hub) (told : Told) → IsJoined hub told → AreLateReplies (replies told.board) hub.lates }

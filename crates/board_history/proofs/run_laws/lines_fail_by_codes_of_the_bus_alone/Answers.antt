@@ -1,7 +1,7 @@
 use Rattle.std.proofs.Common.{sym, subst}
 use Rattle.std.specs.List.{AllByRecursion}
 use Rattle.script_plans.specs.declared.board_run.BoardRun.{BoardRun}
-use Rattle.board_history.specs.Runs.{opening_of, plans_on, greeting_of}
+use Rattle.board_history.specs.Runs.{opens_with, plans_on, greeting_of}
 use Rattle.board_history.specs.Answering.{AskRequests}
 use Rattle.board_history.specs.Lines.{IsBusResult}
 use Rattle.board_history.proofs.Shown.{only_run}
@@ -19,7 +19,7 @@ telling c = λ spec board scripts run is ready.
     (parts_told c.a_reply_answers_its_body.ensures.requests c.a_reply_answers_its_body.ensures.any
     c.words_stay_words.ensures.after c.words_stay_words.ensures.after_all c.joining_is_a_function.ensures.none
     c.joining_is_a_function.ensures.joined
-    1 (opening_of spec.link) (plans_on board (greeting_of spec.link) scripts) ready.words)
+    1 (opens_with spec.link) (plans_on board (greeting_of spec.link) scripts) ready.words)
 
 pub returns : goal.returns
 returns c = λ specs scripts runs is here words can.

@@ -1,5 +1,5 @@
 use Rattle.std.proofs.Common.{◌∙◌, ap}
-use Rattle.world_model.specs.Board.{expected}
+use Rattle.world_model.specs.Board.{expected_identifier}
 use Rattle.board_node.proofs.Turns.{came_again, left_next}
 use Rattle.board_node.proofs.laws.identifier_0_is_executed_at_each_arrival.Goals as goal
 
@@ -13,4 +13,4 @@ returns-clause-log c =
 
 pub returns-clause-next : goal.returns-clause-next
 returns-clause-next c = λ board datagram order body times said short.
-    ap expected (came_again board datagram order body times said short).board ∙ left_next board order body times
+    ap expected_identifier (came_again board datagram order body times said short).board ∙ left_next board order body times

@@ -1,7 +1,7 @@
 use Rattle.std.proofs.Common.{◌+◌, ◌∙◌, ap, ℕ, arith}
 use Rattle.std.proofs.lemmas.List.{length-map}
 use Rattle.packet_ids.specs.Identifier.{identifier_at}
-use Rattle.world_model.specs.Board.{body_of, numbered}
+use Rattle.world_model.specs.Board.{body_of, numbered_count}
 use Rattle.board_node.specs.Hearings.{after}
 use Rattle.board_node.proofs.Steps.{grew, same_first}
 use Rattle.board_node.proofs.Turns.{went_on}
@@ -22,6 +22,6 @@ returns-clause-executed c = λ board datagrams all.
 
 pub returns-clause-next : goal.returns-clause-next
 returns-clause-next c = λ board datagrams all.
-    ap (λ (f : ℕ). identifier_at f (numbered (after board datagrams).log + 1))
+    ap (λ (f : ℕ). identifier_at f (numbered_count (after board datagrams).log + 1))
     (same_first board (after board datagrams) (grew board datagrams))
     ∙ ap (λ (k : ℕ). identifier_at board.first (k + 1)) (went_on board datagrams all).count

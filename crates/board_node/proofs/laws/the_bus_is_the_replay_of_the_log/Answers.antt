@@ -1,13 +1,13 @@
 use Rattle.std.proofs.Common.{ap}
 use Rattle.board_bus.specs.Bodies.{replay}
-use Rattle.world_model.specs.Board.{Board, executed}
+use Rattle.world_model.specs.Board.{Board, bodies_executed}
 use Rattle.board_node.specs.Hearings.{after}
 use Rattle.board_node.proofs.Steps.{bus_on, grew}
 use Rattle.board_node.proofs.laws.the_bus_is_the_replay_of_the_log.Goals as goal
 
 pub returns-clause-whole : goal.returns-clause-whole
 returns-clause-whole c =
-    λ board datagrams. ap (λ (x : Board). (replay x.opening (executed (after board datagrams))).cells)
+    λ board datagrams. ap (λ (x : Board). (replay x.opening (bodies_executed (after board datagrams))).cells)
     (grew board datagrams).1
 
 pub returns-clause-later : goal.returns-clause-later

@@ -1,6 +1,6 @@
 use Rattle.std.proofs.Common.{◌+◌, ◌∙◌, ap, ℕ, true, [], ◌∷◌}
 use Rattle.packet_ids.specs.Identifier.{identifier_at}
-use Rattle.world_model.specs.Board.{Hearing, numbered}
+use Rattle.world_model.specs.Board.{Hearing, numbered_count}
 use Rattle.board_node.specs.Hearings.{after}
 use Rattle.board_node.proofs.Steps.{grew, numbered_more, same_first}
 use Rattle.board_node.proofs.Turns.{entry_of, numbered_heard, was_expected}
@@ -8,11 +8,11 @@ use Rattle.board_node.proofs.laws.the_numbered_entries_make_the_expected_identif
 
 pub returns-clause-expected : goal.returns-clause-expected
 returns-clause-expected c = λ board datagrams.
-    ap (λ (f : ℕ). identifier_at f (numbered (after board datagrams).log + 1))
+    ap (λ (f : ℕ). identifier_at f (numbered_count (after board datagrams).log + 1))
     (same_first board (after board datagrams) (grew board datagrams))
 
 pub returns-clause-in_turn : goal.returns-clause-in_turn
 returns-clause-in_turn c = λ board datagram order id body said not heard.
     let w = was_expected board datagram order id body said not heard in
     let h = numbered_heard board datagram order id body said w.short w.next in
-    (w.next, ap (λ (x : Hearing). numbered x.board.log) h ∙ numbered_more board.log (entry_of true order body ∷ []))
+    (w.next, ap (λ (x : Hearing). numbered_count x.board.log) h ∙ numbered_more board.log (entry_of true order body ∷ []))

@@ -1,5 +1,5 @@
 use Rattle.std.proofs.Common.{ℕ, ◌≤◌, length, arith, inl, inr, ◌⊎◌, ◌≡◌}
-use Rattle.world_model.specs.Board.{executed}
+use Rattle.world_model.specs.Board.{bodies_executed}
 use Rattle.capture_reader.specs.Proved.{HasProof}
 use Rattle.capture_laws.proofs.Joint.{Laws}
 use Rattle.capture_laws.proofs.Lanes.{lane_shows}
@@ -37,4 +37,4 @@ by_proof proved most Shown all (inr shown) = all proved shown
 pub returns-clause-proved : goal.returns-clause-proved
 returns-clause-proved c = λ stopped limits hub outcomes lates t items proved is traffic fits p.
     let s = lane_shows (laws c) stopped limits hub outcomes lates t items is traffic in
-    by_proof proved (length (executed t.told.board)) (HasProof t.told.board.first 0 items) (s.shown fits) p.shown
+    by_proof proved (length (bodies_executed t.told.board)) (HasProof t.told.board.first 0 items) (s.shown fits) p.shown

@@ -1,5 +1,5 @@
 use Rattle.std.proofs.Common.{ℕ, ◌≤◌, length, arith, inl, inr, ◌⊎◌, ◌≡◌}
-use Rattle.world_model.specs.Board.{executed}
+use Rattle.world_model.specs.Board.{bodies_executed}
 use Rattle.world_model.specs.World.{start}
 use Rattle.world_model.specs.declared.offered.Fate.TheVariants.{Replied}
 use Rattle.world_model.proofs.Lists.{all_get}
@@ -46,4 +46,4 @@ pub returns-clause-executed : goal.returns-clause-executed
 returns-clause-executed c = λ window rounds board air moves w proved is can ran p.
     let items = items_of 0 (start window rounds board air) moves in
     let s = shows_run (laws c) window rounds board air moves w is can ran in
-    by_proof proved (length (executed w.board)) (HasProof board.first 0 items) s.shown p.shown
+    by_proof proved (length (bodies_executed w.board)) (HasProof board.first 0 items) s.shown p.shown

@@ -1,6 +1,6 @@
 use Rattle.std.proofs.lemmas.Bool.Decides.{Decides-eqb}
 use Rattle.std.proofs.lemmas.Slice.Eq.{strip_prefix_is}
-use Rattle.capture_reader.proofs.Words.{finds_behind}
+use Rattle.ipb_base.proofs.FrontWords.{finds_behind}
 use Rattle.capture_reader.proofs.front.behind.Goals as goal
 
 pub returns : goal.returns

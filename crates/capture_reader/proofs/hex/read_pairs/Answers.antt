@@ -1,7 +1,7 @@
 use Rattle.std.proofs.Common.{◌++◌, List, ℕ, ap, sym, ◌∙◌}
-use Rattle.capture_reader.specs.Fronts.{all_of}
+use Rattle.ipb_base.specs.Fronts.{all_of}
 use Rattle.capture_reader.specs.Reading.{pair_at}
-use Rattle.capture_reader.proofs.Many.{all_step, one_more}
+use Rattle.ipb_base.proofs.Fronts.{all_step, one_more}
 use Rattle.capture_reader.proofs.Pairs.{pairs_shorten}
 use Rattle.capture_reader.proofs.hex.read_pairs.Goals as goal
 

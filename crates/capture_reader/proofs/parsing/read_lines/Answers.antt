@@ -1,6 +1,6 @@
 use Rattle.std.proofs.Common.{◌++◌, ◌∷◌, List, ℕ, ap, sym, ◌∙◌}
 use Rattle.capture_reader.specs.Parsing.{line_at}
-use Rattle.capture_reader.proofs.Many.{all_step}
+use Rattle.ipb_base.proofs.Fronts.{all_step}
 use Rattle.capture_reader.proofs.LineLaws.{lines_shorten, lines_more}
 use Rattle.capture_reader.proofs.parsing.read_lines.Goals as goal
 

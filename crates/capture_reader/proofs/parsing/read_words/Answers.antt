@@ -1,7 +1,7 @@
 use Rattle.std.proofs.Common.{◌++◌, List, ℕ, ap, sym, ◌∙◌}
-use Rattle.capture_reader.specs.Fronts.{all_of}
+use Rattle.ipb_base.specs.Fronts.{all_of}
 use Rattle.capture_reader.specs.Parsing.{word_at}
-use Rattle.capture_reader.proofs.Many.{all_step, one_more}
+use Rattle.ipb_base.proofs.Fronts.{all_step, one_more}
 use Rattle.capture_reader.proofs.WordLines.{words_shorten}
 use Rattle.capture_reader.proofs.parsing.read_words.Goals as goal
 

@@ -2,9 +2,9 @@ use Rattle.std.proofs.Common.{◌++◌, ◌∷◌, [], List, ap, sym, subst, ◌
 use Rattle.ipb_base.proofs.AllLemmas.{AllByRecursion-append}
 use Rattle.capture_reader.specs.declared.capture.Caught.{Caught}
 use Rattle.capture_reader.specs.CaptureText.{IsItem, AreItems}
-use Rattle.capture_reader.specs.Fronts.{all_of}
+use Rattle.ipb_base.specs.Fronts.{all_of}
 use Rattle.capture_reader.specs.Parsing.{datagram_at}
-use Rattle.capture_reader.proofs.Many.{one_more}
+use Rattle.ipb_base.proofs.Fronts.{one_more}
 use Rattle.capture_reader.proofs.Datagrams.{datagrams_shorten}
 use Rattle.capture_reader.proofs.undescribing.read_datagrams.Goals as goal
 

@@ -1,6 +1,6 @@
 use Rattle.std.proofs.Common.{◌≡◌, ◌++◌, length}
 use Rattle.capture_reader.specs.CaptureText.{AreItems}
-use Rattle.capture_reader.specs.Fronts.{all_of}
+use Rattle.ipb_base.specs.Fronts.{all_of}
 use Rattle.capture_reader.specs.Parsing.{datagram_at}
 use Rattle.capture_reader.proofs.undescribing.read_datagrams.Given as goal
 

@@ -10,11 +10,11 @@ use Rattle.hub_lane.specs.Calls as lane
 use Rattle.script_plans.specs.declared.greeting.Greeting.TheVariants.{Live}
 use Rattle.transcript.specs.declared.line.BoardLine.TheVariants as board_lines
 use Rattle.transcript.specs.Lines.{is_lost}
-use Rattle.board_history.specs.Order.{Placed, bodies_of as bodies_in, order}
+use Rattle.board_history.specs.Order.{Placed, bodies_in, order}
 use Rattle.lane_history.specs.Records.{has_become}
 use Rattle.lane_history.proofs.Waits.{timeouts_counted}
 use Rattle.client_history.specs.Boards.{run_of}
-use Rattle.client_history.specs.Connections.{bodies_of, dispatches_of}
+use Rattle.client_history.specs.Connections.{submitted_bodies, dispatches_of}
 use Rattle.client_history.proofs.Numbers.{lost_alike, replied_alike, same_count}
 use Rattle.client_history.proofs.Parts.{bodies_shown, dispatches_shown, flat_again, outcomes_shown, record_shown}
 use Rattle.client_history.proofs.Parts.{same_joined, same_lengths}
@@ -25,7 +25,7 @@ returns c =
     λ settings status hub items outcomes lates give_ups down spent telling faults quiets spec payload connections is of.
     let run = run_of spec (record { told = Live payload; connections = connections }) in
     let legal = is.kept.legal in
-    let bodies = map bodies_of connections in
+    let bodies = map submitted_bodies connections in
     let dispatches = map dispatches_of connections in
     let shown = record_shown connections items of in
     let finished = c.a_clients_record_is_finished.ensures bodies dispatches items outcomes of legal in

@@ -2,7 +2,7 @@ use Rattle.std.proofs.Common.{◌≡◌, ℕ, List, [], ◌∷◌, ◌++◌, len
 use Rattle.std.proofs.Common.{append-nil}
 use Rattle.lane_record.specs.declared.outcome.Outcome.{Outcome}
 use Rattle.lane_record.specs.declared.item.Item.{Item}
-use Rattle.lane_record.specs.Dispatches.{Action, Asked, NumberedAction, Taken, joined}
+use Rattle.lane_record.specs.Dispatches.{Action, Asked, NumberedAction, Taken, outcomes_in_order}
 use Rattle.lane_history.specs.Records.{DidDispatches}
 use Rattle.client_history.specs.Clients.{LeftByClients, sealed_plans}
 use Rattle.client_history.specs.ClientExamples.{client_1_alone, side_by_side, two_bodies, two_plans, two_results}
@@ -12,7 +12,7 @@ use Rattle.client_history.proofs.examples.other_records_are_not_left_by_two_clie
 shown_is : (one other : Outcome) (dispatches : List (List (List Outcome)))
     → map (λ (d : List (List Outcome)). map (λ (os : List Outcome). length os) d) dispatches
     ≡ (1 ∷ []) ∷ (1 ∷ []) ∷ []
-    → Some (one ∷ []) ∷ Some (other ∷ []) ∷ [] ≡ map (λ (d : List (List Outcome)). Some (joined d)) dispatches
+    → Some (one ∷ []) ∷ Some (other ∷ []) ∷ [] ≡ map (λ (d : List (List Outcome)). Some (outcomes_in_order d)) dispatches
     → dispatches ≡ ((one ∷ []) ∷ []) ∷ ((other ∷ []) ∷ []) ∷ []
 shown_is one other [] cut shown = absurd cc
 shown_is one other (d ∷ []) cut shown = absurd cc

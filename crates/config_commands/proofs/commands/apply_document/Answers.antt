@@ -1,15 +1,14 @@
-use Rattle.std.proofs.Common.{◌<◌, ◌^◌, length, map, rules, subst, arith}
+use Rattle.std.proofs.Common.{◌<◌, ◌^◌, length, rules, arith}
 use Rattle.session_run.specs.declared.session.RunFault.TheVariants.{NoMemory, Rack}
 use Rattle.session_run.specs.Faults.{IsRunFailure}
 use Rattle.board_greeting.specs.Reports.{shown_by}
 use Rattle.command_terms.specs.Outside.{NoneCame}
-use Rattle.command_terms.proofs.Leaving.{error_left, failure_left, none_came, refusal_left}
+use Rattle.command_terms.proofs.Leaving.{error_left, failure_left, none_came}
 use Rattle.run_laws.specs.Steps.{MayRun}
 use Rattle.config_input.specs.Deserved.{BreaksInApply}
 use Rattle.config_input.specs.Work.{apply_command}
-use Rattle.config_commands.specs.Steps.{RunLeaves}
-use Rattle.config_commands.specs.Terms.{IsRefusedBy, apply_terms}
-use Rattle.config_commands.proofs.Leaving.{kept_unless_refused}
+use Rattle.config_commands.specs.Terms.{apply_terms}
+use Rattle.config_commands.proofs.Leaving.{kept_unless_refused, refused_left}
 use Rattle.config_commands.proofs.Owed.{apply_leaves}
 use Rattle.config_commands.proofs.commands.apply_document.Goals as goal
 
@@ -35,19 +34,15 @@ returns-in_err-refused-in-Err-Refused-clause-leaves g c =
 pub returns-in-Ok-clause-leaves : goal.returns-in-Ok-clause-leaves
 returns-in-Ok-clause-leaves g c =
     let left = c.write_configuration.ensures.leaves in
-    let shown = shown_by g.R.L.Link in
-    let made = g.R.Rack.made c.args.rack.now in
-    let makes = g.R.Rack.made c.write_configuration.new.rack in
     let session = c.in-Ok.read.session in
     let steps = c.in-Ok.read.steps.items in (
       left.0,
       left.1,
       apply_leaves c.runs_over_links_are_runs_of_a_session.ensures
-          c.applied_texts_are_those_of_given_and_opening_values.ensures c.args.bytes.now session steps made makes
-          c.write_configuration.result (map shown left.0) c.in-Ok.ensures.applicable c.in-Ok.ensures.alone
+          c.applied_texts_are_those_of_given_and_opening_values.ensures c.args.bytes.now session steps _ _ _
+          c.write_configuration.result _ c.in-Ok.ensures.applicable c.in-Ok.ensures.alone
           (c.steps_for_a_command_can_be_run.ensures.apply c.args.bytes.now session steps c.in-Ok.ensures.applicable)
-          (subst (λ steps. RunLeaves session steps made makes c.write_configuration.result (map shown left.0))
-          c.deref.ensures.value left.2),
+          c.deref.ensures.value left.2,
     )
 
 pub returns-in-Ok-clause-refused : goal.returns-in-Ok-clause-refused
@@ -58,17 +53,10 @@ returns-in-Ok-clause-refused g c =
 pub returns-in_ok-refused-in-Err-Refused-clause-leaves :
     goal.returns-in_ok-refused-in-Err-Refused-clause-leaves
 returns-in_ok-refused-in-Err-Refused-clause-leaves g c =
-    let shown = shown_by g.R.L.Link in
     let deserved : BreaksInApply c.args.bytes.now c.in-Err-Refused.refusal = search rules in
-    let answer = c.in_ok-refused-in-Err-Refused.field-0 in
-    let refused : IsRefusedBy apply_command c.args.bytes.now answer.text.items =
-    record {
-      refusal = c.in-Err-Refused.refusal;
-      deserved = deserved;
-      spelled = c.in_ok-refused-in-Err-Refused.ensures.text;
-    } in
-    refusal_left NoneCame none_came IsRunFailure Rack shown _ apply_terms c.args.bytes.now _ answer refused
-    c.in_ok-refused-in-Err-Refused.ensures.status
+    refused_left (shown_by g.R.L.Link) _ apply_command apply_terms c.args.bytes.now _
+    c.in_ok-refused-in-Err-Refused.field-0 c.in-Err-Refused.refusal (λ line refused. refused) deserved
+    c.in_ok-refused-in-Err-Refused.ensures.text c.in_ok-refused-in-Err-Refused.ensures.status
 
 pub returns-in-Err-NoMemory-clause-leaves : goal.returns-in-Err-NoMemory-clause-leaves
 returns-in-Err-NoMemory-clause-leaves g c =

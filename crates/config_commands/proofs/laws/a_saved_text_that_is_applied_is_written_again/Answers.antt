@@ -4,7 +4,7 @@ use Rattle.session_input.specs.Deserved.{session_part}
 use Rattle.session_input.proofs.OneAnswer.{one_indexes}
 use Rattle.config_laws.specs.Saved.{AreSaved}
 use Rattle.config_store.proofs.KeptLines.{no_more}
-use Rattle.config_store.specs.Kept.{indexed, kept_of}
+use Rattle.config_store.specs.Kept.{indexed_boards, kept_of}
 use Rattle.config_store.specs.Refusals.{applying_faults}
 use Rattle.config_store.specs.States.{state_entries}
 use Rattle.config_input.specs.Deserved.{IsAsked}
@@ -27,20 +27,20 @@ returns c = λ bytes others links rest text again saved applied document value t
     let asks : IsAsked (applying (Some value)) session policy (steps ∷ []) =
     subst (λ state. IsAsked (applying state) session policy (steps ∷ [])) given is.holds.asks in
     let compiled = asks.boards.compiled in
-    let boards = indexed session.boards asks.registers in
+    let boards = indexed_boards session.boards asks.registers in
     let one = one_indexes c.table_laws.ensures session opening.registers asks.registers
     (same opening.registers opening.compiled) compiled in
-    let are_saved : AreSaved saved.session.boards (kept_of (indexed saved.session.boards asks.registers)) opening.entries =
-    subst (λ registers. AreSaved saved.session.boards (kept_of (indexed saved.session.boards registers)) opening.entries)
+    let are_saved : AreSaved saved.session.boards (kept_of (indexed_boards saved.session.boards asks.registers)) opening.entries =
+    subst (λ registers. AreSaved saved.session.boards (kept_of (indexed_boards saved.session.boards registers)) opening.entries)
     one opening.saved in
     let words = c.the_ranges_of_a_session_name_words.ensures before saved.session is_before in
     let read_back =
     c.configurations_of_a_session_can_be_read_back.ensures before saved.session opening.registers opening.entries is_before
     opening.compiled.each_index
     (c.saved_values_have_words.ensures.each saved.session.boards
-    (kept_of (indexed saved.session.boards opening.registers)) opening.entries opening.saved)
+    (kept_of (indexed_boards saved.session.boards opening.registers)) opening.entries opening.saved)
     (c.saved_values_have_words.ensures.values saved.session.boards
-    (kept_of (indexed saved.session.boards opening.registers)) opening.entries words opening.saved) in
+    (kept_of (indexed_boards saved.session.boards opening.registers)) opening.entries words opening.saved) in
     let right = no_more (state_faults (Some value)) (applying_faults boards (state_entries value)) asks.right in
     let run = applied.written.run.boards in
     let zero = sym applied.written.told in

@@ -2,7 +2,7 @@ use Rattle.std.proofs.Common.{[], ◌∷◌}
 use Rattle.toml.specs.Data.{get_member}
 use Rattle.session_input.specs.Deserved.{session_part}
 use Rattle.config_store.proofs.KeptLines.{no_more}
-use Rattle.config_store.specs.Kept.{indexed}
+use Rattle.config_store.specs.Kept.{indexed_boards}
 use Rattle.config_store.specs.Refusals.{applying_faults}
 use Rattle.config_input.specs.Work.{apply_command, applying, entries_in, state_faults, state_key}
 use Rattle.config_commands.proofs.Texts.{made_boards, script_steps}
@@ -16,7 +16,7 @@ returns c = λ bytes session steps runs links is are tell zero.
     let document = session_part (apply_command.part is.document) in
     let of_document = by.stands.is_session in
     let compiled = asks.boards.compiled in
-    let boards = indexed session.boards asks.registers in
+    let boards = indexed_boards session.boards asks.registers in
     let right = no_more (state_faults value) (applying_faults boards (entries_in value)) asks.right in
     let found =
     c.an_applied_text_is_that_of_given_and_opening_values.ensures session.settings session.boards asks.registers steps

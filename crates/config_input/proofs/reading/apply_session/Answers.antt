@@ -1,6 +1,6 @@
 use Rattle.std.proofs.Common.{option_map, refl}
 use Rattle.toml.specs.View.{view}
-use Rattle.config_store.specs.Kept.{indexed}
+use Rattle.config_store.specs.Kept.{indexed_boards}
 use Rattle.config_store.specs.Refusals.{applying_faults}
 use Rattle.config_input.specs.Deserved.{BreaksInWork, Tells, of_store}
 use Rattle.config_input.specs.Work.{applying, entries_in, state_faults}
@@ -19,5 +19,5 @@ returns-in_err-state-clause-refused c =
     handed_on (Tells (BreaksInWork (applying value) session)) c.from_residual-in_err-state.result
     (of_store c.in_err-state.field-0.0) c.from_residual-in_err-state.ensures.1
     (front_told (applying value) session indexes (state_faults value)
-    (applying_faults (indexed session.boards indexes) (entries_in value)) c.in_err-state.field-0.0
+    (applying_faults (indexed_boards session.boards indexes) (entries_in value)) c.in_err-state.field-0.0
     c.in_ok-indexes.ensures.boards refl c.in_err-state.ensures.refused)

@@ -1,6 +1,6 @@
 use Rattle.std.proofs.Common.{◌≡◌, [], subst}
 use Rattle.config_store.proofs.InOrder.{none_in_order}
-use Rattle.config_store.specs.Kept.{indexed, kept_of}
+use Rattle.config_store.specs.Kept.{indexed_boards, kept_of}
 use Rattle.config_store.specs.Lines.{save_lines}
 use Rattle.config_store.specs.Refusals.{keeping_faults}
 use Rattle.config_input.specs.Work.{saving}
@@ -17,8 +17,8 @@ returns-clause-asked c =
     let shown = c.deref.ensures.value in
     asked_by saving c.args.session c.args.policy c.in_ok-indexes.indexes.items c.deref-2.result.now
     c.in_ok-lines.lines.items c.planned.result c.deref-2.ensures.value c.in_ok-indexes.ensures.boards
-    (subst (λ indexes. keeping_faults (indexed boards indexes) ≡ []) shown c.in_ok-lines.ensures.accepted)
+    (subst (λ indexes. keeping_faults (indexed_boards boards indexes) ≡ []) shown c.in_ok-lines.ensures.accepted)
     none_in_order
-    (subst (λ indexes. c.in_ok-lines.lines.items ≡ save_lines (kept_of (indexed boards indexes))) shown
+    (subst (λ indexes. c.in_ok-lines.lines.items ≡ save_lines (kept_of (indexed_boards boards indexes))) shown
     c.in_ok-lines.ensures.lines)
     c.planned.ensures.own c.planned.ensures.meant

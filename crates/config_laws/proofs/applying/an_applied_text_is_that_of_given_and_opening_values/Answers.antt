@@ -1,9 +1,9 @@
 use Rattle.std.proofs.Common.{List, [], ◌∷◌, length, sym, ◌∙◌, subst}
 use Rattle.script_steps.specs.declared.operation.Step.{Step}
-use Rattle.script_steps.specs.Rulings.{asked}
+use Rattle.script_steps.specs.Rulings.{asked_operations}
 use Rattle.script_lang.specs.OnBoards.{StepsAreOn}
 use Rattle.transcript.specs.Lines.{client_lines}
-use Rattle.config_store.specs.Kept.{indexed, kept_of}
+use Rattle.config_store.specs.Kept.{indexed_boards, kept_of}
 use Rattle.config_store.specs.Lines.{apply_lines}
 use Rattle.config_store.specs.Refusals.{entry_faults, keeping_faults}
 use Rattle.config_store.proofs.KeptLines.{no_more}
@@ -17,7 +17,7 @@ use Rattle.config_laws.proofs.applying.an_applied_text_is_that_of_given_and_open
 pub returns : goal.returns
 returns c = λ settings specs indexes steps runs links state are own names fields.
     λ none order values is tell made words can status.
-    let boards = indexed specs indexes in
+    let boards = indexed_boards specs indexes in
     let kept = kept_of boards in
     let parts = no_more (keeping_faults boards) (entry_faults boards state) none in
     let (writes, reads, are_writes, are_reads, same) =
@@ -35,7 +35,7 @@ returns c = λ settings specs indexes steps runs links state are own names field
     c.written_values_stand_and_other_fields_stay.ensures.others c.a_write_changes_one_word.ensures.here
     c.a_write_puts_its_field.ensures.elsewhere c.kept_registers_overlap_in_a_bit_of_a_word.ensures specs indexes own fields
     parts.0 words state values kept writes reads given read (client_lines runs 0 steps)
-    (subst (λ (ss : List Step). ShowTurns specs [] (asked ss) (client_lines runs 0 steps)) whole turns) in (
+    (subst (λ (ss : List Step). ShowTurns specs [] (asked_operations ss) (client_lines runs 0 steps)) whole turns) in (
       shown,
       applied,
       all_shown specs boards state shown state writes order applied (λ k e at. contains state k e at) given,

@@ -12,7 +12,7 @@ use Rattle.config_store.proofs.kept.kept_registers.Goals as goal
 pub loop-i-preserved : goal.loop-i-preserved
 loop-i-preserved c =
     let es = map.entries c.args.index.now in
-    let all = spec.kept c.args.index.now in
+    let all = spec.registers_kept c.args.index.now in
     let found = c.loop-i.found.items in
     let entry = c.at.ensures.entry in
     elim c.if-branch.branch [

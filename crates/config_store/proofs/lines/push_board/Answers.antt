@@ -13,9 +13,9 @@ returns-in_err-check_overlaps-clause-first c =
     let refusal = c.in_err-check_overlaps.field-0.0 in
     let board = c.args.board.now in
     let index = c.args.index.now in
-    let found : c.as_slice.result.now ≡ kept.kept index = c.as_slice.ensures.value ∙ c.in_ok-found.ensures.kept in
+    let found : c.as_slice.result.now ≡ kept.registers_kept index = c.as_slice.ensures.value ∙ c.in_ok-found.ensures.kept in
     let told : fault.TellsFirst (map {A = Name} {B = StoreFault} (λ name. (board.name, name, Overlap))
-    (overlapping_names [] (kept.kept index))) refusal =
+    (overlapping_names [] (kept.registers_kept index))) refusal =
     rw (← found, ← c.as_str-board.ensures) c.in_err-check_overlaps.ensures.first in
     handed_on (fault.TellsFirst (fault.overlap_faults (board, index))) c.from_residual-in_err-check_overlaps.result refusal
     c.from_residual-in_err-check_overlaps.ensures.1 told

@@ -8,8 +8,8 @@ use Rattle.config_store.proofs.lines.reads.Given as goal
 -- the lines so far and those of the boards that are left, and the faults of these
 abbrev pub invariant-loop-i : goal.invariant-loop-i
 invariant-loop-i l = record {
-  lines : l.lines.items ++ spec.save_lines (kept.kept_of (kept.indexed (drop l.i l.boards) (drop l.i l.indexes)))
-      ≡ spec.save_lines (kept.kept_of (kept.indexed l.boards l.indexes));
-  faults : flat_map fault.overlap_faults (kept.indexed (drop l.i l.boards) (drop l.i l.indexes))
-      ≡ flat_map fault.overlap_faults (kept.indexed l.boards l.indexes);
+  lines : l.lines.items ++ spec.save_lines (kept.kept_of (kept.indexed_boards (drop l.i l.boards) (drop l.i l.indexes)))
+      ≡ spec.save_lines (kept.kept_of (kept.indexed_boards l.boards l.indexes));
+  faults : flat_map fault.overlap_faults (kept.indexed_boards (drop l.i l.boards) (drop l.i l.indexes))
+      ≡ flat_map fault.overlap_faults (kept.indexed_boards l.boards l.indexes);
 }

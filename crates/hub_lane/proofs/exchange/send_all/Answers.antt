@@ -1,12 +1,13 @@
 use Rattle.std.proofs.Common.{◌∙◌, ℕ, List, subst, refl, sym, arith}
 use Rattle.world_model.specs.Sends.{Next}
 use Rattle.world_core.specs.Telling.{IfTelling, IsSent}
-use Rattle.hub_lane.proofs.Sends.{all_out, next_is, none_is, one_less, same_hub, sent_more}
+use Rattle.world_core.proofs.Sends.{next_is}
+use Rattle.hub_lane.proofs.Sends.{all_out, none_is, one_less, same_hub, sent_more}
 use Rattle.hub_lane.specs.Carrying.{HasPut}
+use Rattle.hub_lane.specs.PumpLaws.{SendLeaves}
 use Rattle.hub_lane.proofs.Carrying.{put_more, put_none_by}
 use Rattle.hub_lane.proofs.Linked.{none_counted, refused_stays, sent_board, sent_on, sent_stays, stays_here}
 use Rattle.hub_lane.proofs.Linked.{still_spelled, still_uncounted}
-use Rattle.hub_lane.proofs.Standing.{SendLeaves}
 use Rattle.hub_lane.proofs.Rounds.{pays_sent}
 use Rattle.hub_lane.proofs.InRounds.{none_sent, round_sent, same_link}
 use Rattle.hub_lane.proofs.exchange.send_all.Goals as goal

@@ -1,4 +1,4 @@
-use Rattle.std.proofs.Common.{◌≡◌, ◌⊎◌, ℕ, List, ◌++◌, Option, Some, rules, sym, ap, ◌∙◌, subst, inr}
+use Rattle.std.proofs.Common.{◌≡◌, ℕ, List, ◌++◌, Option, Some, rules, sym, ap, ◌∙◌, subst, inr}
 use Rattle.std.specs.List.{slice_get}
 use Rattle.packet_codec.specs.declared.packet.Packet.{Packet}
 use Rattle.hub_lane.specs.declared.answers.BoardState.{BoardState}

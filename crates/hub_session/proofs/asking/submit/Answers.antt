@@ -1,5 +1,4 @@
-use Rattle.std.proofs.Common.{◌≡◌, ◌≢◌, true, false, refl, subst}
-use Rattle.hub_lane.specs.declared.answers.PlanRefusal.TheVariants as refusals
+use Rattle.std.proofs.Common.{sym, subst}
 use Rattle.hub_multiplexer.specs.Seats.{ChangesAt}
 use Rattle.hub_multiplexer.specs.Calls.{HasSubmitted, IsNone, MadeInTime, PerformMeans, SubmitRefused}
 use Rattle.hub_multiplexer.specs.OwnItems.{HasTakenAllOf}
@@ -55,34 +54,29 @@ returns-in_ok-take-in-Ok-clause-settled g c =
     (returns-in_ok-take-in-Ok-clause-got g c) (λ k after h s. settled_next k after body outcome s h)
     c.requires.settled
 
-pub returns-then-eq-clause-reached : goal.returns-then-eq-clause-reached
-returns-then-eq-clause-reached g c =
-    let body = c.args.body in
-    let why = c.in-Err.why in
-    let is : why ≡ refusals.NoMemory = elim why as (λ w. why ≡ w → why ≡ refusals.NoMemory) [
-      | refusals.Sealed ↦ λ e. (let untrue : true ≡ false = rw e at c.if-eq.ensures in absurd cc)
-      | refusals.TooLong ↦ λ e. (let untrue : true ≡ false = rw e at c.if-eq.ensures in absurd cc)
-      | refusals.ReplyTooLong ↦ λ e. (let untrue : true ≡ false = rw e at c.if-eq.ensures in absurd cc)
-      | refusals.Overfull ↦ λ e. (let untrue : true ≡ false = rw e at c.if-eq.ensures in absurd cc)
-      | refusals.NoMemory ↦ λ e. e
-    ] refl in
-    no_memory_at c.args.lane c.args.seat.now c.submit.new.seat body
-    (subst (λ w. ChangesAt c.args.lane c.args.seat.now c.submit.new.seat (λ k. MadeInTime k (SubmitRefused k body w)))
-    is c.in-Err.ensures.refused)
-
-pub returns-else-eq : goal.returns-else-eq
-returns-else-eq g c =
+pub returns-in_err-rule_of-in-Err-clause-reached : goal.returns-in_err-rule_of-in-Err-clause-reached
+returns-in_err-rule_of-in-Err-clause-reached g c =
     let lane = c.args.lane in
     let body = c.args.body in
     let old = c.args.seat.now in
     let new = c.submit.new.seat in
-    let why = c.in-Err.why in
-    let ne : why ≢ refusals.NoMemory = λ same. (let untrue : false ≡ true = rw same at c.if-eq.ensures in absurd cc) in
-    let refused = said lane old new (λ k. MadeInTime k (SubmitRefused k body why)) (WasRefused body why)
-    c.in-Err.ensures.refused (λ k after there m. was_refused k after body why ne m) in record {
-      same = same_seat lane old new (WasRefused body why) refused;
+    on_err_holds c.from_residual-in_err-rule_of-in-Err.result (no_memory_at lane old new body
+    (subst (λ w. ChangesAt lane old new (λ k. MadeInTime k (SubmitRefused k body w)))
+    c.in_err-rule_of-in-Err.ensures.memory c.in-Err.ensures.refused))
+
+pub returns-in_ok-rule_of-in-Err : goal.returns-in_ok-rule_of-in-Err
+returns-in_ok-rule_of-in-Err g c =
+    let lane = c.args.lane in
+    let body = c.args.body in
+    let old = c.args.seat.now in
+    let new = c.submit.new.seat in
+    let rule = c.in_ok-rule_of-in-Err.field-0 in
+    let refused = said lane old new (λ k. MadeInTime k (SubmitRefused k body c.in-Err.why)) (WasRefused body rule)
+    c.in-Err.ensures.refused (λ k after there m. was_refused k after body rule
+    (subst (λ w. MadeInTime k (SubmitRefused k body w) after) (sym c.in_ok-rule_of-in-Err.ensures.rule) m)) in record {
+      same = same_seat lane old new (WasRefused body rule) refused;
       got = refused;
-      settled = all_after IsSettled lane old new (WasRefused body why) refused
+      settled = all_after IsSettled lane old new (WasRefused body rule) refused
           (λ k after w s. settled_looked k after s w.grew) c.requires.settled;
       reached = tt;
     }

@@ -1,4 +1,4 @@
-use Rattle.std.proofs.Common.{◌≡◌, ℕ, List, Option, ◌++◌, sym, subst}
+use Rattle.std.proofs.Common.{ℕ, List, Option, ◌++◌, sym, subst}
 use Rattle.hub_framing.specs.Frames.{frame_bytes}
 use Rattle.hub_session.specs.declared.served.SessionEnd.{SessionEnd}
 use Rattle.hub_session.specs.Inside.{ComesToEnd, IsServing, standing}

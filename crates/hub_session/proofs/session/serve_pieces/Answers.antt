@@ -1,4 +1,4 @@
-use Rattle.std.proofs.Common.{◌≡◌, ◌≤◌, ℕ, [], length, rules, refl, sym, subst, arith}
+use Rattle.std.proofs.Common.{[], rules, refl, sym, subst, arith}
 use Rattle.hub_framing.specs.Frames.{IsBegun}
 use Rattle.hub_session.specs.Inside.{Opening, standing}
 use Rattle.hub_session.proofs.Connections.{begins}

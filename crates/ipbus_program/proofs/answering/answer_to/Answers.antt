@@ -1,62 +1,32 @@
-use Rattle.std.proofs.Common.{Ok, [], map, refl, sym, subst, ◌∙◌, ap}
-use Rattle.session_run.specs.Faults.{IsRunFailure}
-use Rattle.session_run.specs.declared.session.RunFault.TheVariants as run
+use Rattle.std.proofs.Common.{Ok, sym, subst, ◌∙◌, ap}
 use Rattle.session_serve.specs.Faults.{IsServeFailure}
 use Rattle.session_serve.specs.Serving.{AreBack}
 use Rattle.session_serve.specs.declared.report.ServeFault.TheVariants as serve
-use Rattle.session_serve.proofs.Standing.{none_served}
 use Rattle.std.specs.Result.{IsOkAnd}
 use Rattle.ipb_outside.specs.Doors.{Listens}
 use Rattle.board_greeting.specs.Reports.{shown_by}
-use Rattle.command_words.specs.declared.command.Command.TheVariants.{Check, Run}
+use Rattle.command_words.specs.declared.command.Command.TheVariants.{Check}
 use Rattle.command_terms.specs.Leaving.{Leaves}
-use Rattle.command_terms.specs.Outside.{NoneCame, no_pairs}
-use Rattle.command_terms.specs.Terms.{Owes}
-use Rattle.command_terms.proofs.Leaving.{done_as, failed_as, failure_left, nothing_left}
-use Rattle.command_terms.proofs.Pairs.{therefore, without_pairs}
+use Rattle.command_terms.proofs.Leaving.{done_as, failed_as}
+use Rattle.command_terms.proofs.Pairs.{therefore}
 use Rattle.ipbus_program.specs.Commands.{terms_of}
-use Rattle.ipbus_program.specs.declared.no_answer.NoAnswer.TheVariants.{NoMemory, RackFault}
-use Rattle.ipbus_program.specs.Steps.{IsFailure, no_answer_of, no_answer_served}
+use Rattle.ipbus_program.specs.declared.no_answer.NoAnswer.TheVariants.{RackFault}
+use Rattle.ipbus_program.specs.Steps.{IsFailure, no_answer_served}
 use Rattle.serve_command.proofs.Ports.{IsNoRefusal, failed_listens}
-use Rattle.ipbus_program.proofs.Faults.{one_port, run_behind, run_no_door, run_rack, serve_behind, serve_rack}
-use Rattle.ipbus_program.proofs.Served.{none_as_served}
+use Rattle.ipbus_program.proofs.Answered.{ran_answered, ran_failed, told_answered, told_failed}
+use Rattle.ipbus_program.proofs.Faults.{one_port, run_no_door, serve_behind, serve_rack}
 use Rattle.ipbus_program.proofs.answering.answer_to.Goals as goal
 
 pub returns-in_err-run_document-in-Run-clause-leaves : goal.returns-in_err-run_document-in-Run-clause-leaves
 returns-in_err-run_document-in-Run-clause-leaves g c =
-    let shown = shown_by g.R.L.Link in
-    let made = g.R.Rack.made c.args.rack.now in
-    let makes = g.R.Rack.made c.run_document.new.rack in
-    let left = c.in_err-run_document-in-Run.ensures.leaves in
-    let result = c.from_residual.result in
-    without_pairs shown g.D.Incoming.Source g.D.Outgoing.Sink _ _ _ _ _ _ refl refl
-    (Leaves AreBack IsFailure RackFault (terms_of c.args.command.now) c.args.bytes.now made makes result) (
-      left.0,
-      left.1,
-      subst (λ command. Leaves AreBack IsFailure RackFault (terms_of command) c.args.bytes.now made makes result
-          (no_pairs (map shown left.0))) (sym c.in-Run.is)
-          (failed_as NoneCame AreBack none_as_served IsRunFailure run.Rack IsFailure RackFault (terms_of Run)
-          c.args.bytes.now made makes (no_pairs (map shown left.0)) no_answer_of
-          c.in_err-run_document-in-Run.field-0.0 result (run_behind _) (run_rack _)
-          c.from_residual.ensures.0 c.from_residual.ensures.1 left.2),
-    )
+    ran_failed (shown_by g.R.L.Link) g.D.Incoming.Source g.D.Outgoing.Sink _ _ _ _ c.args.command.now _ c.in-Run.is
+    c.args.bytes.now _ _ c.in_err-run_document-in-Run.field-0.0 _ c.from_residual.ensures.0 c.from_residual.ensures.1
+    c.in_err-run_document-in-Run.ensures.leaves
 
 pub returns-in_ok-run_document-in-Run-clause-leaves : goal.returns-in_ok-run_document-in-Run-clause-leaves
 returns-in_ok-run_document-in-Run-clause-leaves g c =
-    let shown = shown_by g.R.L.Link in
-    let made = g.R.Rack.made c.args.rack.now in
-    let makes = g.R.Rack.made c.run_document.new.rack in
-    let left = c.in_ok-run_document-in-Run.ensures.leaves in
-    let answer = c.in_ok-run_document-in-Run.field-0 in
-    without_pairs shown g.D.Incoming.Source g.D.Outgoing.Sink _ _ _ _ _ _ refl refl
-    (Leaves AreBack IsFailure RackFault (terms_of c.args.command.now) c.args.bytes.now made makes (Ok answer)) (
-      left.0,
-      left.1,
-      subst (λ command. Leaves AreBack IsFailure RackFault (terms_of command) c.args.bytes.now made makes (Ok answer)
-          (no_pairs (map shown left.0))) (sym c.in-Run.is)
-          (done_as NoneCame AreBack none_as_served IsRunFailure run.Rack IsFailure RackFault (terms_of Run)
-          c.args.bytes.now made makes (no_pairs (map shown left.0)) answer left.2),
-    )
+    ran_answered (shown_by g.R.L.Link) g.D.Incoming.Source g.D.Outgoing.Sink _ _ _ _ c.args.command.now _ c.in-Run.is
+    c.args.bytes.now _ _ c.in_ok-run_document-in-Run.field-0 c.in_ok-run_document-in-Run.ensures.leaves
 
 pub returns-in_err-run_document-in-Run-clause-serves : goal.returns-in_err-run_document-in-Run-clause-serves
 returns-in_err-run_document-in-Run-clause-serves g c = λ door.
@@ -64,26 +34,14 @@ returns-in_err-run_document-in-Run-clause-serves g c = λ door.
 
 pub returns-in_err-check_document-in-Check-clause-leaves : goal.returns-in_err-check_document-in-Check-clause-leaves
 returns-in_err-check_document-in-Check-clause-leaves g c =
-    let shown = shown_by g.R.L.Link in
-    let made = g.R.Rack.made c.args.rack.now in
-    without_pairs shown g.D.Incoming.Source g.D.Outgoing.Sink _ _ _ _ _ _ refl refl
-    (Leaves AreBack IsFailure RackFault (terms_of c.args.command.now) c.args.bytes.now made made _)
-    (failure_left AreBack none_served IsFailure RackFault shown _ (terms_of c.args.command.now) c.args.bytes.now _ _
-    NoMemory c.from_residual-in_err-check_document-in-Check.ensures.0
-    c.from_residual-in_err-check_document-in-Check.ensures.1 (λ failed. failed))
+    told_failed (shown_by g.R.L.Link) g.D.Incoming.Source g.D.Outgoing.Sink _ _ _ c.args.command.now c.args.bytes.now _
+    _ c.from_residual-in_err-check_document-in-Check.ensures.0 c.from_residual-in_err-check_document-in-Check.ensures.1
 
 pub returns-in_ok-check_document-in-Check-clause-leaves : goal.returns-in_ok-check_document-in-Check-clause-leaves
 returns-in_ok-check_document-in-Check-clause-leaves g c =
-    let shown = shown_by g.R.L.Link in
-    let made = g.R.Rack.made c.args.rack.now in
-    let answer = c.in_ok-check_document-in-Check.field-0 in
-    let same = ap Check c.as_str.ensures ∙ sym c.in-Check.is in
-    without_pairs shown g.D.Incoming.Source g.D.Outgoing.Sink _ _ _ _ _ _ refl refl
-    (Leaves AreBack IsFailure RackFault (terms_of c.args.command.now) c.args.bytes.now made made _)
-    (nothing_left AreBack none_served IsFailure RackFault shown _ (terms_of c.args.command.now) c.args.bytes.now _ _
-    (subst (λ command. Owes (terms_of command) c.args.bytes.now (no_pairs []) answer.status answer.text.items) same
-    c.in_ok-check_document-in-Check.ensures.owed)
-    (λ fault never. absurd cc))
+    told_answered (shown_by g.R.L.Link) g.D.Incoming.Source g.D.Outgoing.Sink _ _ _ c.args.command.now c.args.bytes.now
+    _ _ (c.in-Check.is ∙ sym (ap Check c.as_str.ensures)) c.in_ok-check_document-in-Check.field-0
+    c.in_ok-check_document-in-Check.ensures.owed
 
 pub returns-in_err-serve_document-in-Serve-clause-leaves : goal.returns-in_err-serve_document-in-Serve-clause-leaves
 returns-in_err-serve_document-in-Serve-clause-leaves g c =
@@ -99,7 +57,8 @@ returns-in_err-serve_document-in-Serve-clause-leaves g c =
     (failed_as AreBack AreBack (λ came back served. served) IsServeFailure serve.Rack IsFailure RackFault _
     c.args.bytes.now made makes given
     no_answer_served c.in_err-serve_document-in-Serve.field-0.0 result (serve_behind _) (serve_rack _)
-    c.from_residual-in_err-serve_document-in-Serve.ensures.0 c.from_residual-in_err-serve_document-in-Serve.ensures.1 leaves))
+    c.from_residual-in_err-serve_document-in-Serve.ensures.0 c.from_residual-in_err-serve_document-in-Serve.ensures.1
+    leaves))
     c.in_err-serve_document-in-Serve.ensures.leaves
 
 pub returns-in_ok-serve_document-in-Serve-clause-leaves : goal.returns-in_ok-serve_document-in-Serve-clause-leaves
@@ -119,217 +78,88 @@ returns-in_ok-serve_document-in-Serve-clause-leaves g c =
 
 pub returns-in_err-answer_load-in-Load-clause-leaves : goal.returns-in_err-answer_load-in-Load-clause-leaves
 returns-in_err-answer_load-in-Load-clause-leaves g c =
-    let shown = shown_by g.R.L.Link in
-    let made = g.R.Rack.made c.args.rack.now in
-    let makes = g.R.Rack.made c.answer_load.new.rack in
-    let left = c.in_err-answer_load-in-Load.ensures.leaves c.args.bytes.now in
-    let result = c.from_residual-in_err-answer_load-in-Load.result in
-    without_pairs shown g.D.Incoming.Source g.D.Outgoing.Sink _ _ _ _ _ _ refl refl
-    (Leaves AreBack IsFailure RackFault (terms_of c.args.command.now) c.args.bytes.now made makes result) (
-      left.0,
-      left.1,
-      subst (λ command. Leaves AreBack IsFailure RackFault (terms_of command) c.args.bytes.now made makes result
-          (no_pairs (map shown left.0))) (sym c.in-Load.is)
-          (failed_as NoneCame AreBack none_as_served IsRunFailure run.Rack IsFailure RackFault _
-          c.args.bytes.now made makes (no_pairs (map shown left.0)) no_answer_of
-          c.in_err-answer_load-in-Load.field-0.0 result (run_behind _) (run_rack _)
-          c.from_residual-in_err-answer_load-in-Load.ensures.0
-          c.from_residual-in_err-answer_load-in-Load.ensures.1 left.2),
-    )
+    ran_failed (shown_by g.R.L.Link) g.D.Incoming.Source g.D.Outgoing.Sink _ _ _ _ c.args.command.now _ c.in-Load.is
+    c.args.bytes.now _ _ c.in_err-answer_load-in-Load.field-0.0 _ c.from_residual-in_err-answer_load-in-Load.ensures.0
+    c.from_residual-in_err-answer_load-in-Load.ensures.1 (c.in_err-answer_load-in-Load.ensures.leaves c.args.bytes.now)
 
 pub returns-in_ok-answer_load-in-Load-clause-leaves : goal.returns-in_ok-answer_load-in-Load-clause-leaves
 returns-in_ok-answer_load-in-Load-clause-leaves g c =
-    let shown = shown_by g.R.L.Link in
-    let made = g.R.Rack.made c.args.rack.now in
-    let makes = g.R.Rack.made c.answer_load.new.rack in
-    let left = c.in_ok-answer_load-in-Load.ensures.leaves c.args.bytes.now in
-    let answer = c.in_ok-answer_load-in-Load.field-0 in
-    without_pairs shown g.D.Incoming.Source g.D.Outgoing.Sink _ _ _ _ _ _ refl refl
-    (Leaves AreBack IsFailure RackFault (terms_of c.args.command.now) c.args.bytes.now made makes (Ok answer)) (
-      left.0,
-      left.1,
-      subst (λ command. Leaves AreBack IsFailure RackFault (terms_of command) c.args.bytes.now made makes (Ok answer)
-          (no_pairs (map shown left.0))) (sym c.in-Load.is)
-          (done_as NoneCame AreBack none_as_served IsRunFailure run.Rack IsFailure RackFault _
-          c.args.bytes.now made makes (no_pairs (map shown left.0)) answer left.2),
-    )
+    ran_answered (shown_by g.R.L.Link) g.D.Incoming.Source g.D.Outgoing.Sink _ _ _ _ c.args.command.now _ c.in-Load.is
+    c.args.bytes.now _ _ c.in_ok-answer_load-in-Load.field-0
+    (c.in_ok-answer_load-in-Load.ensures.leaves c.args.bytes.now)
 
 pub returns-in_err-audit_answer-in-Audit-clause-leaves : goal.returns-in_err-audit_answer-in-Audit-clause-leaves
 returns-in_err-audit_answer-in-Audit-clause-leaves g c =
-    let shown = shown_by g.R.L.Link in
-    let made = g.R.Rack.made c.args.rack.now in
-    without_pairs shown g.D.Incoming.Source g.D.Outgoing.Sink _ _ _ _ _ _ refl refl
-    (Leaves AreBack IsFailure RackFault (terms_of c.args.command.now) c.args.bytes.now made made _)
-    (failure_left AreBack none_served IsFailure RackFault shown _ (terms_of c.args.command.now) c.args.bytes.now _ _ NoMemory
-    c.from_residual-in_err-audit_answer-in-Audit.ensures.0 c.from_residual-in_err-audit_answer-in-Audit.ensures.1
-    (λ failed. failed))
+    told_failed (shown_by g.R.L.Link) g.D.Incoming.Source g.D.Outgoing.Sink _ _ _ c.args.command.now c.args.bytes.now _
+    _ c.from_residual-in_err-audit_answer-in-Audit.ensures.0 c.from_residual-in_err-audit_answer-in-Audit.ensures.1
 
 pub returns-in_ok-audit_answer-in-Audit-clause-leaves : goal.returns-in_ok-audit_answer-in-Audit-clause-leaves
 returns-in_ok-audit_answer-in-Audit-clause-leaves g c =
-    let shown = shown_by g.R.L.Link in
-    let made = g.R.Rack.made c.args.rack.now in
-    let answer = c.in_ok-audit_answer-in-Audit.field-0 in
-    without_pairs shown g.D.Incoming.Source g.D.Outgoing.Sink _ _ _ _ _ _ refl refl
-    (Leaves AreBack IsFailure RackFault (terms_of c.args.command.now) c.args.bytes.now made made _)
-    (nothing_left AreBack none_served IsFailure RackFault shown _ (terms_of c.args.command.now) c.args.bytes.now _ _
-    (subst (λ command. Owes (terms_of command) c.args.bytes.now (no_pairs []) answer.status answer.text.items)
-    (sym c.in-Audit.is) c.in_ok-audit_answer-in-Audit.ensures.owed)
-    (λ fault never. absurd cc))
+    told_answered (shown_by g.R.L.Link) g.D.Incoming.Source g.D.Outgoing.Sink _ _ _ c.args.command.now c.args.bytes.now
+    _ _ c.in-Audit.is c.in_ok-audit_answer-in-Audit.field-0 c.in_ok-audit_answer-in-Audit.ensures.owed
 
-pub returns-in_err-describe_answer-in-Describe-clause-leaves : goal.returns-in_err-describe_answer-in-Describe-clause-leaves
+pub returns-in_err-describe_answer-in-Describe-clause-leaves :
+    goal.returns-in_err-describe_answer-in-Describe-clause-leaves
 returns-in_err-describe_answer-in-Describe-clause-leaves g c =
-    let shown = shown_by g.R.L.Link in
-    let made = g.R.Rack.made c.args.rack.now in
-    without_pairs shown g.D.Incoming.Source g.D.Outgoing.Sink _ _ _ _ _ _ refl refl
-    (Leaves AreBack IsFailure RackFault (terms_of c.args.command.now) c.args.bytes.now made made _)
-    (failure_left AreBack none_served IsFailure RackFault shown _ (terms_of c.args.command.now) c.args.bytes.now _ _
-    NoMemory c.from_residual-in_err-describe_answer-in-Describe.ensures.0
-    c.from_residual-in_err-describe_answer-in-Describe.ensures.1 (λ failed. failed))
+    told_failed (shown_by g.R.L.Link) g.D.Incoming.Source g.D.Outgoing.Sink _ _ _ c.args.command.now c.args.bytes.now _
+    _ c.from_residual-in_err-describe_answer-in-Describe.ensures.0
+    c.from_residual-in_err-describe_answer-in-Describe.ensures.1
 
-pub returns-in_ok-describe_answer-in-Describe-clause-leaves : goal.returns-in_ok-describe_answer-in-Describe-clause-leaves
+pub returns-in_ok-describe_answer-in-Describe-clause-leaves :
+    goal.returns-in_ok-describe_answer-in-Describe-clause-leaves
 returns-in_ok-describe_answer-in-Describe-clause-leaves g c =
-    let shown = shown_by g.R.L.Link in
-    let made = g.R.Rack.made c.args.rack.now in
-    let answer = c.in_ok-describe_answer-in-Describe.field-0 in
-    without_pairs shown g.D.Incoming.Source g.D.Outgoing.Sink _ _ _ _ _ _ refl refl
-    (Leaves AreBack IsFailure RackFault (terms_of c.args.command.now) c.args.bytes.now made made _)
-    (nothing_left AreBack none_served IsFailure RackFault shown _ (terms_of c.args.command.now) c.args.bytes.now _ _
-    (subst (λ command. Owes (terms_of command) c.args.bytes.now (no_pairs []) answer.status answer.text.items)
-    (sym c.in-Describe.is) c.in_ok-describe_answer-in-Describe.ensures.owed)
-    (λ fault never. absurd cc))
+    told_answered (shown_by g.R.L.Link) g.D.Incoming.Source g.D.Outgoing.Sink _ _ _ c.args.command.now c.args.bytes.now
+    _ _ c.in-Describe.is c.in_ok-describe_answer-in-Describe.field-0 c.in_ok-describe_answer-in-Describe.ensures.owed
 
-pub returns-in_err-undescribe_answer-in-Undescribe-clause-leaves : goal.returns-in_err-undescribe_answer-in-Undescribe-clause-leaves
+pub returns-in_err-undescribe_answer-in-Undescribe-clause-leaves :
+    goal.returns-in_err-undescribe_answer-in-Undescribe-clause-leaves
 returns-in_err-undescribe_answer-in-Undescribe-clause-leaves g c =
-    let shown = shown_by g.R.L.Link in
-    let made = g.R.Rack.made c.args.rack.now in
-    without_pairs shown g.D.Incoming.Source g.D.Outgoing.Sink _ _ _ _ _ _ refl refl
-    (Leaves AreBack IsFailure RackFault (terms_of c.args.command.now) c.args.bytes.now made made _)
-    (failure_left AreBack none_served IsFailure RackFault shown _ (terms_of c.args.command.now) c.args.bytes.now _ _
-    NoMemory c.from_residual-in_err-undescribe_answer-in-Undescribe.ensures.0
-    c.from_residual-in_err-undescribe_answer-in-Undescribe.ensures.1 (λ failed. failed))
+    told_failed (shown_by g.R.L.Link) g.D.Incoming.Source g.D.Outgoing.Sink _ _ _ c.args.command.now c.args.bytes.now _
+    _ c.from_residual-in_err-undescribe_answer-in-Undescribe.ensures.0
+    c.from_residual-in_err-undescribe_answer-in-Undescribe.ensures.1
 
-pub returns-in_ok-undescribe_answer-in-Undescribe-clause-leaves : goal.returns-in_ok-undescribe_answer-in-Undescribe-clause-leaves
+pub returns-in_ok-undescribe_answer-in-Undescribe-clause-leaves :
+    goal.returns-in_ok-undescribe_answer-in-Undescribe-clause-leaves
 returns-in_ok-undescribe_answer-in-Undescribe-clause-leaves g c =
-    let shown = shown_by g.R.L.Link in
-    let made = g.R.Rack.made c.args.rack.now in
-    let answer = c.in_ok-undescribe_answer-in-Undescribe.field-0 in
-    without_pairs shown g.D.Incoming.Source g.D.Outgoing.Sink _ _ _ _ _ _ refl refl
-    (Leaves AreBack IsFailure RackFault (terms_of c.args.command.now) c.args.bytes.now made made _)
-    (nothing_left AreBack none_served IsFailure RackFault shown _ (terms_of c.args.command.now) c.args.bytes.now _ _
-    (subst (λ command. Owes (terms_of command) c.args.bytes.now (no_pairs []) answer.status answer.text.items)
-    (sym c.in-Undescribe.is) c.in_ok-undescribe_answer-in-Undescribe.ensures.owed)
-    (λ fault never. absurd cc))
+    told_answered (shown_by g.R.L.Link) g.D.Incoming.Source g.D.Outgoing.Sink _ _ _ c.args.command.now c.args.bytes.now
+    _ _ c.in-Undescribe.is c.in_ok-undescribe_answer-in-Undescribe.field-0
+    c.in_ok-undescribe_answer-in-Undescribe.ensures.owed
 
 pub returns-in_err-record_document-in-Record-clause-leaves : goal.returns-in_err-record_document-in-Record-clause-leaves
 returns-in_err-record_document-in-Record-clause-leaves g c =
-    let shown = shown_by g.R.L.Link in
-    let made = g.R.Rack.made c.args.rack.now in
-    let makes = g.R.Rack.made c.record_document.new.rack in
-    let left = c.in_err-record_document-in-Record.ensures.leaves in
-    let result = c.from_residual-in_err-record_document-in-Record.result in
-    without_pairs shown g.D.Incoming.Source g.D.Outgoing.Sink _ _ _ _ _ _ refl refl
-    (Leaves AreBack IsFailure RackFault (terms_of c.args.command.now) c.args.bytes.now made makes result) (
-      left.0,
-      left.1,
-      subst (λ command. Leaves AreBack IsFailure RackFault (terms_of command) c.args.bytes.now made makes result
-          (no_pairs (map shown left.0))) (sym c.in-Record.is)
-          (failed_as NoneCame AreBack none_as_served IsRunFailure run.Rack IsFailure RackFault _
-          c.args.bytes.now made makes (no_pairs (map shown left.0)) no_answer_of
-          c.in_err-record_document-in-Record.field-0.0 result (run_behind _) (run_rack _)
-          c.from_residual-in_err-record_document-in-Record.ensures.0
-          c.from_residual-in_err-record_document-in-Record.ensures.1 left.2),
-    )
+    ran_failed (shown_by g.R.L.Link) g.D.Incoming.Source g.D.Outgoing.Sink _ _ _ _ c.args.command.now _ c.in-Record.is
+    c.args.bytes.now _ _ c.in_err-record_document-in-Record.field-0.0 _
+    c.from_residual-in_err-record_document-in-Record.ensures.0
+    c.from_residual-in_err-record_document-in-Record.ensures.1 c.in_err-record_document-in-Record.ensures.leaves
 
 pub returns-in_ok-record_document-in-Record-clause-leaves : goal.returns-in_ok-record_document-in-Record-clause-leaves
 returns-in_ok-record_document-in-Record-clause-leaves g c =
-    let shown = shown_by g.R.L.Link in
-    let made = g.R.Rack.made c.args.rack.now in
-    let makes = g.R.Rack.made c.record_document.new.rack in
-    let left = c.in_ok-record_document-in-Record.ensures.leaves in
-    let answer = c.in_ok-record_document-in-Record.field-0 in
-    without_pairs shown g.D.Incoming.Source g.D.Outgoing.Sink _ _ _ _ _ _ refl refl
-    (Leaves AreBack IsFailure RackFault (terms_of c.args.command.now) c.args.bytes.now made makes (Ok answer)) (
-      left.0,
-      left.1,
-      subst (λ command. Leaves AreBack IsFailure RackFault (terms_of command) c.args.bytes.now made makes (Ok answer)
-          (no_pairs (map shown left.0))) (sym c.in-Record.is)
-          (done_as NoneCame AreBack none_as_served IsRunFailure run.Rack IsFailure RackFault _
-          c.args.bytes.now made makes (no_pairs (map shown left.0)) answer left.2),
-    )
+    ran_answered (shown_by g.R.L.Link) g.D.Incoming.Source g.D.Outgoing.Sink _ _ _ _ c.args.command.now _ c.in-Record.is
+    c.args.bytes.now _ _ c.in_ok-record_document-in-Record.field-0 c.in_ok-record_document-in-Record.ensures.leaves
 
 pub returns-in_err-save_document-in-Save-clause-leaves : goal.returns-in_err-save_document-in-Save-clause-leaves
 returns-in_err-save_document-in-Save-clause-leaves g c =
-    let shown = shown_by g.R.L.Link in
-    let made = g.R.Rack.made c.args.rack.now in
-    let makes = g.R.Rack.made c.save_document.new.rack in
-    let left = c.in_err-save_document-in-Save.ensures.leaves in
-    let result = c.from_residual-in_err-save_document-in-Save.result in
-    without_pairs shown g.D.Incoming.Source g.D.Outgoing.Sink _ _ _ _ _ _ refl refl
-    (Leaves AreBack IsFailure RackFault (terms_of c.args.command.now) c.args.bytes.now made makes result) (
-      left.0,
-      left.1,
-      subst (λ command. Leaves AreBack IsFailure RackFault (terms_of command) c.args.bytes.now made makes result
-          (no_pairs (map shown left.0))) (sym c.in-Save.is)
-          (failed_as NoneCame AreBack none_as_served IsRunFailure run.Rack IsFailure RackFault _
-          c.args.bytes.now made makes (no_pairs (map shown left.0)) no_answer_of
-          c.in_err-save_document-in-Save.field-0.0 result (run_behind _) (run_rack _)
-          c.from_residual-in_err-save_document-in-Save.ensures.0
-          c.from_residual-in_err-save_document-in-Save.ensures.1 left.2),
-    )
+    ran_failed (shown_by g.R.L.Link) g.D.Incoming.Source g.D.Outgoing.Sink _ _ _ _ c.args.command.now _ c.in-Save.is
+    c.args.bytes.now _ _ c.in_err-save_document-in-Save.field-0.0 _
+    c.from_residual-in_err-save_document-in-Save.ensures.0 c.from_residual-in_err-save_document-in-Save.ensures.1
+    c.in_err-save_document-in-Save.ensures.leaves
 
 pub returns-in_ok-save_document-in-Save-clause-leaves : goal.returns-in_ok-save_document-in-Save-clause-leaves
 returns-in_ok-save_document-in-Save-clause-leaves g c =
-    let shown = shown_by g.R.L.Link in
-    let made = g.R.Rack.made c.args.rack.now in
-    let makes = g.R.Rack.made c.save_document.new.rack in
-    let left = c.in_ok-save_document-in-Save.ensures.leaves in
-    let answer = c.in_ok-save_document-in-Save.field-0 in
-    without_pairs shown g.D.Incoming.Source g.D.Outgoing.Sink _ _ _ _ _ _ refl refl
-    (Leaves AreBack IsFailure RackFault (terms_of c.args.command.now) c.args.bytes.now made makes (Ok answer)) (
-      left.0,
-      left.1,
-      subst (λ command. Leaves AreBack IsFailure RackFault (terms_of command) c.args.bytes.now made makes (Ok answer)
-          (no_pairs (map shown left.0))) (sym c.in-Save.is)
-          (done_as NoneCame AreBack none_as_served IsRunFailure run.Rack IsFailure RackFault _
-          c.args.bytes.now made makes (no_pairs (map shown left.0)) answer left.2),
-    )
+    ran_answered (shown_by g.R.L.Link) g.D.Incoming.Source g.D.Outgoing.Sink _ _ _ _ c.args.command.now _ c.in-Save.is
+    c.args.bytes.now _ _ c.in_ok-save_document-in-Save.field-0 c.in_ok-save_document-in-Save.ensures.leaves
 
 pub returns-in_err-apply_document-in-Apply-clause-leaves : goal.returns-in_err-apply_document-in-Apply-clause-leaves
 returns-in_err-apply_document-in-Apply-clause-leaves g c =
-    let shown = shown_by g.R.L.Link in
-    let made = g.R.Rack.made c.args.rack.now in
-    let makes = g.R.Rack.made c.apply_document.new.rack in
-    let left = c.in_err-apply_document-in-Apply.ensures.leaves in
-    let result = c.from_residual-in_err-apply_document-in-Apply.result in
-    without_pairs shown g.D.Incoming.Source g.D.Outgoing.Sink _ _ _ _ _ _ refl refl
-    (Leaves AreBack IsFailure RackFault (terms_of c.args.command.now) c.args.bytes.now made makes result) (
-      left.0,
-      left.1,
-      subst (λ command. Leaves AreBack IsFailure RackFault (terms_of command) c.args.bytes.now made makes result
-          (no_pairs (map shown left.0))) (sym c.in-Apply.is)
-          (failed_as NoneCame AreBack none_as_served IsRunFailure run.Rack IsFailure RackFault _
-          c.args.bytes.now made makes (no_pairs (map shown left.0)) no_answer_of
-          c.in_err-apply_document-in-Apply.field-0.0 result (run_behind _) (run_rack _)
-          c.from_residual-in_err-apply_document-in-Apply.ensures.0
-          c.from_residual-in_err-apply_document-in-Apply.ensures.1 left.2),
-    )
+    ran_failed (shown_by g.R.L.Link) g.D.Incoming.Source g.D.Outgoing.Sink _ _ _ _ c.args.command.now _ c.in-Apply.is
+    c.args.bytes.now _ _ c.in_err-apply_document-in-Apply.field-0.0 _
+    c.from_residual-in_err-apply_document-in-Apply.ensures.0 c.from_residual-in_err-apply_document-in-Apply.ensures.1
+    c.in_err-apply_document-in-Apply.ensures.leaves
 
 pub returns-in_ok-apply_document-in-Apply-clause-leaves : goal.returns-in_ok-apply_document-in-Apply-clause-leaves
 returns-in_ok-apply_document-in-Apply-clause-leaves g c =
-    let shown = shown_by g.R.L.Link in
-    let made = g.R.Rack.made c.args.rack.now in
-    let makes = g.R.Rack.made c.apply_document.new.rack in
-    let left = c.in_ok-apply_document-in-Apply.ensures.leaves in
-    let answer = c.in_ok-apply_document-in-Apply.field-0 in
-    without_pairs shown g.D.Incoming.Source g.D.Outgoing.Sink _ _ _ _ _ _ refl refl
-    (Leaves AreBack IsFailure RackFault (terms_of c.args.command.now) c.args.bytes.now made makes (Ok answer)) (
-      left.0,
-      left.1,
-      subst (λ command. Leaves AreBack IsFailure RackFault (terms_of command) c.args.bytes.now made makes (Ok answer)
-          (no_pairs (map shown left.0))) (sym c.in-Apply.is)
-          (done_as NoneCame AreBack none_as_served IsRunFailure run.Rack IsFailure RackFault _
-          c.args.bytes.now made makes (no_pairs (map shown left.0)) answer left.2),
-    )
+    ran_answered (shown_by g.R.L.Link) g.D.Incoming.Source g.D.Outgoing.Sink _ _ _ _ c.args.command.now _ c.in-Apply.is
+    c.args.bytes.now _ _ c.in_ok-apply_document-in-Apply.field-0 c.in_ok-apply_document-in-Apply.ensures.leaves
 
 pub returns-in_err-serve_document-in-Serve-clause-listens : goal.returns-in_err-serve_document-in-Serve-clause-listens
 returns-in_err-serve_document-in-Serve-clause-listens g c port count asked =
@@ -349,7 +179,8 @@ returns-in_ok-serve_document-in-Serve-clause-listens g c port count asked =
     subst (λ p. Listens p (IsNoRefusal answer) ports ports_now)
     (one_port c.args.command.now port count _ _ c.in-Serve.is asked) c.in_ok-serve_document-in-Serve.ensures.listens
 
-pub returns-in_err-serve_document-in-Serve-clause-in_frames : goal.returns-in_err-serve_document-in-Serve-clause-in_frames
+pub returns-in_err-serve_document-in-Serve-clause-in_frames :
+    goal.returns-in_err-serve_document-in-Serve-clause-in_frames
 returns-in_err-serve_document-in-Serve-clause-in_frames g c port count asked = c.serve_document.ensures.in_frames
 
 pub returns-in_ok-serve_document-in-Serve-clause-in_frames : goal.returns-in_ok-serve_document-in-Serve-clause-in_frames

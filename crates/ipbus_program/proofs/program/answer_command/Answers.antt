@@ -1,9 +1,7 @@
-use Rattle.std.proofs.Common.{[], inl, refl, sym, ap, subst, append-nil, Ok, Err}
+use Rattle.std.proofs.Common.{[], inl, refl, ap, subst, Ok, Err}
 use Rattle.std.specs.Prelude.{IfNone, IfSome}
 use Rattle.board_greeting.specs.Reports.{shown_by}
-use Rattle.session_serve.specs.Executed.{CameInFrames}
 use Rattle.session_serve.specs.Serving.{AreBack}
-use Rattle.session_serve.proofs.Executing.{none_executed}
 use Rattle.command_terms.specs.Leaving.{Leaves}
 use Rattle.command_terms.specs.Outside.{no_pairs}
 use Rattle.command_terms.proofs.Pairs.{therefore, without_pairs}
@@ -11,6 +9,7 @@ use Rattle.serve_command.proofs.Ports.{failed_listens}
 use Rattle.ipbus_program.specs.Commands.{terms_of}
 use Rattle.ipbus_program.specs.declared.no_answer.NoAnswer.TheVariants.{NoMemory, RackFault}
 use Rattle.ipbus_program.specs.Steps.{InputLeaves, IsFailure, IsInputOf, IsTooLong}
+use Rattle.ipbus_program.proofs.Answered.{none_in_frames}
 use Rattle.ipbus_program.proofs.Causes.{long_answered}
 use Rattle.ipbus_program.proofs.Reading.{failure_untouched, input_left, input_untouched}
 use Rattle.ipbus_program.proofs.program.answer_command.Goals as goal
@@ -98,18 +97,12 @@ returns-in_err-bytes-clause-listens g c port count asked =
 
 pub returns-in_ok-too_long-in-None-clause-in_frames : goal.returns-in_ok-too_long-in-None-clause-in_frames
 returns-in_ok-too_long-in-None-clause-in_frames g c port count asked =
-    let shown = shown_by g.R.L.Link in
-    without_pairs shown g.D.Incoming.Source g.D.Outgoing.Sink _ _ _ _ _ _ refl refl
-    (λ given. CameInFrames given.links given.came given.back) ([], sym (append-nil _), none_executed [] tt)
+    none_in_frames (shown_by g.R.L.Link) g.D.Incoming.Source g.D.Outgoing.Sink _ _ _
 
 pub returns-in_err-too_long-in-None-clause-in_frames : goal.returns-in_err-too_long-in-None-clause-in_frames
 returns-in_err-too_long-in-None-clause-in_frames g c port count asked =
-    let shown = shown_by g.R.L.Link in
-    without_pairs shown g.D.Incoming.Source g.D.Outgoing.Sink _ _ _ _ _ _ refl refl
-    (λ given. CameInFrames given.links given.came given.back) ([], sym (append-nil _), none_executed [] tt)
+    none_in_frames (shown_by g.R.L.Link) g.D.Incoming.Source g.D.Outgoing.Sink _ _ _
 
 pub returns-in_err-bytes-clause-in_frames : goal.returns-in_err-bytes-clause-in_frames
 returns-in_err-bytes-clause-in_frames g c port count asked =
-    let shown = shown_by g.R.L.Link in
-    without_pairs shown g.D.Incoming.Source g.D.Outgoing.Sink _ _ _ _ _ _ refl refl
-    (λ given. CameInFrames given.links given.came given.back) ([], sym (append-nil _), none_executed [] tt)
+    none_in_frames (shown_by g.R.L.Link) g.D.Incoming.Source g.D.Outgoing.Sink _ _ _

@@ -1,11 +1,11 @@
-use Rattle.std.proofs.Common.{◌≡◌, ℕ, zero, suc, ◌<◌, List, [], ◌∷◌, Option, Some, refl, sym, ap, ◌∙◌, arith}
+use Rattle.std.proofs.Common.{◌≡◌, ℕ, zero, suc, ◌<◌, List, [], ◌∷◌, Some, refl, sym, ap, ◌∙◌, arith}
 use Rattle.std.specs.List.{slice_index_or}
 use Rattle.std.proofs.lemmas.Option.{same_Some}
 use Rattle.ipb_base.specs.Numbers.{payload_of}
 use Rattle.packet_codec.specs.Reading.{packet_of, start_of}
 use Rattle.packet_ids.specs.Identifier.{identifier_at}
 use Rattle.world_model.specs.Messages.{Reply, StatusReply, to_hub}
-use Rattle.lane_history.specs.Examples.{greeted_and_replied, reply_datagram, seven_read, status_datagram}
+use Rattle.lane_history.specs.Examples.{greeted_and_replied, reply_datagram, seven_read}
 use Rattle.lane_history.specs.Receives.{HasBroughtReply}
 use Rattle.lane_history.proofs.examples.no_other_reply_came.Goals as goal
 

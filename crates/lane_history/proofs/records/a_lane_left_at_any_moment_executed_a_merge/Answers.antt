@@ -1,8 +1,8 @@
 use Rattle.std.proofs.Common.{[], append-nil}
-use Rattle.world_model.specs.Board.{Board, executed}
+use Rattle.world_model.specs.Board.{Board, bodies_executed}
 use Rattle.lane_record.specs.Claims.{claims}
 use Rattle.lane_record.specs.Offers.{offers_from}
-use Rattle.board_history.specs.Runs.{opening_of}
+use Rattle.board_history.specs.Runs.{opens_with}
 use Rattle.lane_history.specs.Lanes.{IsTrueOf, bodies_offered}
 use Rattle.lane_history.specs.Links.{board_there}
 use Rattle.lane_history.specs.Runs.{IsMergeOfAsked}
@@ -16,9 +16,9 @@ returns-clause-lane c = λ settings spec board scripts link payload items became
     let all : IsMergeOfAsked spec board scripts (bodies_offered (claims items) became) =
     law.sent spec board scripts payload items became (offers_from 0 (claims items) became) [] packets planned
     lane.kept.legal (append-nil (offers_from 0 (claims items) became)) in
-    some_then (λ (b : Board). IsTrueOf (opening_of spec.link) (claims items) became lates (executed b))
-    (λ (b : Board). IsMergeOfAsked spec board scripts (executed b)) (board_there link.telling)
-    (λ b truth. law.first spec board scripts (executed b) (bodies_offered (claims items) became) truth.front all)
+    some_then (λ (b : Board). IsTrueOf (opens_with spec.link) (claims items) became lates (bodies_executed b))
+    (λ (b : Board). IsMergeOfAsked spec board scripts (bodies_executed b)) (board_there link.telling)
+    (λ b truth. law.first spec board scripts (bodies_executed b) (bodies_offered (claims items) became) truth.front all)
     lane.told
 
 pub returns-clause-untouched : goal.returns-clause-untouched

@@ -1,14 +1,14 @@
 use Rattle.std.proofs.Common.{◌≡◌, [], ◌∷◌, ◌++◌, false, sym, ap, subst, ◌∙◌, string_bytes}
 use Rattle.std.proofs.lemmas.Bool.{false≢true}
 use Rattle.std.specs.List.{AllByRecursion}
-use Rattle.node_tree.specs.Named.{named}
+use Rattle.node_tree.specs.Named.{named_entries}
 use Rattle.node_tree.specs.Modules.{Mentions, HasUnknown, IsIn, IsFirstTable}
 use Rattle.node_tree.proofs.EntryLemmas.{next_place, past_place, no_more, nodes-entry, all-push}
 use Rattle.node_tree.proofs.check_modules.first_unknown.Goals as goal
 
 pub loop-name-init : goal.loop-name-init
 loop-name-init c =
-    ([], sym c.entries-name-items.ensures ∙ ap named (sym c.into_iter-name-iterator.ensures.into_iter_gives.0), tt)
+    ([], sym c.entries-name-items.ensures ∙ ap named_entries (sym c.into_iter-name-iterator.ensures.into_iter_gives.0), tt)
 
 pub loop-name-preserved : goal.loop-name-preserved
 loop-name-preserved c =
@@ -42,7 +42,7 @@ returns-then-not-has_modules c =
     record {
       before = done;
       «table» = c.in-Some.table.now;
-      after = named c.next.new.self;
+      after = named_entries c.next.new.self;
       place = next;
       holds = unknown;
       first = none;

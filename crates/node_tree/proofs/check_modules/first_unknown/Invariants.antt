@@ -2,11 +2,11 @@ use Rattle.std.proofs.Common.{◌≡◌, List, ◌++◌}
 use Rattle.std.specs.List.{AllByRecursion}
 use Rattle.std.specs.FinMap.{entries}
 use Rattle.address_table.specs.declared.nodes.Table.{Table}
-use Rattle.node_tree.specs.Named.{Name, named}
+use Rattle.node_tree.specs.Named.{Name, named_entries}
 use Rattle.node_tree.specs.Modules.{HasUnknown}
 use Rattle.node_tree.proofs.check_modules.first_unknown.Given as goal
 
 abbrev pub invariant-loop-name : goal.invariant-loop-name
 invariant-loop-name l =
-    (done : List (Name × Table)) × (entries l.tables ≡ done ++ named l.name-iterator)
+    (done : List (Name × Table)) × (entries l.tables ≡ done ++ named_entries l.name-iterator)
     × AllByRecursion (λ e. HasUnknown l.tables e.0 → ⊥) done

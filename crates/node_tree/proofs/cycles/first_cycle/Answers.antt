@@ -1,13 +1,13 @@
 use Rattle.std.proofs.Common.{[], ◌∷◌, ◌++◌, MatchBool, sym, ap, subst, ◌∙◌, string_bytes}
 use Rattle.std.specs.List.{AllByRecursion}
-use Rattle.node_tree.specs.Named.{named}
+use Rattle.node_tree.specs.Named.{named_entries}
 use Rattle.node_tree.specs.Modules.{ReachesItself, IsFirstTable}
 use Rattle.node_tree.proofs.EntryLemmas.{next_place, past_place, no_more, all-push}
 use Rattle.node_tree.proofs.cycles.first_cycle.Goals as goal
 
 pub loop-name-init : goal.loop-name-init
 loop-name-init c =
-    ([], sym c.entries-name-items.ensures ∙ ap named (sym c.into_iter-name-iterator.ensures.into_iter_gives.0), tt)
+    ([], sym c.entries-name-items.ensures ∙ ap named_entries (sym c.into_iter-name-iterator.ensures.into_iter_gives.0), tt)
 
 pub loop-name-preserved : goal.loop-name-preserved
 loop-name-preserved c =
@@ -37,7 +37,7 @@ returns-then-leads c =
     record {
       before = done;
       «table» = c.in-Some._table.now;
-      after = named c.next.new.self;
+      after = named_entries c.next.new.self;
       place = next;
       holds = subst (ReachesItself c.args.tables.now) c.as_str.ensures.value leads;
       first = none;

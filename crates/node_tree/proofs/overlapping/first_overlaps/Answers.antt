@@ -1,6 +1,6 @@
 use Rattle.std.proofs.Common.{◌≡◌, get_or, length, ap, sym, subst, ◌∙◌, arith}
 use Rattle.std.proofs.lemmas.List.{get_or-replicate, length-replicate}
-use Rattle.node_tree.specs.Named.{named}
+use Rattle.node_tree.specs.Named.{named_entries}
 use Rattle.node_tree.specs.OverlapSearch.{AreFirsts}
 use Rattle.node_tree.proofs.NotingLemmas.{written}
 use Rattle.node_tree.proofs.overlapping.first_overlaps.Goals as goal
@@ -24,4 +24,4 @@ returns c =
     let old = c.in_ok-firsts.firsts in
     let new = c.lower_firsts.new.firsts in
     let same : length new ≡ length old.items = c.lower_firsts.auto.firsts ∙ ap length c.deref_mut.ensures.value in
-    subst (AreFirsts (named es)) (sym (written old.len new old.items same old.ok.0)) c.in_ok-lower_firsts.ensures
+    subst (AreFirsts (named_entries es)) (sym (written old.len new old.items same old.ok.0)) c.in_ok-lower_firsts.ensures

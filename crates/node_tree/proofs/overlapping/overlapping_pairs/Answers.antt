@@ -1,7 +1,7 @@
 use Rattle.std.proofs.Common.{◌≡◌, ◌++◌, ◌+◌, ◌<◌, take, drop, length, slice_index, option_to_list, ap, ◌∙◌}
 use Rattle.std.proofs.Common.{append_assoc, sym, arith}
 use Rattle.std.proofs.lemmas.List.{get_or_read}
-use Rattle.node_tree.specs.Named.{named}
+use Rattle.node_tree.specs.Named.{named_entries}
 use Rattle.node_tree.specs.Overlaps.{overlapping}
 use Rattle.node_tree.specs.OverlapSearch.{pair_before}
 use Rattle.node_tree.proofs.NamedLemmas.{length-named}
@@ -11,7 +11,7 @@ use Rattle.node_tree.proofs.overlapping.overlapping_pairs.Goals as goal
 
 pub loop-i-preserved : goal.loop-i-preserved
 loop-i-preserved c =
-    let xs = named c.args.entries.now in
+    let xs = named_entries c.args.entries.now in
     let i = c.loop-i.i in
     let firsts = c.in_ok-firsts.firsts.items in
     let rest = overlapping (take (i + 1) xs) (drop (i + 1) xs) in

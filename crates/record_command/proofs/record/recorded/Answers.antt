@@ -1,4 +1,4 @@
-use Rattle.std.proofs.Common.{◌≡◌, ◌∙◌, ◌++◌, ◌+◌, [], ◌∷◌, List, ap, append-nil, length, refl, subst, sym, arith}
+use Rattle.std.proofs.Common.{◌≡◌, ◌∙◌, ◌++◌, ◌+◌, [], ◌∷◌, List, ap, append-nil, length, refl, subst, sym}
 use Rattle.std.proofs.Common.{Err, Some, slice_index_or}
 use Rattle.board_node.specs.declared.spec.BoardSpec.{BoardSpec}
 use Rattle.hub_lane.specs.Greeting.{link_of}
@@ -10,7 +10,7 @@ use Rattle.session_run.specs.Faults.{run_fault}
 use Rattle.session_run.specs.Links.{AreLeft, CanBeReached}
 use Rattle.session_run.proofs.Faults.{no_memory_is_no_rack}
 use Rattle.command_terms.proofs.Leaving.{same_Err}
-use Rattle.record_command.specs.Taps.{tapped}
+use Rattle.record_command.specs.Taps.{tap_ghosts}
 use Rattle.record_command.proofs.Leaving.{record_failed, record_written, rises_by}
 use Rattle.record_command.proofs.Tapped.{at_first, one_board, one_is_one, ran_for, records_of}
 use Rattle.record_command.proofs.record.recorded.Goals as goal
@@ -48,7 +48,7 @@ pub run_tapped-tap-requires-clause-reached : goal.run_tapped-tap-requires-clause
 run_tapped-tap-requires-clause-reached g c κs within = λ spec is.
     let it = g.R.L.Link in
     let board = c.index-boards-0.result in
-    let shows = shown_by (tapped it) in
+    let shows = shown_by (tap_ghosts it) in
     let same : board ≡ spec = c.index-boards-0.is ∙ ap (λ (bs : List BoardSpec). slice_index_or bs 0 board) is in
     subst (λ (s : BoardSpec). IsReached c.args.session.now.settings s c.in_ok-greeted.greeted
     (shows (link_of c.in_ok-greeted.greeted))) same c.in_ok-greeted.ensures.reached

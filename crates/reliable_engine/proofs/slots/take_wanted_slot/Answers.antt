@@ -1,6 +1,6 @@
 use Rattle.std.proofs.Common.{ℕ, List, Option, Some, ap, sym, ◌∙◌, refl, subst, arith}
 use Rattle.world_model.specs.declared.sending.Sending.TheVariants as sends
-use Rattle.world_model.specs.Sends.{wanted}
+use Rattle.world_model.specs.Sends.{first_wanted}
 use Rattle.reliable_engine.specs.declared.slots.Flags.{Flags}
 use Rattle.reliable_engine.specs.declared.slots.TheConstants.{SLOTS}
 use Rattle.reliable_engine.specs.Slots.{EndsAt, open_from}
@@ -28,7 +28,7 @@ returns-then-open-clause-send c =
     c.loop-place.invariant.quiet c.put_slot.ensures in
     ap (λ (n : ℕ). Some (sends.Resend n)) c.id_at.ensures.identifier
     ∙ (sym (ap sending_of taken.is)
-    ∙ ap (λ (slots : List (Option Flags)). sending_of (wanted first (open_from slots low SLOTS)))
+    ∙ ap (λ (slots : List (Option Flags)). sending_of (first_wanted first (open_from slots low SLOTS)))
     c.loop-place.invariant.same)
 
 pub returns-then-open-clause-after : goal.returns-then-open-clause-after
@@ -42,7 +42,7 @@ returns-then-open-clause-after c =
     taken.after
     ∙ (sym (ap (places_wanted (open_from old low SLOTS)) taken.is)
     ∙ ap (λ (slots : List (Option Flags)).
-    places_wanted (open_from slots low SLOTS) (wanted first (open_from slots low SLOTS)))
+    places_wanted (open_from slots low SLOTS) (first_wanted first (open_from slots low SLOTS)))
     c.loop-place.invariant.same)
 
 pub returns-then-open-2-clause-send : goal.returns-then-open-2-clause-send
@@ -54,7 +54,7 @@ returns-then-open-2-clause-send c =
     c.if-open.false c.if-open-2.true c.loop-place.invariant.quiet c.put_slot-then-open-2.ensures in
     ap (λ (n : ℕ). Some (sends.Control c.loop-place.place n)) c.id_at-then-open-2.ensures.identifier
     ∙ (sym (ap sending_of taken.is)
-    ∙ ap (λ (slots : List (Option Flags)). sending_of (wanted first (open_from slots low SLOTS)))
+    ∙ ap (λ (slots : List (Option Flags)). sending_of (first_wanted first (open_from slots low SLOTS)))
     c.loop-place.invariant.same)
 
 pub returns-then-open-2-clause-after : goal.returns-then-open-2-clause-after
@@ -68,7 +68,7 @@ returns-then-open-2-clause-after c =
     taken.after
     ∙ (sym (ap (places_wanted (open_from old low SLOTS)) taken.is)
     ∙ ap (λ (slots : List (Option Flags)).
-    places_wanted (open_from slots low SLOTS) (wanted first (open_from slots low SLOTS)))
+    places_wanted (open_from slots low SLOTS) (first_wanted first (open_from slots low SLOTS)))
     c.loop-place.invariant.same)
 
 pub loop-place-preserved : goal.loop-place-preserved
@@ -88,7 +88,7 @@ returns-clause-send c =
     let none = take_none first low c.args.end c.loop-place.place c.loop-place.slots ends (omega arith)
     c.loop-place.invariant.quiet in
     sym (ap sending_of none)
-    ∙ ap (λ (slots : List (Option Flags)). sending_of (wanted first (open_from slots low SLOTS)))
+    ∙ ap (λ (slots : List (Option Flags)). sending_of (first_wanted first (open_from slots low SLOTS)))
     c.loop-place.invariant.same
 
 pub returns-clause-after : goal.returns-clause-after
@@ -102,5 +102,5 @@ returns-clause-after c =
     c.loop-place.invariant.quiet in
     sym (ap (places_wanted (open_from old low SLOTS)) none)
     ∙ ap (λ (slots : List (Option Flags)).
-    places_wanted (open_from slots low SLOTS) (wanted first (open_from slots low SLOTS)))
+    places_wanted (open_from slots low SLOTS) (first_wanted first (open_from slots low SLOTS)))
     c.loop-place.invariant.same

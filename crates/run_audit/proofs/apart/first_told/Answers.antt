@@ -1,4 +1,4 @@
-use Rattle.std.proofs.Common.{ap, refl, sym, ◌∙◌}
+use Rattle.std.proofs.Common.{ap, sym, ◌∙◌}
 use Rattle.std.specs.Option.{unwrap_or}
 use Rattle.run_audit.specs.Apart.{fate_of}
 use Rattle.run_audit.proofs.ApartBodies.{other_key, same_key}

@@ -1,5 +1,5 @@
 use Rattle.std.proofs.Common.{◌≡◌, ◌+◌, arith, append_assoc, length, ap, sym}
-use Rattle.script_steps.specs.Rulings.{asked}
+use Rattle.script_steps.specs.Rulings.{asked_operations}
 use Rattle.script_plans.proofs.Lookups.{drop_at}
 use Rattle.std.proofs.lemmas.Option.{slice_get_read}
 use Rattle.std.proofs.Common.{List, Some, refl, ◌∙◌}
@@ -28,9 +28,9 @@ loop-client-preserved c =
     c.in-Some.ensures.lookup.1 in
     let there = drop_at clients i c.in-Some.shows.now
     (ap (λ (all : List (List Showing)). slice_get all i) (sym c.as_slice-clients.ensures) ∙ read) in
-    let next : c.in_ok-heading.heading ≡ c.loop-client.heading + 1 + length (asked steps) =
+    let next : c.in_ok-heading.heading ≡ c.loop-client.heading + 1 + length (asked_operations steps) =
     c.in_ok-heading.ensures.next
-    ∙ ap (λ (s : List Step). c.loop-client.heading + 1 + length (asked s)) c.as_slice.ensures in
+    ∙ ap (λ (s : List Step). c.loop-client.heading + 1 + length (asked_operations s)) c.as_slice.ensures in
     record {
       lines = rw (c.in_ok-heading.ensures.lines, append_assoc, next, c.as_slice.ensures, c.as_slice-in-loop-client.ensures)
           (rw (rest, there) at c.loop-client.invariant.lines);

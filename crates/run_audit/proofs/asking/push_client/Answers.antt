@@ -3,7 +3,7 @@ use Rattle.std.proofs.Common.{subst, refl, ◌∙◌, ◌≤◌, Vec, Global, no
 use Rattle.std.specs.List.{slice_get}
 use Rattle.std.proofs.lemmas.List.{map_push}
 use Rattle.std.proofs.lemmas.Option.{slice_get_past, slice_get_read}
-use Rattle.script_steps.specs.Rulings.{Asked, asked, asked_in, allowed}
+use Rattle.script_steps.specs.Rulings.{Asked, asked_operations, asked_in, allowed_operations}
 use Rattle.script_plans.specs.Plan.{count_on}
 use Rattle.run_audit.specs.declared.asking.AskedOp.{AskedOp}
 use Rattle.run_audit.specs.Steps.{asking}
@@ -34,7 +34,7 @@ loop-step-preserved c =
     let ask : Asked = record { op = c.in-Some.op.now; denied = c.in-Some.denied } in
     let some : asked_in c.step-item.result ≡ Some ask = c.in-Some.ensures in
     let so_far = c.loop-step.invariant in
-    let k : ℕ = length (asked (take i steps)) in
+    let k : ℕ = length (asked_operations (take i steps)) in
     let at : c.loop-step.line - c.args.first ≡ k = omega (arith, so_far.line') in
     record {
       lines = elim c.match-get.branch [
@@ -42,7 +42,7 @@ loop-step-preserved c =
             let there : slice_get shows (c.loop-step.line - c.args.first) ≡ Some w.in-Some-get.shown.now =
             slice_get_read shows (length shows) _ w.in-Some-get.shown.now refl w.in-Some-get.ensures.lookup.3.0
             w.in-Some-get.ensures.lookup.1 in
-            let number : w.count_at-number.result ≡ count_on ask.op.board (allowed (asked (take i steps))) =
+            let number : w.count_at-number.result ≡ count_on ask.op.board (allowed_operations (asked_operations (take i steps))) =
             w.count_at-number.ensures ∙ (ap (λ (ns : List ℕ). get_or ns ask.op.board 0) w.as_slice.ensures.value
             ∙ so_far.counts' ask.op.board) in
             let pushed : map asking c.match-get.all.items ≡ map asking c.loop-step.all.items

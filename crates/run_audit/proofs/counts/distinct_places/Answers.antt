@@ -6,7 +6,7 @@ use Rattle.std.specs.Ordering.{nat_cmp}
 use Rattle.std.proofs.lemmas.Option.{slice_get-map}
 use Rattle.run_audit.specs.declared.places.PieceShown.{PieceShown}
 use Rattle.run_audit.specs.Counts.{distinct}
-use Rattle.run_audit.specs.Steps.{place_of, seen}
+use Rattle.run_audit.specs.Steps.{place_of, piece_kept}
 use Rattle.run_audit.proofs.Distinct.{among_push, distinct_push, is_among}
 use Rattle.run_audit.proofs.Keys.{last_there}
 use Rattle.run_audit.proofs.Misplacing.{read_mapped, take_next}
@@ -18,13 +18,13 @@ nothing = record { line = 0; client = 0; body = 0; index = 0; place = 0; transac
 pub loop-piece-preserved : goal.loop-piece-preserved
 unfolding nothing
 loop-piece-preserved c =
-    let pieces = map seen c.args.pieces.now in
+    let pieces = map piece_kept c.args.pieces.now in
     let places = map place_of pieces in
     let i = c.loop-piece.piece-index in
     let place = (get_or c.args.pieces.now i nothing).place in
     let at : slice_get places i ≡ Some place =
     slice_get-map place_of pieces i
-    ∙ ap (option_map place_of) (read_mapped seen c.args.pieces.now i nothing c.loop-piece-test.true) in
+    ∙ ap (option_map place_of) (read_mapped piece_kept c.args.pieces.now i nothing c.loop-piece-test.true) in
     let next : take (i + 1) places ≡ take i places ++ place ∷ [] = take_next places i place at in
     let was = c.in_ok-take_place.ensures.was ∙ c.loop-piece.invariant.places place in
     record {

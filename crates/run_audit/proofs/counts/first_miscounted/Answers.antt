@@ -6,7 +6,7 @@ use Rattle.transcript.specs.declared.line.BoardLine.{BoardLine}
 use Rattle.run_audit.specs.declared.places.PieceShown.{PieceShown}
 use Rattle.run_audit.specs.AskedLines.{ShownPiece, asked_lines, pieces_shown}
 use Rattle.run_audit.specs.Counts.{IsMiscounted}
-use Rattle.run_audit.specs.Steps.{seen}
+use Rattle.run_audit.specs.Steps.{piece_kept}
 use Rattle.run_audit.proofs.Distinct.{miscounted_found, miscounted_more, miscounted_none}
 use Rattle.run_audit.proofs.PlansMade.{session_pieces}
 use Rattle.run_audit.proofs.counts.first_miscounted.Goals as goal
@@ -21,8 +21,8 @@ returns-then-branch c = λ boards are.
     let at : slice_get shown.boards board ≡ Some told =
     ap (λ (ls : List BoardLine). slice_get ls board) (sym c.as_slice-told-items.ensures)
     ∙ slice_get_read lines (length lines) board told refl c.loop-board-test.true c.told-item.is in
-    let same : map seen c.as_slice.result.now ≡ pieces_shown boards scripts board (asked_lines scripts shown) =
-    ap (λ (ps : List PieceShown). map seen ps) c.as_slice.ensures.value
+    let same : map piece_kept c.as_slice.result.now ≡ pieces_shown boards scripts board (asked_lines scripts shown) =
+    ap (λ (ps : List PieceShown). map piece_kept ps) c.as_slice.ensures.value
     ∙ (c.in_ok-pieces.ensures ∙ session_pieces boards scripts shown board _ _ are) in
     miscounted_found boards scripts shown board told _
     (ap (λ n. n + board + 1) c.count_client_lines-before.ensures)
@@ -40,8 +40,8 @@ loop-board-preserved c = λ boards are.
     let at : slice_get shown.boards board ≡ Some told =
     ap (λ (ls : List BoardLine). slice_get ls board) (sym c.as_slice-told-items.ensures)
     ∙ slice_get_read lines (length lines) board told refl c.loop-board-test.true c.told-item.is in
-    let same : map seen c.as_slice.result.now ≡ pieces_shown boards scripts board (asked_lines scripts shown) =
-    ap (λ (ps : List PieceShown). map seen ps) c.as_slice.ensures.value
+    let same : map piece_kept c.as_slice.result.now ≡ pieces_shown boards scripts board (asked_lines scripts shown) =
+    ap (λ (ps : List PieceShown). map piece_kept ps) c.as_slice.ensures.value
     ∙ (c.in_ok-pieces.ensures ∙ session_pieces boards scripts shown board _ _ are) in
     miscounted_more boards scripts shown board told (c.loop-board.invariant boards are) at
     (λ wrong. false≢true (sym c.if-branch.false ∙ c.in_ok-is_miscounted.ensures.1

@@ -7,7 +7,7 @@ use Rattle.transcript.specs.declared.line.BoardLine.{BoardLine}
 use Rattle.run_audit.specs.declared.places.PieceShown.{PieceShown}
 use Rattle.run_audit.specs.AskedLines.{ShownPiece, asked_lines, pieces_shown}
 use Rattle.run_audit.specs.Places.{HasMisplaced}
-use Rattle.run_audit.specs.Steps.{IsFirstBroken, StandsBefore, seen}
+use Rattle.run_audit.specs.Steps.{IsFirstBroken, StandsBefore, piece_kept}
 use Rattle.run_audit.proofs.FirstBroken.{IsMisplacedBelow, misplaced_all, misplaced_more}
 use Rattle.run_audit.proofs.PlansMade.{session_pieces}
 use Rattle.run_audit.proofs.TextOrder.{shown_rise}
@@ -24,10 +24,10 @@ loop-board-preserved c = λ boards scripts are.
     ap (λ (ls : List BoardLine). slice_get ls board) (sym c.as_slice-line-items.ensures)
     ∙ slice_get_read lines (length lines) board told refl c.loop-board-test.true c.line-item.is in
     let all = pieces_shown boards scripts board (asked_lines scripts shown) in
-    let same : map seen c.as_slice.result.now ≡ all =
-    ap (λ (ps : List PieceShown). map seen ps) c.as_slice.ensures.value
+    let same : map piece_kept c.as_slice.result.now ≡ all =
+    ap (λ (ps : List PieceShown). map piece_kept ps) c.as_slice.ensures.value
     ∙ (c.in_ok-pieces.ensures ∙ session_pieces boards scripts shown board _ _ are) in
-    let rises : Rises StandsBefore (map seen c.as_slice.result.now) =
+    let rises : Rises StandsBefore (map piece_kept c.as_slice.result.now) =
     subst (λ (ps : List ShownPiece). Rises StandsBefore ps) (sym same) (shown_rise boards scripts board shown) in
     let here : IsFirstBroken (HasMisplaced (places_told told) all) found =
     subst (λ n. IsFirstBroken (HasMisplaced n all) found) c.places_told.ensures

@@ -5,7 +5,7 @@ use Rattle.std.specs.Ordering.{nat_cmp}
 use Rattle.std.proofs.lemmas.Bool.{false≢true}
 use Rattle.std.proofs.lemmas.List.{length-map}
 use Rattle.run_audit.specs.declared.places.PieceShown.{PieceShown}
-use Rattle.run_audit.specs.Steps.{seen}
+use Rattle.run_audit.specs.Steps.{piece_kept}
 use Rattle.run_audit.proofs.Keys.{last_there}
 use Rattle.run_audit.proofs.Misplacing.{place_more, placing_all, placing_found, placing_more, read_mapped}
 use Rattle.run_audit.proofs.places.first_misplaced_of.Goals as goal
@@ -18,13 +18,13 @@ nothing = record { line = 0; client = 0; body = 0; index = 0; place = 0; transac
 pub returns-then-is_misplaced : goal.returns-then-is_misplaced
 unfolding nothing
 returns-then-is_misplaced c = λ rises.
-    let pieces = map seen c.args.pieces.now in
+    let pieces = map piece_kept c.args.pieces.now in
     let i = c.loop-piece.piece-index in
-    let piece = seen (get_or c.args.pieces.now i nothing) in
-    let at : slice_get pieces i ≡ Some piece = read_mapped seen c.args.pieces.now i nothing c.loop-piece-test.true in
+    let piece = piece_kept (get_or c.args.pieces.now i nothing) in
+    let at : slice_get pieces i ≡ Some piece = read_mapped piece_kept c.args.pieces.now i nothing c.loop-piece-test.true in
     let taken = c.in_ok-is_taken.ensures.was ∙ c.loop-piece.invariant.places piece.place in
     placing_found c.args.sent pieces i piece rises at c.in_ok-is_taken.is_taken taken
-    (option_map seen c.loop-piece.last) (c.loop-piece.invariant.placing rises)
+    (option_map piece_kept c.loop-piece.last) (c.loop-piece.invariant.placing rises)
     (elim c.then-is_misplaced.branch [
       | then-is_misplaced-via-then-is_misplaced w ↦ inl (c.is_misplaced.ensures.0 w.if-is_misplaced.true)
       | then-is_misplaced-via-else-is_misplaced+then-disagrees w ↦
@@ -34,14 +34,14 @@ returns-then-is_misplaced c = λ rises.
 pub loop-piece-preserved : goal.loop-piece-preserved
 unfolding nothing
 loop-piece-preserved c =
-    let pieces = map seen c.args.pieces.now in
+    let pieces = map piece_kept c.args.pieces.now in
     let i = c.loop-piece.piece-index in
-    let piece = seen (get_or c.args.pieces.now i nothing) in
-    let at : slice_get pieces i ≡ Some piece = read_mapped seen c.args.pieces.now i nothing c.loop-piece-test.true in
+    let piece = piece_kept (get_or c.args.pieces.now i nothing) in
+    let at : slice_get pieces i ≡ Some piece = read_mapped piece_kept c.args.pieces.now i nothing c.loop-piece-test.true in
     let taken = c.in_ok-is_taken.ensures.was ∙ c.loop-piece.invariant.places piece.place in
     record {
       placing = λ rises. placing_more c.args.sent pieces i piece rises at c.in_ok-is_taken.is_taken taken
-          (option_map seen c.loop-piece.last) (c.loop-piece.invariant.placing rises)
+          (option_map piece_kept c.loop-piece.last) (c.loop-piece.invariant.placing rises)
           (λ wrong. false≢true (sym c.if-is_misplaced.false ∙ c.is_misplaced.ensures.1 wrong))
           (sym c.disagrees.ensures ∙ c.if-disagrees.false);
       last' = last_there (contains nat_cmp c.take_place.new.taken) _ (get_or c.args.pieces.now i nothing)
@@ -54,5 +54,5 @@ loop-piece-preserved c =
 
 pub returns : goal.returns
 returns c = λ rises.
-    placing_all c.args.sent (map seen c.args.pieces.now) c.loop-piece.piece-index (option_map seen c.loop-piece.last)
-    (omega (arith, length-map c.args.pieces.now seen, c.loop-piece-test.false)) (c.loop-piece.invariant.placing rises)
+    placing_all c.args.sent (map piece_kept c.args.pieces.now) c.loop-piece.piece-index (option_map piece_kept c.loop-piece.last)
+    (omega (arith, length-map c.args.pieces.now piece_kept, c.loop-piece-test.false)) (c.loop-piece.invariant.placing rises)

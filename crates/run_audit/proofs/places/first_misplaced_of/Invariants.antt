@@ -3,16 +3,16 @@ use Rattle.std.specs.BTreeSet as tree
 use Rattle.std.specs.Option.{ForSome, option_map}
 use Rattle.std.specs.Ordering.{nat_cmp}
 use Rattle.script_plans.specs.Claims.{Rises}
-use Rattle.run_audit.specs.Steps.{StandsBefore, seen}
+use Rattle.run_audit.specs.Steps.{StandsBefore, piece_kept}
 use Rattle.run_audit.proofs.Misplacing.{IsPlacing, has_place}
 use Rattle.run_audit.proofs.places.first_misplaced_of.Given as goal
 
 -- no piece so far is at fault, and their places are taken
 abbrev pub invariant-loop-piece : goal.invariant-loop-piece
 invariant-loop-piece l = record {
-  placing : Rises StandsBefore (map seen l.pieces)
-      → IsPlacing l.sent (map seen l.pieces) l.piece-index (option_map seen l.last);
+  placing : Rises StandsBefore (map piece_kept l.pieces)
+      → IsPlacing l.sent (map piece_kept l.pieces) l.piece-index (option_map piece_kept l.last);
   last' : ForSome l.last (λ last. tree.contains nat_cmp l.taken last.place ≡ true);
   places : (place : ℕ) → tree.contains nat_cmp l.taken place
-      ≡ has_place place (take l.piece-index (map seen l.pieces));
+      ≡ has_place place (take l.piece-index (map piece_kept l.pieces));
 }

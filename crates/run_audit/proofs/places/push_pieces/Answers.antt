@@ -6,7 +6,7 @@ use Rattle.std.proofs.lemmas.Option.{slice_get_read}
 use Rattle.script_plans.specs.declared.planned.PieceAt.{PieceAt}
 use Rattle.run_audit.specs.declared.places.PieceShown.{PieceShown}
 use Rattle.run_audit.specs.AskedLines.{ShownPiece, with_places}
-use Rattle.run_audit.specs.Steps.{asking, seen}
+use Rattle.run_audit.specs.Steps.{asking, piece_kept}
 use Rattle.run_audit.proofs.Walking.{none_with, with_more}
 use Rattle.run_audit.proofs.places.push_pieces.Goals as goal
 
@@ -24,8 +24,8 @@ returns-in_default c =
     let rest : drop at places ≡ [] = drop_all at places over in
     let none : with_places ask (drop at pieces) (drop at places) ≡ [] =
     ap (with_places ask (drop at pieces)) rest ∙ none_with ask (drop at pieces) in
-    sym (append-nil _) ∙ (ap (λ (ps : List ShownPiece). map seen c.loop-at.all.items ++ ps) (sym none)
-    ∙ (c.loop-at.invariant ∙ ap (λ (ps : List (ℕ × ℕ)). map seen c.args.all.now.items ++ with_places ask pieces ps) same))
+    sym (append-nil _) ∙ (ap (λ (ps : List ShownPiece). map piece_kept c.loop-at.all.items ++ ps) (sym none)
+    ∙ (c.loop-at.invariant ∙ ap (λ (ps : List (ℕ × ℕ)). map piece_kept c.args.all.now.items ++ with_places ask pieces ps) same))
 
 pub loop-at-preserved : goal.loop-at-preserved
 unfolding nothing
@@ -38,9 +38,9 @@ loop-at-preserved c =
     slice_get_read places (length places) at c.in-Some.field-0.now refl c.in-Some.ensures.lookup.3.0
     c.in-Some.ensures.lookup.1 in
     let next = with_more ask pieces places at nothing c.in-Some.field-0.now c.loop-at-test.true there in
-    ap (λ (ps : List PieceShown). map seen ps ++ with_places ask (drop (at + 1) pieces) (drop (at + 1) places))
+    ap (λ (ps : List PieceShown). map piece_kept ps ++ with_places ask (drop (at + 1) pieces) (drop (at + 1) places))
     c.in_ok-push.ensures.items
     ∙ (ap (λ (ps : List ShownPiece). ps ++ with_places ask (drop (at + 1) pieces) (drop (at + 1) places))
-    (map_push seen c.loop-at.all.items _)
-    ∙ (append_assoc (map seen c.loop-at.all.items) _ _
-    ∙ (ap (λ (ps : List ShownPiece). map seen c.loop-at.all.items ++ ps) (sym next) ∙ c.loop-at.invariant)))
+    (map_push piece_kept c.loop-at.all.items _)
+    ∙ (append_assoc (map piece_kept c.loop-at.all.items) _ _
+    ∙ (ap (λ (ps : List ShownPiece). map piece_kept c.loop-at.all.items ++ ps) (sym next) ∙ c.loop-at.invariant)))

@@ -1,15 +1,15 @@
 use Rattle.std.proofs.Common.{◌≡◌, ap, map, ◌∙◌}
 use Rattle.board_history.specs.Order.{by_place}
-use Rattle.board_history.specs.Runs.{opening_of}
+use Rattle.board_history.specs.Runs.{opens_with}
 use Rattle.run_audit.specs.Replaying.{parts_among, placed_in_rows, replies_from, rows_from}
-use Rattle.run_audit.specs.Steps.{seen}
+use Rattle.run_audit.specs.Steps.{piece_kept}
 use Rattle.run_audit.proofs.Replays.{run_is, same_run}
 use Rattle.run_audit.proofs.replaying.replayed_run.Goals as goal
 
 pub returns : goal.returns
 returns c =
-    let pieces = map seen c.args.pieces.now in
-    let opening = opening_of c.args.board.now.link in
+    let pieces = map piece_kept c.args.pieces.now in
+    let opening = opens_with c.args.board.now.link in
     let rows : c.in_ok-rows.rows.items ≡ rows_from pieces 0 c.args.plans =
     c.in_ok-rows.ensures ∙ ap (rows_from pieces 0) c.as_slice.ensures in
     let replies : c.in_ok-replies.replies.items

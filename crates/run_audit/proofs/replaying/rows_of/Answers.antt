@@ -1,5 +1,5 @@
 use Rattle.std.proofs.Common.{◌∙◌, ap, length, map, sym}
-use Rattle.run_audit.specs.Steps.{seen}
+use Rattle.run_audit.specs.Steps.{piece_kept}
 use Rattle.run_audit.proofs.Replays.{rows_are, written}
 use Rattle.run_audit.proofs.replaying.rows_of.Goals as goal
 
@@ -8,6 +8,6 @@ returns c =
     let long = c.as_mut_slice.ensures.len in
     written c.loop-planned.rows.len c.loop-planned.rows.items c.mark_all.new.rows (c.mark_all.auto.rows ∙ long)
     (ap length (sym c.as_mut_slice.ensures.value) ∙ long)
-    ∙ rows_are c.loop-planned.rows.items c.mark_all.new.rows c.as_mut_slice.result.now (map seen c.args.pieces.now)
+    ∙ rows_are c.loop-planned.rows.items c.mark_all.new.rows c.as_mut_slice.result.now (map piece_kept c.args.pieces.now)
     c.args.plans.now c.loop-planned.planned-index c.loop-planned.invariant c.loop-planned-test.false
     c.as_mut_slice.ensures.value c.mark_all.ensures

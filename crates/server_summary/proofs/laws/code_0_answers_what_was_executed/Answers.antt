@@ -1,6 +1,6 @@
 use Rattle.std.proofs.Common.{subst, refl}
-use Rattle.world_model.specs.Board.{Board, executed}
-use Rattle.board_history.specs.Runs.{opening_of}
+use Rattle.world_model.specs.Board.{Board, bodies_executed}
+use Rattle.board_history.specs.Runs.{opens_with}
 use Rattle.lane_history.proofs.Shown.{some_then}
 use Rattle.session_serve.specs.Boards.{states_of}
 use Rattle.client_history.specs.Shown.{IsRightlyReplied, OfEach}
@@ -18,12 +18,12 @@ returns c = λ settings specs links came back connections lines is position spec
     let state = stands_as is.boards position one.served one.served.told one.there refl in
     let asked = all_asked states 1 is.conversations came back connections is.exchanged in
     some_then
-    (λ (board : Board). OfEach (IsRightlyReplied (opening_of spec.link) (executed board)) one.served.connections)
+    (λ (board : Board). OfEach (IsRightlyReplied (opens_with spec.link) (bodies_executed board)) one.served.connections)
     (λ (board : Board). OfEachWithCode replied_code position states
-    (IsAnsweredRightly (opening_of spec.link) (executed board) states position) is.conversations)
+    (IsAnsweredRightly (opens_with spec.link) (bodies_executed board) states position) is.conversations)
     (board_there link.telling)
-    (λ board right. all_rightly is.boards position (opening_of spec.link) (executed board) state.0 state.1
+    (λ board right. all_rightly is.boards position (opens_with spec.link) (bodies_executed board) state.0 state.1
     is.conversations asked
-    (subst (OfEach (IsRightlyReplied (opening_of spec.link) (executed board)))
+    (subst (OfEach (IsRightlyReplied (opens_with spec.link) (bodies_executed board)))
     (submitted is.boards is.conversations is.asked position state.0 one.served one.there state.1) right))
     (c.a_board_that_tells_executed_what_was_replied.ensures.replied settings spec one.served link one.over)

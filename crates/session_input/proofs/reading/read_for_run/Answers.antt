@@ -1,4 +1,4 @@
-use Rattle.std.proofs.Common.{IfErr, inr, rules}
+use Rattle.std.proofs.Common.{IfErr, inr}
 use Rattle.session_input.specs.Deserved.{Deserves, BreaksInRun, StandsForSession, Tells}
 use Rattle.session_input.proofs.Told.{handed_on, told_by}
 use Rattle.session_input.proofs.reading.read_for_run.Goals as goal

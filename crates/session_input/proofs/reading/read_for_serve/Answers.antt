@@ -1,4 +1,4 @@
-use Rattle.std.proofs.Common.{◌≡◌, IfErr, None, inr, is_some, true, false, rules, sym, ◌∙◌}
+use Rattle.std.proofs.Common.{◌≡◌, IfErr, None, inr, is_some, true, false, sym, ◌∙◌}
 use Rattle.session_input.specs.Deserved.{Deserves, BreaksInRun, BreaksInServe, Tells}
 use Rattle.session_input.proofs.Served.{as_in_run, not_served}
 use Rattle.session_input.proofs.Told.{handed_on, told_by}

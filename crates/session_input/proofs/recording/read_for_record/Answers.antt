@@ -1,4 +1,4 @@
-use Rattle.std.proofs.Common.{IfErr, OnOk, inl, inr, rules}
+use Rattle.std.proofs.Common.{IfErr, inl, inr, rules}
 use Rattle.session_input.specs.Deserved.{Deserves, BreaksInRun, StandsForSession, Tells}
 use Rattle.session_input.specs.Recording.{BreaksInRecord, IsOneSimulated, TellsNotOne}
 use Rattle.session_input.proofs.Told.{handed_on, told_by}

@@ -3,7 +3,7 @@ use Rattle.std.specs.List.{AllByRecursion}
 use Rattle.std.proofs.lemmas.Result.{IfOk-weaker}
 use Rattle.turn_pass.specs.Pass.{first_knowledge}
 use Rattle.hub_multiplexer.specs.Ends.{HasTakenIn}
-use Rattle.hub_multiplexer.specs.Lanes.{shown}
+use Rattle.hub_multiplexer.specs.Lanes.{shown_record}
 use Rattle.client_threads.specs.Clients.{AreOfClientsFrom, AreResultsFor, AwaitClients, HaveRun, IsPlanFor}
 use Rattle.client_threads.specs.declared.result.ClientResult.{ClientResult}
 use Rattle.session_run.specs.Hubs.{RanAtHub}
@@ -34,7 +34,7 @@ run_clients-results-requires-clause-awaited g c κs within =
     let lanes = c.args.lanes.items in
     let clients = c.args.clients.now in
     subst (AwaitClients clients) (sym c.in-Ok.ensures.master)
-    (all_await clients (map first_knowledge (map (shown g.L.Link.telling) lanes))
+    (all_await clients (map first_knowledge (map (shown_record g.L.Link.telling) lanes))
     (each_awaits c.sealed_plans_await_their_clients.ensures g.L.Link.telling clients 0 lanes c.requires.clients
     c.requires.planned))
 

@@ -27,12 +27,7 @@ loop-name-init g c =
 
 pub next-board-requires : goal.next-board-requires
 next-board-requires g c =
-    let link = g.R.L.Link in
-    let some = some_left link c.args.names.items c.args.boards
-    (into_iter_items c.loop-name.name-iterator) (into_iter_items c.next.new.self) c.in-Some.name c.loop-name.boards
-    c.loop-name.lines.items (g.R.Rack.kept c.args.rack.now) (g.R.Rack.kept c.loop-name.rack)
-    c.loop-name.invariant.so_far c.in-Some.ensures.steps.0 in
-    omega (arith, some)
+    let some = some_left c.loop-name.invariant.so_far c.in-Some.ensures.steps.0 in omega (arith, some)
 
 pub keep-requires : goal.keep-requires
 keep-requires g c =
@@ -44,7 +39,6 @@ keep-requires g c =
 
 pub loop-name-preserved : goal.loop-name-preserved
 loop-name-preserved g c =
-    let link = g.R.L.Link in
     let kept = g.R.Rack.kept c.loop-name.rack in
     let made = length (g.R.Rack.made c.loop-name.rack) in
     let board = c.next-board.result in
@@ -55,11 +49,8 @@ loop-name-preserved g c =
     ap (λ l. length l) given ∙ length-append kept (link_in board ∷ []) in
     let steps = ap (λ (l : List (List ℕ)). length l) c.in-Some.ensures.steps.0 in
     record {
-      so_far = one_finished link c.args.names.items c.args.boards
-          (into_iter_items c.loop-name.name-iterator) (into_iter_items c.next.new.self) c.in-Some.name
-          c.loop-name.boards c.next-board.new.self board c.loop-name.lines.items c.push_reserved.new.self.items
-          (g.R.Rack.kept c.args.rack.now) kept (g.R.Rack.kept c.keep.new.self) c.loop-name.invariant.so_far
-          c.in-Some.ensures.steps.0 c.next-board.ensures pushed given c.finish_board-link.ensures.sound;
+      so_far = one_finished c.loop-name.invariant.so_far c.in-Some.ensures.steps.0 c.next-board.ensures pushed given
+          c.finish_board-link.ensures.sound;
       room = room_for_less (length kept) (length (g.R.Rack.kept c.keep.new.self)) made
           (length (g.R.Rack.made c.keep.new.self)) (length c.next-board.new.self) one
           (ap (λ l. length l) c.keep.ensures.made)
@@ -71,23 +62,8 @@ loop-name-preserved g c =
       faults = c.keep.ensures.faults ∙ c.loop-name.invariant.faults;
     }
 
-pub returns-clause-lines : goal.returns-clause-lines
-returns-clause-lines g c =
-    let link = g.R.L.Link in
-    (all_finished link c.args.names.items c.args.boards
-    (into_iter_items c.loop-name.name-iterator) c.loop-name.boards c.loop-name.lines.items
-    (g.R.Rack.kept c.args.rack.now) (g.R.Rack.kept c.loop-name.rack) c.loop-name.invariant.so_far (search rules)).lines'
-
-pub returns-clause-kept : goal.returns-clause-kept
-returns-clause-kept g c =
-    let link = g.R.L.Link in
-    (all_finished link c.args.names.items c.args.boards
-    (into_iter_items c.loop-name.name-iterator) c.loop-name.boards c.loop-name.lines.items
-    (g.R.Rack.kept c.args.rack.now) (g.R.Rack.kept c.loop-name.rack) c.loop-name.invariant.so_far (search rules)).links
-
-pub returns-clause-sound : goal.returns-clause-sound
-returns-clause-sound g c =
-    let link = g.R.L.Link in
-    (all_finished link c.args.names.items c.args.boards
-    (into_iter_items c.loop-name.name-iterator) c.loop-name.boards c.loop-name.lines.items
-    (g.R.Rack.kept c.args.rack.now) (g.R.Rack.kept c.loop-name.rack) c.loop-name.invariant.so_far (search rules)).sound
+pub returns : goal.returns
+returns g c =
+    let i = c.loop-name.invariant in
+    let all = all_finished i.so_far (search rules) in
+    record { lines = all.lines'; kept = all.links; sound = all.sound; made = i.made; faults = i.faults }

@@ -1,18 +1,18 @@
 use Rattle.std.proofs.Common.{[], ℕ, List, Vec, Global, length, subst, sym}
 use Rattle.std.specs.List.{AllByRecursion}
-use Rattle.std.proofs.lemmas.Result.{IfOk-weaker}
 use Rattle.ipb_outside.specs.Pairs.{GivesBack, pair_shown}
 use Rattle.hub_multiplexer.specs.Seats.{SeatState}
 use Rattle.hub_session.specs.declared.served.Served.{Served}
 use Rattle.hub_session.specs.Serving.{IsLaneBelow}
-use Rattle.session_serve.specs.Hubs.{AreServedAt, HasServedAll, served_of, pairs_of}
+use Rattle.session_serve.specs.Hubs.{AreServedAt, ServesAll, served_of, pairs_of}
+use Rattle.session_serve.specs.Plans.{ArePlannedAt}
 use Rattle.session_serve.specs.Seats.{AreOfClientsFrom, IsOpen, with_seats}
-use Rattle.session_serve.specs.Serving.{HadMemory}
+use Rattle.session_serve.specs.Serving.{AreBackFrom, HadMemory}
 use Rattle.session_serve.proofs.AtHub.{heads_of, heads_returned, opens_all, served_at}
-use Rattle.session_serve.proofs.EachDone.{both_ok, each_served}
+use Rattle.session_serve.proofs.EachDone.{both_then, each_served}
 use Rattle.session_serve.proofs.LanePlans.{planned_at, planned_none}
-use Rattle.session_serve.proofs.Lists.{came_none, went_none}
 use Rattle.session_serve.proofs.Seating.{clients_front}
+use Rattle.session_serve.proofs.Standing.{gives_none}
 use Rattle.session_serve.proofs.hub.serve_at_hub.Goals as goal
 
 pub serve_under_seats-served-requires-clause-opens : goal.serve_under_seats-served-requires-clause-opens
@@ -34,40 +34,27 @@ returns-in-Ok-clause-heads g c =
 
 pub returns-in-Ok-clause-served : goal.returns-in-Ok-clause-served
 returns-in-Ok-clause-served g c =
-    let shows = pair_shown g.D.Incoming.Source g.D.Outgoing.Sink in
-    let door = c.serve_under_seats-served.new.door in
-    let coming = g.D.Door.coming in
-    let kept = g.D.Door.kept in
-    let turns = c.in-Ok.hub.turns in
+    let tells = g.L.Link.telling in
+    let olds = c.args.lanes.items in
+    let news = c.finish.result.items in
     let m = c.in-Ok.master in
-    let end' = c.serve_under_seats-served.new.master in
-    IfOk-weaker c.serve_under_seats-served.result
-    (λ (served : Vec Served Global). ((seats : List SeatState) × HasServedAll shows c.args.states.now turns seats
-    (with_seats m (length seats)) end' (coming c.args.door.now) (coming door) (kept c.args.door.now) (kept door)
-    served.items)
-    × AllByRecursion HadMemory served.items)
-    (λ (served : Vec Served Global). GivesBack g.D.Door g.D.Incoming.Source
-    g.D.Outgoing.Sink c.args.door.now door (λ came back. AreServedAt g.L.Link.telling c.args.states.now c.args.lanes.items
-    c.finish.result.items came back served.items))
-    (λ served is. (let h = is.0.1 in (
-      h.all_back.came,
-      pairs_of h.all_back.dones,
-      h.all_back.came',
-      h.all_back.went,
+    let served = c.serve_under_seats-served in
+    both_then (λ (lines : Vec Served Global). (seats : List SeatState) × ServesAll g.D.Door g.D.Incoming.Source
+    g.D.Outgoing.Sink c.args.states.now c.in-Ok.hub.turns seats (with_seats m (length seats)) served.new.master
+    c.args.door.now served.new.door lines.items) (λ (lines : Vec Served Global). AllByRecursion HadMemory lines.items)
+    (λ (lines : Vec Served Global). GivesBack g.D.Door g.D.Incoming.Source g.D.Outgoing.Sink c.args.door.now
+    served.new.door (λ came back. AreServedAt tells c.args.states.now olds news came back lines.items)) served.result
+    (λ lines all memory. (let b = all.1.all_back in (
+      b.came,
+      pairs_of b.dones,
+      b.came',
+      b.went,
       served_at c.a_lane_comes_back_with_its_record.ensures
           c.each_body_was_decided_on_a_record_that_the_seat_saw.ensures.answered
-          c.connections_of_a_hub_plan_what_they_submit.ensures
-          c.a_connection_plans_its_first_bodies_first.ensures c.connections_of_a_hub_keep_the_limits.ensures
-          g.L.Link.telling shows c.args.states.now turns c.args.lanes.items c.finish.result.items is.0.0 m end'
-          (coming c.args.door.now) (coming door) (kept c.args.door.now) (kept door) served.items c.in-Ok.ensures.master
-          c.requires.unused c.finish.ensures h is.1,
-    )))
-    (both_ok (λ (served : Vec Served Global). (seats : List SeatState) × HasServedAll shows c.args.states.now turns
-    seats
-    (with_seats m (length seats)) end' (coming c.args.door.now) (coming door) (kept c.args.door.now) (kept door)
-    served.items)
-    (λ (served : Vec Served Global). AllByRecursion HadMemory served.items) c.serve_under_seats-served.result
-    c.serve_under_seats-served.ensures.served c.serve_under_seats-served.ensures.had_memory)
+          c.connections_of_a_hub_plan_what_they_submit.ensures c.a_connection_plans_its_first_bodies_first.ensures
+          c.connections_of_a_hub_keep_the_limits.ensures tells olds news m c.in-Ok.ensures.master c.requires.unused
+          all.1 c.finish.ensures memory,
+    ))) served.ensures.served served.ensures.had_memory
 
 pub returns-in-Ok-clause-pairs : goal.returns-in-Ok-clause-pairs
 returns-in-Ok-clause-pairs g c =
@@ -90,37 +77,26 @@ returns-in-Err-clause-heads g c =
     c.in-Err.ensures.returned
 
 pub returns-in-Err-clause-pairs : goal.returns-in-Err-clause-pairs
-returns-in-Err-clause-pairs g c = (
-  [],
-  [],
-  came_none (g.D.Door.coming c.args.door.now),
-  went_none (g.D.Door.kept c.args.door.now),
-  record { served = []; each = tt },
-)
+returns-in-Err-clause-pairs g c =
+    gives_none g.D.Door g.D.Incoming.Source g.D.Outgoing.Sink c.args.door.now (AreBackFrom c.args.states.now)
+    (record { served = []; each = tt })
 
 pub returns-in-Ok-clause-planned : goal.returns-in-Ok-clause-planned
 returns-in-Ok-clause-planned g c =
-    let shows = pair_shown g.D.Incoming.Source g.D.Outgoing.Sink in
-    let door = c.serve_under_seats-served.new.door in
-    let coming = g.D.Door.coming in
-    let kept = g.D.Door.kept in
-    let all = c.serve_under_seats-served.ensures.all_back in
-    let b = all.1 in (
+    let b = c.serve_under_seats-served.ensures.all_back.1 in (
       b.came,
       pairs_of b.dones,
       b.came',
       b.went,
-      planned_at g.L.Link.telling shows c.args.states.now c.in-Ok.hub.turns c.args.lanes.items c.finish.result.items
-          all.0 c.in-Ok.master c.serve_under_seats-served.new.master (coming c.args.door.now) (coming door)
-          (kept c.args.door.now) (kept door) c.in-Ok.ensures.master c.requires.unused c.finish.ensures b,
+      planned_at g.L.Link.telling c.args.lanes.items c.finish.result.items c.in-Ok.master c.in-Ok.ensures.master
+          c.requires.unused b c.finish.ensures,
     )
 
 pub returns-in-Err-clause-planned : goal.returns-in-Err-clause-planned
-returns-in-Err-clause-planned g c = (
-  [],
-  [],
-  came_none (g.D.Door.coming c.args.door.now),
-  went_none (g.D.Door.kept c.args.door.now),
-  planned_none c.a_record_tells_its_lane.ensures g.L.Link.telling c.args.states.now c.args.lanes.items
-      c.in-Err.returned.lanes.items c.requires.unused c.in-Err.ensures.returned,
-)
+returns-in-Err-clause-planned g c =
+    let olds = c.args.lanes.items in
+    let news = c.in-Err.returned.lanes.items in
+    gives_none g.D.Door g.D.Incoming.Source g.D.Outgoing.Sink c.args.door.now
+    (ArePlannedAt c.args.states.now olds news)
+    (planned_none c.a_record_tells_its_lane.ensures g.L.Link.telling c.args.states.now olds news c.requires.unused
+    c.in-Err.ensures.returned)

@@ -1,18 +1,15 @@
 use Rattle.std.proofs.Common.{◌≡◌, ◌≤◌, ◌∙◌, ℕ, inr, true, List, Vec, Global, ap, length}
 use Rattle.std.proofs.Common.{subst, sym, arith}
 use Rattle.std.specs.List.{AllByRecursion}
-use Rattle.std.specs.Vec.Iter.{into_iter_items}
 use Rattle.std.proofs.lemmas.List.{length-map}
 use Rattle.std.proofs.lemmas.Result.{IfOk-weaker}
 use Rattle.ipb_base.specs.Faults.{Rose}
 use Rattle.ipb_outside.specs.Pairs.{pair_shown}
 use Rattle.hub_multiplexer.specs.Seats.{SeatState}
 use Rattle.hub_session.specs.declared.served.Served.{Served}
-use Rattle.session_serve.specs.Hubs.{HasServedAll}
-use Rattle.session_serve.specs.Seats.{AreTakenIn, HasServed, IsFresh}
-use Rattle.session_serve.proofs.EachDone.{all_back, all_in_turn, all_served, each_back, each_long, fresh_all_back}
-use Rattle.session_serve.proofs.EachDone.{fresh_befores}
-use Rattle.session_serve.proofs.EachDone.{longer, none_back, opened_of, with_ok}
+use Rattle.session_serve.specs.Hubs.{ServesAll}
+use Rattle.session_serve.specs.Seats.{AreTakenIn, IsFresh}
+use Rattle.session_serve.proofs.EachDone.{all_back, all_in_turn, none_back, opened_of, seats_back, seats_long, with_ok}
 use Rattle.session_serve.proofs.hub.serve_seats.Goals as goal
 
 pub returns-then-is_err-clause-all_back : goal.returns-then-is_err-clause-all_back
@@ -26,119 +23,68 @@ returns-then-is_err-clause-all_back g c =
 
 pub give_back-requires-clause-back : goal.give_back-requires-clause-back
 give_back-requires-clause-back g c κs within =
-    let shows = pair_shown g.D.Incoming.Source g.D.Outgoing.Sink in
     let turns = c.args.hub.now.turns in
-    let ended = c.serve_all-ended.result in
-    let h = c.serve_all-ended.ensures.served in
-    let fresh = subst (AllByRecursion (IsFresh turns)) (sym c.into_iter-2.ensures.rest) c.requires.seats.fresh in
-    each_back shows c.args.states.now turns h.befores h.came ended.done.items h.each
-    (fresh_befores shows c.args.states.now turns (into_iter_items c.into_iter-2.result) ended
-    (g.D.Door.coming c.listen.new.self) (g.D.Door.coming c.serve_all-ended.new.door) h fresh).0
+    (seats_back turns c.serve_all-ended.ensures.served
+    (subst (AllByRecursion (IsFresh turns)) (sym c.into_iter-2.ensures.rest) c.requires.seats.fresh)).0
 
 pub give_back-requires-clause-room : goal.give_back-requires-clause-room
 give_back-requires-clause-room g c κs within =
-    let shows = pair_shown g.D.Incoming.Source g.D.Outgoing.Sink in
-    let ended = c.serve_all-ended.result in
-    let h = c.serve_all-ended.ensures.served in
-    let long = each_long shows c.args.states.now h.befores h.came ended.done.items h.each in
-    let all = longer h.befores (into_iter_items ended.seats) (into_iter_items c.into_iter-2.result) h.seats' in
+    let all = seats_long c.serve_all-ended.ensures.served in
     let same = ap (λ (l : List SeatState). length l) c.into_iter-2.ensures.rest in
     let room = c.requires.seats.served' in
-    omega (arith, long, all, same, room)
+    omega (arith, all, same, room)
 
 pub join_all-requires-2-clause-back : goal.join_all-requires-2-clause-back
 join_all-requires-2-clause-back g c κs within =
-    let shows = pair_shown g.D.Incoming.Source g.D.Outgoing.Sink in
     let turns = c.args.hub.now.turns in
-    let ended = c.serve_all-ended.result in
-    let h = c.serve_all-ended.ensures.served in
-    let fresh = subst (AllByRecursion (IsFresh turns)) (sym c.into_iter-2.ensures.rest) c.requires.seats.fresh in
-    fresh_all_back turns (into_iter_items ended.seats)
-    (fresh_befores shows c.args.states.now turns (into_iter_items c.into_iter-2.result) ended
-    (g.D.Door.coming c.listen.new.self) (g.D.Door.coming c.serve_all-ended.new.door) h fresh).1
+    (seats_back turns c.serve_all-ended.ensures.served
+    (subst (AllByRecursion (IsFresh turns)) (sym c.into_iter-2.ensures.rest) c.requires.seats.fresh)).1
 
 pub returns-clause-all_back : goal.returns-clause-all_back
 returns-clause-all_back g c =
-    let shows = pair_shown g.D.Incoming.Source g.D.Outgoing.Sink in
-    let turns = c.args.hub.now.turns in
-    let ended = c.serve_all-ended.result in
-    let coming = g.D.Door.coming in
-    let kept = g.D.Door.kept in
-    let same = c.into_iter-2.ensures.rest in
-    let start = c.args.master.now in
-    all_back shows c.args.states.now turns c.args.room.seats.items ended start c.give_back.new.master
-    c.join_all-2.new.master (coming c.args.door.now) (coming c.listen.new.self) (coming c.serve_all-ended.new.door)
-    (coming c.give_back.new.door) (kept c.args.door.now) (kept c.listen.new.self) (kept c.serve_all-ended.new.door)
-    (kept c.give_back.new.door)
-    (subst (λ (l : List SeatState). HasServed shows c.args.states.now l (coming c.listen.new.self)
-    (coming c.serve_all-ended.new.door) ended) same c.serve_all-ended.ensures.served) c.listen.ensures.coming_kept
-    c.give_back.ensures.coming c.listen.ensures.others_kept c.serve_all-ended.ensures.kept c.give_back.ensures.went
-    c.requires.seats.fresh c.requires.seats.clients c.give_back.ensures.joined c.join_all-2.ensures.joined
+    all_back c.args.hub.now.turns (g.D.Door.kept c.give_back.new.door) c.serve_all-ended.ensures.served
+    c.into_iter-2.ensures.rest c.listen.ensures.coming_kept c.give_back.ensures.coming c.listen.ensures.others_kept
+    c.serve_all-ended.ensures.kept c.give_back.ensures.went c.requires.seats.fresh c.requires.seats.clients
+    c.give_back.ensures.joined c.join_all-2.ensures.joined
 
 pub returns-clause-served : goal.returns-clause-served
 returns-clause-served g c =
-    let shows = pair_shown g.D.Incoming.Source g.D.Outgoing.Sink in
     let turns = c.args.hub.now.turns in
-    let coming = g.D.Door.coming in
-    let kept = g.D.Door.kept in
-    let seats = c.args.room.seats.items in
-    let ended = c.serve_all-ended.result in
-    IfOk-weaker c.conclude.result (λ there. (there ≡ c.give_back.new.served) × (ended.is_whole ≡ true))
-    (λ (there : Vec Served Global). HasServedAll shows c.args.states.now turns seats c.args.master.now
-    c.join_all-2.new.master (coming c.args.door.now) (coming c.give_back.new.door) (kept c.args.door.now)
-    (kept c.give_back.new.door) there.items)
-    (λ there is. all_served shows c.args.states.now turns seats ended c.args.master.now c.give_back.new.master
-    c.join_all-2.new.master (coming c.args.door.now) (coming c.listen.new.self) (coming c.serve_all-ended.new.door)
-    (coming c.give_back.new.door) (kept c.args.door.now) (kept c.listen.new.self) (kept c.serve_all-ended.new.door)
-    (kept c.give_back.new.door) c.give_back.new.served.items there.items
-    (subst (λ (l : List SeatState). HasServed shows c.args.states.now l (coming c.listen.new.self)
-    (coming c.serve_all-ended.new.door) ended) c.into_iter-2.ensures.rest c.serve_all-ended.ensures.served)
-    c.listen.ensures.coming_kept c.give_back.ensures.coming c.listen.ensures.others_kept c.serve_all-ended.ensures.kept
-    c.give_back.ensures.went c.requires.seats.fresh c.requires.seats.clients c.give_back.ensures.joined
-    c.join_all-2.ensures.joined c.give_back.ensures.served (c.serve_all-ended.ensures.served.all is.1)
-    (ap (λ (v : Vec Served Global). v.items) is.0))
-    (with_ok (λ there. there ≡ c.give_back.new.served) (ended.is_whole ≡ true) c.conclude.result
-    c.conclude.ensures.served
-    c.conclude.ensures.whole)
+    let ended = c.serve_all-ended in
+    let back = all_back turns (g.D.Door.kept c.give_back.new.door) ended.ensures.served
+    c.into_iter-2.ensures.rest c.listen.ensures.coming_kept c.give_back.ensures.coming c.listen.ensures.others_kept
+    ended.ensures.kept c.give_back.ensures.went c.requires.seats.fresh c.requires.seats.clients
+    c.give_back.ensures.joined c.join_all-2.ensures.joined in
+    IfOk-weaker c.conclude.result (λ there. (there ≡ c.give_back.new.served) × (ended.result.is_whole ≡ true))
+    (λ (there : Vec Served Global). ServesAll g.D.Door g.D.Incoming.Source g.D.Outgoing.Sink c.args.states.now turns
+    c.args.room.seats.items c.args.master.now c.join_all-2.new.master c.args.door.now c.give_back.new.door there.items)
+    (λ there is. record {
+      all_back = back;
+      lines = ap (λ (v : Vec Served Global). v.items) is.0 ∙ c.give_back.ensures.served;
+      no_others = ended.ensures.served.all is.1;
+    })
+    (with_ok (λ there. there ≡ c.give_back.new.served) (ended.result.is_whole ≡ true) c.conclude.result
+    c.conclude.ensures.served c.conclude.ensures.whole)
 
 pub returns-clause-all : goal.returns-clause-all
 returns-clause-all g c =
-    let shows = pair_shown g.D.Incoming.Source g.D.Outgoing.Sink in
-    let seats = c.args.room.seats.items in
     let ended = c.serve_all-ended.result in
     let h = c.serve_all-ended.ensures.served in
-    let long = each_long shows c.args.states.now h.befores h.came ended.done.items h.each in
-    let all = longer h.befores (into_iter_items ended.seats) (into_iter_items c.into_iter-2.result) h.seats' in
+    let all = seats_long h in
     let same = ap (λ (l : List SeatState). length l) c.into_iter-2.ensures.rest in
     let lines = ap (λ (l : List Served). length l) c.give_back.ensures.served
     ∙ length-map ended.done.items (λ done. done.served) in
     IfOk-weaker c.conclude.result (λ there. (there ≡ c.give_back.new.served) × (ended.is_whole ≡ true))
-    (λ (there : Vec Served Global). length there.items ≡ length seats)
+    (λ (there : Vec Served Global). length there.items ≡ length c.args.room.seats.items)
     (λ there is. (let none = ap (λ (l : List SeatState). length l) (h.all is.1) in
-    let here = ap (λ (v : Vec Served Global). length v.items) is.0 in omega (
-      arith,
-      long,
-      all,
-      same,
-      lines,
-      none,
-      here,
-    )))
+    let here = ap (λ (v : Vec Served Global). length v.items) is.0 in omega (arith, all, same, lines, none, here)))
     (with_ok (λ there. there ≡ c.give_back.new.served) (ended.is_whole ≡ true) c.conclude.result
-    c.conclude.ensures.served
-    c.conclude.ensures.whole)
+    c.conclude.ensures.served c.conclude.ensures.whole)
 
 pub returns-clause-taken_in : goal.returns-clause-taken_in
 returns-clause-taken_in g c =
-    let shows = pair_shown g.D.Incoming.Source g.D.Outgoing.Sink in
-    let coming = g.D.Door.coming in
-    let ended = c.serve_all-ended.result in
-    let same = c.into_iter-2.ensures.rest in
-    all_in_turn shows c.args.states.now c.args.room.seats.items ended c.args.master.now c.give_back.new.master
-    c.join_all-2.new.master (coming c.listen.new.self) (coming c.serve_all-ended.new.door)
-    (subst (λ (l : List SeatState). HasServed shows c.args.states.now l (coming c.listen.new.self)
-    (coming c.serve_all-ended.new.door) ended) same c.serve_all-ended.ensures.served) c.requires.seats.clients
-    c.give_back.ensures.taken_in c.join_all-2.ensures.taken_in
+    all_in_turn c.args.master.now c.give_back.new.master c.join_all-2.new.master c.serve_all-ended.ensures.served
+    c.into_iter-2.ensures.rest c.requires.seats.clients c.give_back.ensures.taken_in c.join_all-2.ensures.taken_in
 
 pub returns-clause-door_faults : goal.returns-clause-door_faults
 returns-clause-door_faults g c =

@@ -1,13 +1,14 @@
-use Rattle.std.proofs.Common.{◌≡◌, ◌∙◌, [], ℕ, List, Vec, ap, length, map, subst, sym}
-use Rattle.std.proofs.lemmas.List.{length-map}
+use Rattle.std.proofs.Common.{◌≡◌, ◌∙◌, ℕ, List, Vec, ap, length, map, subst, sym}
 use Rattle.hub_lane.specs.declared.greeting.Greeted.{Greeted}
 use Rattle.hub_lane.specs.Greeting.{link_of}
 use Rattle.board_greeting.specs.Boards.{AreReached, LeavesRoom}
 use Rattle.board_greeting.specs.Reports.{shown_by}
+use Rattle.session_serve.specs.Executed.{CameInFrames}
 use Rattle.session_serve.specs.Prepared.{IsPrepared, told_by}
+use Rattle.session_serve.specs.Serving.{AreBack}
 use Rattle.session_serve.proofs.Executing.{greeted_untouched, none_executed}
-use Rattle.session_serve.proofs.Lists.{came_none, went_none}
-use Rattle.session_serve.proofs.Reporting.{links_reached}
+use Rattle.session_serve.proofs.Reporting.{greeted_links}
+use Rattle.session_serve.proofs.Standing.{gives_none, none_served}
 use Rattle.session_serve.proofs.session.serve_greeted.Goals as goal
 
 pub keep_all-requires-clause-room : goal.keep_all-requires-clause-room
@@ -17,25 +18,15 @@ keep_all-requires-clause-room g c κs within =
 
 pub returns-in_default-clause-links : goal.returns-in_default-clause-links
 returns-in_default-clause-links g c =
-    let shows = shown_by g.R.L.Link in
-    let boards = c.args.boards.items in
-    let links = map (λ (b : Greeted _). link_of b) boards in (
-      links,
+    let boards = c.args.boards.items in (
+      map (λ (b : Greeted _). link_of b) boards,
       c.keep_all.ensures.kept,
-      (
-        links_reached shows c.args.settings c.args.specs.now boards c.requires.reached,
-        length-map links shows ∙ (length-map boards (λ (b : Greeted _). link_of b) ∙ c.requires.all),
-      ),
+      greeted_links (shown_by g.R.L.Link) c.args.settings c.args.specs.now boards c.requires.reached c.requires.all,
     )
 
 pub returns-in_default-clause-pairs : goal.returns-in_default-clause-pairs
-returns-in_default-clause-pairs g c = (
-  [],
-  [],
-  came_none (g.D.Door.coming c.args.door.now),
-  went_none (g.D.Door.kept c.args.door.now),
-  ([], record { served = []; each = tt }),
-)
+returns-in_default-clause-pairs g c =
+    gives_none g.D.Door g.D.Incoming.Source g.D.Outgoing.Sink c.args.door.now AreBack none_served
 
 pub serve_split-requires-clause-ready : goal.serve_split-requires-clause-ready
 serve_split-requires-clause-ready g c κs within = record {
@@ -59,27 +50,18 @@ pub returns-in-Err-clause-links : goal.returns-in-Err-clause-links
 returns-in-Err-clause-links g c =
     let shows = shown_by g.R.L.Link in
     let boards = c.in-Err.boards.items in
-    let links = map (λ (b : Greeted _). link_of b) boards in
     let same : boards ≡ c.args.boards.items =
     ap (λ (v : Vec (Greeted _) _). v.items) c.in-Err.ensures.given_back in (
-      links,
+      map (λ (b : Greeted _). link_of b) boards,
       c.keep_all-in-Err.ensures.kept,
-      (
-        links_reached shows c.args.settings c.args.specs.now boards
-            (subst (AreReached shows c.args.settings c.args.specs.now) (sym same) c.requires.reached),
-        length-map links shows ∙ (length-map boards (λ (b : Greeted _). link_of b)
-            ∙ (ap (λ (l : List (Greeted _)). length l) same ∙ c.requires.all)),
-      ),
+      greeted_links shows c.args.settings c.args.specs.now boards
+          (subst (AreReached shows c.args.settings c.args.specs.now) (sym same) c.requires.reached)
+          (ap (λ (l : List (Greeted _)). length l) same ∙ c.requires.all),
     )
 
 pub returns-in-Err-clause-pairs : goal.returns-in-Err-clause-pairs
-returns-in-Err-clause-pairs g c = (
-  [],
-  [],
-  came_none (g.D.Door.coming c.args.door.now),
-  went_none (g.D.Door.kept c.args.door.now),
-  ([], record { served = []; each = tt }),
-)
+returns-in-Err-clause-pairs g c =
+    gives_none g.D.Door g.D.Incoming.Source g.D.Outgoing.Sink c.args.door.now AreBack none_served
 
 pub returns-in_default-clause-in_frames : goal.returns-in_default-clause-in_frames
 returns-in_default-clause-in_frames g c =
@@ -88,14 +70,9 @@ returns-in_default-clause-in_frames g c =
     let links = map (λ (b : Greeted _). link_of b) boards in (
       links,
       c.keep_all.ensures.kept,
-      (
-        [],
-        [],
-        came_none (g.D.Door.coming c.args.door.now),
-        went_none (g.D.Door.kept c.args.door.now),
-        none_executed (map shows links)
-            (greeted_untouched shows c.args.settings c.args.specs.now boards c.requires.reached),
-      ),
+      gives_none g.D.Door g.D.Incoming.Source g.D.Outgoing.Sink c.args.door.now (CameInFrames (map shows links))
+          (none_executed (map shows links)
+          (greeted_untouched shows c.args.settings c.args.specs.now boards c.requires.reached)),
     )
 
 pub returns-in-Err-clause-in_frames : goal.returns-in-Err-clause-in_frames
@@ -107,12 +84,7 @@ returns-in-Err-clause-in_frames g c =
     ap (λ (v : Vec (Greeted _) _). v.items) c.in-Err.ensures.given_back in (
       links,
       c.keep_all-in-Err.ensures.kept,
-      (
-        [],
-        [],
-        came_none (g.D.Door.coming c.args.door.now),
-        went_none (g.D.Door.kept c.args.door.now),
-        none_executed (map shows links) (greeted_untouched shows c.args.settings c.args.specs.now boards
-            (subst (AreReached shows c.args.settings c.args.specs.now) (sym same) c.requires.reached)),
-      ),
+      gives_none g.D.Door g.D.Incoming.Source g.D.Outgoing.Sink c.args.door.now (CameInFrames (map shows links))
+          (none_executed (map shows links) (greeted_untouched shows c.args.settings c.args.specs.now boards
+          (subst (AreReached shows c.args.settings c.args.specs.now) (sym same) c.requires.reached))),
     )

@@ -1,10 +1,12 @@
-use Rattle.std.proofs.Common.{◌≡◌, ◌∙◌, ◌++◌, List, [], ap, arith, length, map}
+use Rattle.std.proofs.Common.{◌≡◌, ◌∙◌, ◌++◌, List, ap, arith, length, map}
 use Rattle.std.proofs.lemmas.Result.{IfOk-weaker}
 use Rattle.board_greeting.specs.Reports.{shown_by}
 use Rattle.board_greeting.proofs.Boards.{made_still}
+use Rattle.session_serve.specs.Executed.{CameInFrames}
+use Rattle.session_serve.specs.Serving.{AreBack}
 use Rattle.session_serve.proofs.Executing.{none_executed}
-use Rattle.session_serve.proofs.Lists.{came_none, went_none}
 use Rattle.session_serve.proofs.Reporting.{untouched_links}
+use Rattle.session_serve.proofs.Standing.{gives_none, none_served}
 use Rattle.session_serve.proofs.session.serve_session.Goals as goal
 
 -- what stands behind a list stands behind what the list was before
@@ -18,13 +20,8 @@ returns-in_err-boards-clause-links g c =
     (left.0, left.1, ((untouched_links c.args.settings c.args.specs.now (map shows left.0) left.2.0).0, left.2.1))
 
 pub returns-in_err-boards-clause-pairs : goal.returns-in_err-boards-clause-pairs
-returns-in_err-boards-clause-pairs g c = (
-  [],
-  [],
-  came_none (g.D.Door.coming c.args.door.now),
-  went_none (g.D.Door.kept c.args.door.now),
-  ([], record { served = []; each = tt }),
-)
+returns-in_err-boards-clause-pairs g c =
+    gives_none g.D.Door g.D.Incoming.Source g.D.Outgoing.Sink c.args.door.now AreBack none_served
 
 pub returns-in_err-boards-clause-untouched : goal.returns-in_err-boards-clause-untouched
 returns-in_err-boards-clause-untouched g c =
@@ -63,14 +60,9 @@ returns-in_err-boards-clause-in_frames g c =
     let left = c.in_err-boards.ensures.left in (
       left.0,
       left.1,
-      (
-        [],
-        [],
-        came_none (g.D.Door.coming c.args.door.now),
-        went_none (g.D.Door.kept c.args.door.now),
-        none_executed (map shows left.0)
-            (untouched_links c.args.settings c.args.specs.now (map shows left.0) left.2.0).1,
-      ),
+      gives_none g.D.Door g.D.Incoming.Source g.D.Outgoing.Sink c.args.door.now (CameInFrames (map shows left.0))
+          (none_executed (map shows left.0)
+          (untouched_links c.args.settings c.args.specs.now (map shows left.0) left.2.0).1),
     )
 
 pub returns-clause-in_frames : goal.returns-clause-in_frames

@@ -3,7 +3,7 @@ use Rattle.std.specs.Option.{option_map}
 use Rattle.std.specs.Prelude.{IfOk, OnOk}
 use Rattle.reply_join.specs.declared.answer.Answer.{Answer}
 use Rattle.transcript.specs.declared.line.OpResult.{OpResult}
-use Rattle.transcript.specs.Ends.{answered, piece_result}
+use Rattle.transcript.specs.Ends.{answer_result, piece_result}
 use Rattle.transcript.specs.Results.{shown_not_done, values_in}
 use Rattle.transcript.specs.Steps.{not_done_in}
 use Rattle.transcript.proofs.LatePieces.{in_time}
@@ -12,9 +12,9 @@ use Rattle.transcript.proofs.results.piece_fault.Goals as goal
 
 pub returns-in-Answered-clause-fault : goal.returns-in-Answered-clause-fault
 returns-in-Answered-clause-fault c =
-    let same : answered (slice_get c.as_slice.result.now c.args.piece.index)
+    let same : answer_result (slice_get c.as_slice.result.now c.args.piece.index)
     ≡ piece_result c.args.ends.now c.args.piece =
-    ap (λ (list : List Answer). answered (slice_get list c.args.piece.index)) c.as_slice.ensures
+    ap (λ (list : List Answer). answer_result (slice_get list c.args.piece.index)) c.as_slice.ensures
     ∙ sym (end_at c.args.ends.now c.args.piece.body c.args.piece.index c.in-Some.end.now _ c.in-Some.ensures.lookup.3.0
     c.in-Some.ensures.lookup.1 c.in-Answered.is) in
     let op = c.args.op.now in
@@ -24,9 +24,9 @@ returns-in-Answered-clause-fault c =
 
 pub returns-in-Answered-clause-values : goal.returns-in-Answered-clause-values
 returns-in-Answered-clause-values c =
-    let same : answered (slice_get c.as_slice.result.now c.args.piece.index)
+    let same : answer_result (slice_get c.as_slice.result.now c.args.piece.index)
     ≡ piece_result c.args.ends.now c.args.piece =
-    ap (λ (list : List Answer). answered (slice_get list c.args.piece.index)) c.as_slice.ensures
+    ap (λ (list : List Answer). answer_result (slice_get list c.args.piece.index)) c.as_slice.ensures
     ∙ sym (end_at c.args.ends.now c.args.piece.body c.args.piece.index c.in-Some.end.now _ c.in-Some.ensures.lookup.3.0
     c.in-Some.ensures.lookup.1 c.in-Answered.is) in
     subst (λ (r : OpResult). OnOk c.answer_fault.result

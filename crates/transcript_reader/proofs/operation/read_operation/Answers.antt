@@ -3,7 +3,7 @@ use Rattle.script_steps.specs.Rulings.{Asked}
 use Rattle.transcript.specs.Lines.{line_with, never_sent}
 use Rattle.transcript.specs.Text.{asked_text}
 use Rattle.transcript_reader.proofs.OperationLines.{front_of, looked_up, no_front, read_line}
-use Rattle.transcript_reader.proofs.Words.{behind_found}
+use Rattle.ipb_base.proofs.FrontWords.{behind_found}
 use Rattle.transcript_reader.proofs.operation.read_operation.Goals as goal
 
 pub returns-in_default-behind : goal.returns-in_default-behind

@@ -1,8 +1,8 @@
 use Rattle.std.proofs.Common.{◌++◌, List, ℕ, ap, ◌∙◌}
 use Rattle.transcript.specs.Claims.{IsPrintedPlace}
-use Rattle.transcript_reader.specs.Fronts.{all_of}
+use Rattle.ipb_base.specs.Fronts.{all_of}
 use Rattle.transcript_reader.specs.Reading.{next_place_at}
-use Rattle.transcript_reader.proofs.Many.{one_more}
+use Rattle.ipb_base.proofs.Fronts.{one_more}
 use Rattle.transcript_reader.proofs.Lists.{all_push}
 use Rattle.transcript_reader.proofs.Texts.{places_shorten}
 use Rattle.transcript_reader.proofs.showing.read_more_places.Goals as goal

@@ -1,7 +1,7 @@
 use Rattle.std.proofs.Common.{◌≡◌, ◌++◌, length}
 use Rattle.std.specs.List.{AllByRecursion}
 use Rattle.transcript.specs.Claims.{IsPrintedPlace}
-use Rattle.transcript_reader.specs.Fronts.{all_of}
+use Rattle.ipb_base.specs.Fronts.{all_of}
 use Rattle.transcript_reader.specs.Reading.{next_place_at}
 use Rattle.transcript_reader.proofs.showing.read_more_places.Given as goal
 

@@ -1,8 +1,8 @@
 use Rattle.std.proofs.Common.{◌++◌, List, ℕ, ap, sym, ◌∙◌}
 use Rattle.ipb_base.specs.Word.{IsWord}
-use Rattle.transcript_reader.specs.Fronts.{all_of}
+use Rattle.ipb_base.specs.Fronts.{all_of}
 use Rattle.transcript_reader.specs.Reading.{next_word_at}
-use Rattle.transcript_reader.proofs.Many.{all_step, one_more}
+use Rattle.ipb_base.proofs.Fronts.{all_step, one_more}
 use Rattle.transcript_reader.proofs.Lists.{all_push}
 use Rattle.transcript_reader.proofs.Texts.{words_shorten}
 use Rattle.transcript_reader.proofs.showing.read_words.Goals as goal

@@ -1,6 +1,6 @@
 use Rattle.std.proofs.Common.{◌≡◌, ◌++◌, length}
 use Rattle.ipb_base.specs.Word.{AreWords}
-use Rattle.transcript_reader.specs.Fronts.{all_of}
+use Rattle.ipb_base.specs.Fronts.{all_of}
 use Rattle.transcript_reader.specs.Reading.{next_word_at}
 use Rattle.transcript_reader.proofs.showing.read_words.Given as goal
 

@@ -1,6 +1,6 @@
 use Rattle.std.proofs.Common.{rules, ◌≡◌, ◌∙◌, ◌+◌, ◌++◌, ap, length, List, ℕ}
 use Rattle.world_core.specs.declared.datagrams.Entry.{Entry}
-use Rattle.world_core.specs.Store.{stored}
+use Rattle.world_core.specs.Store.{stored_bytes}
 use Rattle.world_core.proofs.Store.{stored_more}
 use Rattle.world_core.proofs.datagrams.put.Goals as goal
 
@@ -13,6 +13,6 @@ returns-clause-put c =
     let bytes : c.extend_from_slice.new.self.items ≡ old ++ more = search rules in
     let starts : c.len-start.result ≡ length old = search rules in
     let ends : c.len-end.result ≡ length old + length more = search rules in
-    ap (λ (b : List ℕ). stored b c.push_reserved.new.self.items) bytes
-    ∙ (ap (stored (old ++ more)) c.push_reserved.ensures.items
+    ap (λ (b : List ℕ). stored_bytes b c.push_reserved.new.self.items) bytes
+    ∙ (ap (stored_bytes (old ++ more)) c.push_reserved.ensures.items
     ∙ stored_more old more c.args.entries.now.items entry c.requires.within starts ends)

@@ -9,7 +9,7 @@ use Rattle.world_model.specs.declared.heard.LogEntry.{LogEntry}
 use Rattle.world_model.specs.Messages.{control_packet}
 use Rattle.circular_buffer.specs.Buffer.{Buffer, buffer}
 use Rattle.std.specs.List.{AllByRecursion}
-use Rattle.world_model.specs.Board.{Board, expected, held, is_too_long, numbered, present_bus}
+use Rattle.world_model.specs.Board.{Board, expected_identifier, held_replies, is_too_long, numbered_count, present_bus}
 use Rattle.board_node.specs.View.{board_of, keeping, FitsMtu}
 use Rattle.board_node.proofs.Logs.{bus_grows, fits, logged_grows, numbered_most, numbered_one_more, one_if, one_most}
 use Rattle.board_node.proofs.Logs.{with_entry}
@@ -63,9 +63,9 @@ invariant_of-self-2 c =
     ∙ ap (λ (x : Executed). x.reply) run)) in
     let reply : Packet = control_packet e.order id c.from_vec.result in
     let ring : c.keep_reply-gone.new.held ≡ keeping i.held e.numbered reply = c.keep_reply-gone.ensures in
-    let held_now : keeping i.held e.numbered reply ≡ buffer (held (with_entry b e)) i.buffers =
+    let held_now : keeping i.held e.numbered reply ≡ buffer (held_replies (with_entry b e)) i.buffers =
     ap (λ (w : List ℕ). keeping i.held e.numbered (control_packet e.order id w)) words
-    ∙ holds_more b e id i.held is.kept (λ n. c.requires.id n ∙ ap expected (sym c.self.view_is)) in
+    ∙ holds_more b e id i.held is.kept (λ n. c.requires.id n ∙ ap expected_identifier (sym c.self.view_is)) in
     let able = fits b e.body (ap (λ (x : Board). is_too_long x e.body) c.self.view_is ∙ c.requires.fits) in
     let room : length c.from_vec.result ≤ reply_room e.body =
     omega (
@@ -82,11 +82,11 @@ invariant_of-self-2 c =
         arith,
         is.count,
         numbered_one_more i.log.items e,
-        ap numbered log,
+        ap numbered_count log,
         c.from.ensures,
         one_if e.numbered,
       );
-      kept = ring ∙ held_now ∙ ap (λ (x : Board). buffer (held x) i.buffers) (sym board);
+      kept = ring ∙ held_now ∙ ap (λ (x : Board). buffer (held_replies x) i.buffers) (sym board);
       fit = subst (λ (r : Buffer Packet). AllByRecursion (FitsMtu i.mtu) r.items) (sym ring)
           (keeping_all (FitsMtu i.mtu) e.numbered i.held reply is.fit (omega (arith, room, able.1)));
       logged = logged_grows i.mtu i.log.items e c.push_reserved.new.self.items log is.logged

@@ -1,6 +1,6 @@
 use Rattle.std.proofs.Common.{◌+◌, ◌∙◌, ℕ, ap, arith}
 use Rattle.packet_ids.specs.Identifier.{identifier_at}
-use Rattle.world_model.specs.Board.{expected}
+use Rattle.world_model.specs.Board.{expected_identifier}
 use Rattle.board_node.proofs.Logs.{numbered_most}
 use Rattle.board_node.proofs.board.Board.next.Goals as goal
 
@@ -18,4 +18,4 @@ pub returns : goal.returns
 returns c =
     let i = c.self.inside in
     c.id_at.ensures.identifier ∙ (ap (λ (k : ℕ). identifier_at i.first (k + 1)) c.self.invariant.count
-    ∙ ap expected c.self.view_is)
+    ∙ ap expected_identifier c.self.view_is)

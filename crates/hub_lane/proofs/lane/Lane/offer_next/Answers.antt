@@ -5,7 +5,7 @@ use Rattle.world_model.specs.Hub.{Hub, offer}
 use Rattle.lane_record.specs.declared.outcome.Outcome.TheVariants.{LinkLost}
 use Rattle.world_model.specs.Facts.{IsSendable}
 use Rattle.lane_record.specs.declared.item.Item.{Item}
-use Rattle.lane_record.specs.Items.{asked, found, plan_in}
+use Rattle.lane_record.specs.Items.{asked_count, told_by_first, plan_in}
 use Rattle.lane_record.specs.NextEntry.{MayAsk, ask_of}
 use Rattle.hub_lane.specs.Lanes.{BoardStatus, LaneState}
 use Rattle.hub_lane.specs.Rounds.{RoundAfter, Sends, round_of}
@@ -24,10 +24,10 @@ invariant_of-self-2 g c =
     let status : BoardStatus = record { mtu = l.mtu; buffers = l.buffers; next = l.first } in
     let items = l.book.items in
     let client = c.args.client in
-    let seq = asked client items in
-    let planned_there : found plan_in client seq items ≡ Some c.in-Some.body.now = c.in-Some.ensures.some in
+    let seq = asked_count client items in
+    let planned_there : told_by_first plan_in client seq items ≡ Some c.in-Some.body.now = c.in-Some.ensures.some in
     let same : c.in_ok-body.body ≡ c.in-Some.body.now = c.in_ok-body.ensures.copied ∙ c.as_slice.ensures in
-    let there : found plan_in client seq items ≡ Some c.in_ok-body.body =
+    let there : told_by_first plan_in client seq items ≡ Some c.in_ok-body.body =
     planned_there ∙ ap (λ (b : List ℕ). Some b) (sym same) in
     let can : IsSendable c.in_ok-body.body =
     subst IsSendable (sym c.in_ok-body.ensures.copied) (c.copy_words.ensures.sendable
@@ -45,7 +45,7 @@ invariant_of-self-2 g c =
           c.self.invariant.0.kept.legal there;
       within = c.self.invariant.0.kept.within;
     } in
-    let number : c.asked-seq.result ≡ seq = c.asked-seq.ensures ∙ ap (asked client) c.in_ok-reserve.ensures.items in
+    let number : c.asked-seq.result ≡ seq = c.asked-seq.ensures ∙ ap (asked_count client) c.in_ok-reserve.ensures.items in
     let entry : c.ask.new.self.items ≡ items ++ ask_of client seq l.give_ups ∷ [] = c.ask.ensures
     ∙ (ap (λ (xs : List Item). xs ++ ask_of client c.asked-seq.result l.give_ups ∷ []) c.in_ok-reserve.ensures.items
     ∙ ap (λ (n : ℕ). items ++ ask_of client n l.give_ups ∷ []) number) in (

@@ -1,7 +1,7 @@
 use Rattle.std.proofs.Common.{◌≡◌, ◌∙◌, ℕ, List, sym, ap, subst, refl, ◌++◌, ◌∷◌, []}
 use Rattle.ipb_base.specs.Numbers.{payload_of}
 use Rattle.lane_record.specs.declared.item.Item.{Item}
-use Rattle.lane_record.specs.Items.{planned}
+use Rattle.lane_record.specs.Items.{planned_count}
 use Rattle.lane_record.specs.NextEntry.{plan_of}
 use Rattle.hub_lane.specs.Lanes.{BoardStatus, IsLane, LaneState}
 use Rattle.hub_lane.specs.Plans.{CanPlan}
@@ -13,13 +13,13 @@ invariant_of-self-2 g c =
     let l = c.self.inside in
     let status : BoardStatus = record { mtu = l.mtu; buffers = l.buffers; next = l.first } in
     let items = l.book.items in
-    let x = plan_of c.args.client (planned c.args.client items) c.args.body in
+    let x = plan_of c.args.client (planned_count c.args.client items) c.args.body in
     let can : CanPlan items (payload_of l.mtu) c.args.body =
     subst (λ (body : List ℕ). CanPlan items (payload_of l.mtu) body) c.as_slice.ensures
     (subst (λ (v : LaneState _). CanPlan v.items (payload_of v.status.mtu) c.as_slice.result.now) (sym c.self.view_is)
     c.in_ok-check_plan.ensures.can) in
     let entry : c.plan.new.self.items ≡ items ++ x ∷ [] = c.in_ok-plan.ensures.entry
-    ∙ ap (λ (xs : List Item). xs ++ plan_of c.args.client (planned c.args.client xs) c.args.body ∷ [])
+    ∙ ap (λ (xs : List Item). xs ++ plan_of c.args.client (planned_count c.args.client xs) c.args.body ∷ [])
     c.in_ok-reserve.ensures.items in (
       subst (λ (xs : List Item). IsLane l.settings status l.engine xs l.outcomes.items l.outcomes.lates l.give_ups
           l.down l.spent
@@ -28,7 +28,7 @@ invariant_of-self-2 g c =
           (g.L.Link.telling l.link) (g.L.Link.faults l.link) (g.L.Link.quiets l.link) x refl can.fits
           (λ kept. c.entries_go_into_the_book.ensures.plan items l.outcomes.items l.engine.window l.give_ups
           c.args.client
-          (planned c.args.client items) c.args.body kept
+          (planned_count c.args.client items) c.args.body kept
           (record { some_client = c.requires.client; next = refl; unsealed = can.unsealed })) c.self.invariant.0),
       c.self.invariant.1,
       c.self.invariant.2,

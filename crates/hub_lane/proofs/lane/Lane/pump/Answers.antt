@@ -9,7 +9,7 @@ use Rattle.hub_lane.proofs.Carrying.{pumping}
 use Rattle.hub_lane.specs.Rounds.{HasPaid, Pumps, RoundAfter, round_of}
 use Rattle.hub_lane.proofs.Datagrams.{heard_down, heard_still}
 use Rattle.hub_lane.proofs.Listened.{listened_sent, lost_answers, same_answers}
-use Rattle.hub_lane.proofs.Pumps.{PumpLaws, lost_keeps, pump_down, pump_heard, pump_listened, pump_received}
+use Rattle.hub_lane.proofs.Pumps.{lost_keeps, pump_down, pump_heard, pump_listened, pump_received}
 use Rattle.hub_lane.proofs.Pumps.{pump_spent}
 use Rattle.hub_lane.proofs.Rounds.{pays_pumped, pays_stopped, still_up}
 use Rattle.hub_lane.proofs.InRounds.{lane_round, same_lane_idle}
@@ -17,25 +17,7 @@ use Rattle.hub_lane.proofs.lane.Lane.pump.Goals as goal
 
 pub invariant_of-self : goal.invariant_of-self
 invariant_of-self g c =
-    let laws : PumpLaws = record {
-      fates = record {
-        fates = c.a_send_leaves_the_fates.ensures.fates;
-        lates = c.a_send_leaves_the_fates.ensures.lates;
-      };
-      late = c.laws_of_late_answers.ensures;
-      bodies = c.only_an_offer_makes_more_bodies.ensures.sent;
-      agrees = c.a_send_settles_nothing.ensures.agrees;
-      message_bodies = c.only_an_offer_makes_more_bodies.ensures.message;
-      quiet_bodies = c.only_an_offer_makes_more_bodies.ensures.quiet;
-      message = c.what_a_hub_hears_settles_asks.ensures.message;
-      quiet = c.what_a_hub_hears_settles_asks.ensures.quiet;
-      replied = c.outcomes_go_into_the_book.ensures.replied;
-      gave_up = c.outcomes_go_into_the_book.ensures.gave_up;
-      lost = c.outcomes_go_into_the_book.ensures.lost;
-      lost_agrees = c.a_failed_link_loses_what_waits.ensures.agrees;
-      lost_keeps = c.a_failed_link_loses_what_waits.ensures.keeps;
-      lost_adds = c.a_failed_link_loses_what_waits.ensures.adds;
-    } in
+    let laws = c.laws_of_pumps.ensures in
     let l = c.self.inside in
     let status : BoardStatus = record { mtu = l.mtu; buffers = l.buffers; next = l.first } in
     let telling = g.L.Link.telling in
@@ -79,25 +61,7 @@ invariant_of-self g c =
 
 pub invariant_of-self-in-Err-Failed : goal.invariant_of-self-in-Err-Failed
 invariant_of-self-in-Err-Failed g c =
-    let laws : PumpLaws = record {
-      fates = record {
-        fates = c.a_send_leaves_the_fates.ensures.fates;
-        lates = c.a_send_leaves_the_fates.ensures.lates;
-      };
-      late = c.laws_of_late_answers.ensures;
-      bodies = c.only_an_offer_makes_more_bodies.ensures.sent;
-      agrees = c.a_send_settles_nothing.ensures.agrees;
-      message_bodies = c.only_an_offer_makes_more_bodies.ensures.message;
-      quiet_bodies = c.only_an_offer_makes_more_bodies.ensures.quiet;
-      message = c.what_a_hub_hears_settles_asks.ensures.message;
-      quiet = c.what_a_hub_hears_settles_asks.ensures.quiet;
-      replied = c.outcomes_go_into_the_book.ensures.replied;
-      gave_up = c.outcomes_go_into_the_book.ensures.gave_up;
-      lost = c.outcomes_go_into_the_book.ensures.lost;
-      lost_agrees = c.a_failed_link_loses_what_waits.ensures.agrees;
-      lost_keeps = c.a_failed_link_loses_what_waits.ensures.keeps;
-      lost_adds = c.a_failed_link_loses_what_waits.ensures.adds;
-    } in
+    let laws = c.laws_of_pumps.ensures in
     let l = c.self.inside in
     let status : BoardStatus = record { mtu = l.mtu; buffers = l.buffers; next = l.first } in
     let telling = g.L.Link.telling in
@@ -129,7 +93,7 @@ invariant_of-self-in-Err-Failed g c =
           l.outcomes.lates c.lose_all.new.outcomes.lates l.give_ups c.exchange.new.give_ups (g.L.Link.receives l.link)
           (g.L.Link.receives c.exchange.new.link) c.in-Err-Failed.ensures.unsettled.sent
           c.in-Err-Failed.ensures.unsettled.give_ups
-          (lost_answers c.a_failed_link_loses_what_waits.ensures.adds c.sent.result l.outcomes.items
+          (lost_answers c.laws_of_pumps.ensures.lost_adds c.sent.result l.outcomes.items
           c.exchange.new.outcomes.items c.lose_all.new.outcomes.items l.outcomes.lates c.lose_all.new.outcomes.lates
           c.in-Err-Failed.ensures.unsettled.outcomes c.lose_all.ensures.outcomes
           (c.lose_all.ensures.lates ∙ c.in-Err-Failed.ensures.unsettled.lates)) c.exchange.ensures.counts.receives
@@ -138,25 +102,7 @@ invariant_of-self-in-Err-Failed g c =
 
 pub invariant_of-self-in-Err-NoMemory : goal.invariant_of-self-in-Err-NoMemory
 invariant_of-self-in-Err-NoMemory g c =
-    let laws : PumpLaws = record {
-      fates = record {
-        fates = c.a_send_leaves_the_fates.ensures.fates;
-        lates = c.a_send_leaves_the_fates.ensures.lates;
-      };
-      late = c.laws_of_late_answers.ensures;
-      bodies = c.only_an_offer_makes_more_bodies.ensures.sent;
-      agrees = c.a_send_settles_nothing.ensures.agrees;
-      message_bodies = c.only_an_offer_makes_more_bodies.ensures.message;
-      quiet_bodies = c.only_an_offer_makes_more_bodies.ensures.quiet;
-      message = c.what_a_hub_hears_settles_asks.ensures.message;
-      quiet = c.what_a_hub_hears_settles_asks.ensures.quiet;
-      replied = c.outcomes_go_into_the_book.ensures.replied;
-      gave_up = c.outcomes_go_into_the_book.ensures.gave_up;
-      lost = c.outcomes_go_into_the_book.ensures.lost;
-      lost_agrees = c.a_failed_link_loses_what_waits.ensures.agrees;
-      lost_keeps = c.a_failed_link_loses_what_waits.ensures.keeps;
-      lost_adds = c.a_failed_link_loses_what_waits.ensures.adds;
-    } in
+    let laws = c.laws_of_pumps.ensures in
     let l = c.self.inside in
     let status : BoardStatus = record { mtu = l.mtu; buffers = l.buffers; next = l.first } in
     let telling = g.L.Link.telling in
@@ -193,25 +139,7 @@ invariant_of-self-in-Err-NoMemory g c =
 
 pub returns-in-Ok-clause-same : goal.returns-in-Ok-clause-same
 returns-in-Ok-clause-same g c =
-    let laws : PumpLaws = record {
-      fates = record {
-        fates = c.a_send_leaves_the_fates.ensures.fates;
-        lates = c.a_send_leaves_the_fates.ensures.lates;
-      };
-      late = c.laws_of_late_answers.ensures;
-      bodies = c.only_an_offer_makes_more_bodies.ensures.sent;
-      agrees = c.a_send_settles_nothing.ensures.agrees;
-      message_bodies = c.only_an_offer_makes_more_bodies.ensures.message;
-      quiet_bodies = c.only_an_offer_makes_more_bodies.ensures.quiet;
-      message = c.what_a_hub_hears_settles_asks.ensures.message;
-      quiet = c.what_a_hub_hears_settles_asks.ensures.quiet;
-      replied = c.outcomes_go_into_the_book.ensures.replied;
-      gave_up = c.outcomes_go_into_the_book.ensures.gave_up;
-      lost = c.outcomes_go_into_the_book.ensures.lost;
-      lost_agrees = c.a_failed_link_loses_what_waits.ensures.agrees;
-      lost_keeps = c.a_failed_link_loses_what_waits.ensures.keeps;
-      lost_adds = c.a_failed_link_loses_what_waits.ensures.adds;
-    } in
+    let laws = c.laws_of_pumps.ensures in
     let l = c.self.inside in
     let status : BoardStatus = record { mtu = l.mtu; buffers = l.buffers; next = l.first } in
     let telling = g.L.Link.telling in
@@ -299,7 +227,7 @@ returns-in-Err-Failed-clause-same g c =
       settings = refl;
       status = refl;
       items = refl;
-      outcomes = lost_keeps c.a_failed_link_loses_what_waits.ensures.keeps c.sent.result l.outcomes.items
+      outcomes = lost_keeps c.laws_of_pumps.ensures.lost_keeps c.sent.result l.outcomes.items
           c.exchange.new.outcomes.items c.lose_all.new.outcomes.items c.in-Err-Failed.ensures.unsettled.outcomes
           c.lose_all.ensures.outcomes;
       lates = λ place words there. ap (λ (ls : List (Option (List ℕ))). late_in ls place)

@@ -4,7 +4,7 @@ use Rattle.world_model.proofs.Lists.{get_within}
 use Rattle.lane_record.specs.declared.outcome.Outcome.{Outcome}
 use Rattle.lane_record.specs.declared.item.Item.{Item}
 use Rattle.lane_record.specs.Claims.{claims}
-use Rattle.lane_record.specs.Items.{asked}
+use Rattle.lane_record.specs.Items.{asked_count}
 use Rattle.lane_record.specs.NextEntry.{took_of}
 use Rattle.lane_record.proofs.Lengths.{short_at}
 use Rattle.hub_lane.specs.Calls.{IsUntaken, Takes, WasAsked}
@@ -52,7 +52,7 @@ pub take-requires-clause-asked : goal.take-requires-clause-asked
 take-requires-clause-asked g c =
     let was = subst (λ (v : LaneState _). WasAsked v.items c.args.client c.args.seq) (sym c.self.view_is)
     c.requires.asked in
-    subst (λ (xs : List Item). c.args.seq < asked c.args.client xs) (sym c.in_ok-reserve.ensures.items)
+    subst (λ (xs : List Item). c.args.seq < asked_count c.args.client xs) (sym c.in_ok-reserve.ensures.items)
     (asked_below c.self.inside.book.items _ c.args.client c.args.seq c.self.invariant.0.kept.legal was)
 
 pub invariant_of-self-2 : goal.invariant_of-self-2

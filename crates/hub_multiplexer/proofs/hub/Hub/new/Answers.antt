@@ -1,7 +1,7 @@
 use Rattle.std.proofs.Common.{rules, ◌≡◌, length, map, vec_len, ap, sym, ◌∙◌}
 use Rattle.std.proofs.lemmas.List.{length-map}
 use Rattle.turn_pass.specs.Pass.{first_knowledge}
-use Rattle.hub_multiplexer.specs.Lanes.{shown}
+use Rattle.hub_multiplexer.specs.Lanes.{shown_record}
 use Rattle.hub_multiplexer.specs.Seats.{MasterState}
 use Rattle.hub_multiplexer.proofs.Openings.{knows_opened, master_opened, turns_opened}
 use Rattle.hub_multiplexer.proofs.hub.Hub.new.Goals as goal
@@ -13,17 +13,17 @@ returns-clause-master g c = ap (λ (m : MasterState). m.knows) c.of.ensures
 pub of-requires : goal.of-requires
 of-requires g c =
     let many : vec_len c.args.lanes ≡ length c.args.lanes.items = search rules in
-    let long = length-map c.args.lanes.items (shown g.L.Link.telling) in
+    let long = length-map c.args.lanes.items (shown_record g.L.Link.telling) in
     master_opened _ _ _ _ c.len.result c.in-Ok-open_all.ensures.opened c.in-Ok.ensures.room
     (c.len.ensures ∙ (many ∙ (sym long ∙ sym (ap length c.bells_of.ensures.shown))))
 
 pub returns-clause-boards : goal.returns-clause-boards
 returns-clause-boards g c =
     turns_opened _ _ _ c.in-Ok-open_all.ensures.opened
-    ∙ (ap length c.bells_of.ensures.shown ∙ length-map c.args.lanes.items (shown g.L.Link.telling))
+    ∙ (ap length c.bells_of.ensures.shown ∙ length-map c.args.lanes.items (shown_record g.L.Link.telling))
 
 pub invariant_of-hub : goal.invariant_of-hub
 invariant_of-hub g c =
     c.in-Ok-bells_of.ensures.bells
     ∙ sym (turns_opened _ _ _ c.in-Ok-open_all.ensures.opened
-    ∙ (ap length c.bells_of.ensures.shown ∙ length-map c.args.lanes.items (shown g.L.Link.telling)))
+    ∙ (ap length c.bells_of.ensures.shown ∙ length-map c.args.lanes.items (shown_record g.L.Link.telling)))

@@ -1,5 +1,5 @@
 use Rattle.std.proofs.Common.{◌≡◌, ◌≤◌, sym, subst, arith, ap, ◌∙◌}
-use Rattle.lane_record.specs.Items.{asked}
+use Rattle.lane_record.specs.Items.{asked_count}
 use Rattle.lane_tables.specs.Books.{BookState, HasMorePlans, room_of}
 use Rattle.lane_tables.proofs.AskedRows.{claims_few}
 use Rattle.lane_tables.proofs.Books.{book_asked, has_next}
@@ -20,8 +20,8 @@ pub invariant_of-self : goal.invariant_of-self
 invariant_of-self c =
     let b = c.self.inside in
     let more = subst (λ (v : BookState). HasMorePlans c.args.client v.items) (sym c.self.view_is) c.requires.next in
-    let seq : c.args.seq ≡ asked c.args.client b.items.items =
-    c.requires.number ∙ ap (λ (v : BookState). asked c.args.client v.items) (sym c.self.view_is) in
+    let seq : c.args.seq ≡ asked_count c.args.client b.items.items =
+    c.requires.number ∙ ap (λ (v : BookState). asked_count c.args.client v.items) (sym c.self.view_is) in
     let after = room_of c.put.new.items.cap c.put.new.items.len c.put.new.entries.cap c.put.new.entries.len
     in
     let room = ap (λ (v : BookState). v.room) c.self.view_is in

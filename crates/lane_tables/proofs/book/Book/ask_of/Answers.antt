@@ -1,6 +1,6 @@
 use Rattle.std.proofs.Common.{◌≡◌, ◌≤◌, ◌∙◌, Some, IfSome, IfNone, sym, ap, arith, subst}
 use Rattle.std.proofs.lemmas.Option.{slice_get-get_or}
-use Rattle.lane_record.specs.Items.{asked}
+use Rattle.lane_record.specs.Items.{asked_count}
 use Rattle.lane_tables.specs.Books.{BookState, IsAskedRow, IsRow, Row, TellsAsks, row_at}
 use Rattle.lane_tables.specs.Taken.{IsAskAt}
 use Rattle.lane_tables.proofs.AskedRows.{is_ask, is_not_asked}
@@ -45,7 +45,7 @@ returns-in-Some-clause-none c =
     let same : row ≡ at.row = cc in
     let told = subst (IsRow items client) at.mine (c.self.invariant.rows_are client) in
     let tells = subst (IsAskedRow items client) at.mine (c.self.invariant.asked_are client) in
-    subst (λ (v : BookState). IfNone c.ask_of.result (asked client v.items ≤ c.args.seq)) c.self.view_is
+    subst (λ (v : BookState). IfNone c.ask_of.result (asked_count client v.items ≤ c.args.seq)) c.self.view_is
     (is_not_asked items client row.bodies row.asked c.args.seq c.ask_of.result
     (subst (λ (r : Row). TellsAsks items client r.bodies r.asked) (sym same) tells)
     (ap (λ (r : Row). r.asked) same ∙ told.asked_are) c.ask_of.ensures)
@@ -58,4 +58,4 @@ returns-in-None-clause-none c =
     (sym (c.row_at.ensures ∙ ap (row_at client) c.deref.ensures.value) ∙ c.in-None.is) in
     let tells = subst (IsRow items client) gone (c.self.invariant.rows_are client) in
     let none = tells.asked_are in
-    subst (λ (v : BookState). asked client v.items ≤ c.args.seq) c.self.view_is (omega (arith, none))
+    subst (λ (v : BookState). asked_count client v.items ≤ c.args.seq) c.self.view_is (omega (arith, none))

@@ -3,7 +3,7 @@ use Rattle.std.specs.List.{slice_get}
 use Rattle.std.proofs.lemmas.Option.{slice_get-get_or}
 use Rattle.world_model.proofs.Lists.{get_within}
 use Rattle.lane_record.specs.declared.item.Item.{Item}
-use Rattle.lane_record.specs.Items.{asked, found, plan_in, planned}
+use Rattle.lane_record.specs.Items.{asked_count, told_by_first, plan_in, planned_count}
 use Rattle.lane_tables.specs.Books.{BookState, next_of, row_of}
 use Rattle.lane_tables.proofs.Books.{next_none, next_some, not_a_plan, plan_same}
 use Rattle.lane_tables.proofs.book.Book.next.Goals as goal
@@ -15,7 +15,7 @@ returns-in_err-place-clause-none c =
     ∙ c.in_err-place.was in
     let same = next_none c.self.inside.items.items c.args.client (row_of c.args.client c.self.inside.rows.items)
     (c.self.invariant.rows_are c.args.client) there in
-    rw c.from_residual.ensures (subst (λ (v : BookState). asked c.args.client v.items ≡ planned c.args.client v.items)
+    rw c.from_residual.ensures (subst (λ (v : BookState). asked_count c.args.client v.items ≡ planned_count c.args.client v.items)
     c.self.view_is same)
 
 pub index-item-requires : goal.index-item-requires
@@ -37,7 +37,7 @@ unreachable-requires c =
     let here : slice_get items place ≡ Some item =
     slice_get-get_or items place item (get_within items place _ at.there)
     ∙ ap (λ (x : Item). Some x) (sym c.index-item.ensures) in
-    not_a_plan item c.args.client (asked c.args.client items) at.body (sym here ∙ at.there) c.in_default.not-Plan
+    not_a_plan item c.args.client (asked_count c.args.client items) at.body (sym here ∙ at.there) c.in_default.not-Plan
 
 pub returns-clause-some : goal.returns-clause-some
 returns-clause-some c =
@@ -50,7 +50,7 @@ returns-clause-some c =
     let here : slice_get items place ≡ Some item =
     slice_get-get_or items place item (get_within items place _ at.there)
     ∙ ap (λ (x : Item). Some x) (sym c.index-item.ensures) in
-    let plan = plan_same item c.args.client (asked c.args.client items) at.body (sym here ∙ at.there) in
+    let plan = plan_same item c.args.client (asked_count c.args.client items) at.body (sym here ∙ at.there) in
     let body : Some at.body ≡ Some c.in-Plan.body = sym plan ∙ ap plan_in c.in-Plan.is in
-    subst (λ (v : BookState). found plan_in c.args.client (asked c.args.client v.items) v.items ≡ Some c.in-Plan.body)
+    subst (λ (v : BookState). told_by_first plan_in c.args.client (asked_count c.args.client v.items) v.items ≡ Some c.in-Plan.body)
     c.self.view_is (at.first ∙ body)

@@ -2,7 +2,7 @@ use Rattle.std.proofs.Common.{◌≡◌, ◌≤◌, sym, subst, arith, ap, ◌�
 use Rattle.std.proofs.Common.{length}
 use Rattle.transaction_codec.specs.Answer.{reply_room}
 use Rattle.lane_tables.specs.Planned.{IsFull}
-use Rattle.lane_record.specs.Items.{planned}
+use Rattle.lane_record.specs.Items.{planned_count}
 use Rattle.lane_tables.specs.Books.{BookState, room_of}
 use Rattle.lane_tables.proofs.Books.{book_planned}
 use Rattle.lane_tables.proofs.book.Book.plan.Goals as goal
@@ -11,8 +11,8 @@ pub invariant_of-self-2 : goal.invariant_of-self-2
 invariant_of-self-2 c =
     let b = c.self.inside in
     let view = sym c.self.view_is in
-    let seq : c.planned-seq.result ≡ planned c.args.client b.items.items =
-    c.planned-seq.ensures ∙ ap (λ (v : BookState). planned c.args.client v.items) view in
+    let seq : c.planned-seq.result ≡ planned_count c.args.client b.items.items =
+    c.planned-seq.ensures ∙ ap (λ (v : BookState). planned_count c.args.client v.items) view in
     let few = subst (λ (v : BookState). ¬ IsFull v.items (length c.args.body) (reply_room c.args.body)) view
     c.requires.few in
     let after = room_of c.put.new.items.cap c.put.new.items.len c.put.new.entries.cap c.put.new.entries.len

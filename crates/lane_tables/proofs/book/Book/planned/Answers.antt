@@ -1,6 +1,6 @@
 use Rattle.std.proofs.Common.{◌≡◌, ◌∙◌, sym, ap, arith, subst, Some, length}
 use Rattle.std.proofs.lemmas.Option.{slice_get-get_or}
-use Rattle.lane_record.specs.Items.{planned}
+use Rattle.lane_record.specs.Items.{planned_count}
 use Rattle.lane_tables.specs.Books.{BookState, IsRow, Row, row_at}
 use Rattle.lane_tables.proofs.ClientRows.{found_at, no_row}
 use Rattle.lane_tables.proofs.book.Book.planned.Goals as goal
@@ -25,7 +25,7 @@ returns-in-Some c =
     let tells = subst (IsRow c.self.inside.items.items c.args.client) found.mine (c.self.invariant.rows_are
     c.args.client) in
     c.planned.ensures ∙ (ap (λ (r : Row). length r.bodies) same ∙ (tells.planned_are
-    ∙ ap (λ (v : BookState). planned c.args.client v.items) c.self.view_is))
+    ∙ ap (λ (v : BookState). planned_count c.args.client v.items) c.self.view_is))
 
 pub returns-in-None : goal.returns-in-None
 returns-in-None c =
@@ -33,4 +33,4 @@ returns-in-None c =
     let gone = no_row c.args.client rows
     (sym (c.row_at.ensures ∙ ap (row_at c.args.client) c.deref.ensures.value) ∙ c.in-None.is) in
     let tells = subst (IsRow c.self.inside.items.items c.args.client) gone (c.self.invariant.rows_are c.args.client) in
-    tells.planned_are ∙ ap (λ (v : BookState). planned c.args.client v.items) c.self.view_is
+    tells.planned_are ∙ ap (λ (v : BookState). planned_count c.args.client v.items) c.self.view_is

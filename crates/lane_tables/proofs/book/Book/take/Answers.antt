@@ -1,6 +1,6 @@
 use Rattle.std.proofs.Common.{◌≤◌, ◌<◌, ◌++◌, ◌∷◌, [], List, sym, subst, arith, ap}
 use Rattle.lane_record.specs.declared.item.Item.{Item}
-use Rattle.lane_record.specs.Items.{asked}
+use Rattle.lane_record.specs.Items.{asked_count}
 use Rattle.lane_record.specs.NextEntry.{took_of}
 use Rattle.lane_tables.specs.Books.{BookState, IsBook, Row, room_of}
 use Rattle.lane_tables.proofs.Books.{book_took, has_asked}
@@ -9,12 +9,12 @@ use Rattle.lane_tables.proofs.book.Book.take.Goals as goal
 pub add_took-requires : goal.add_took-requires
 add_took-requires c = has_asked c.self.inside.items.items c.self.inside.rows.items c.args.client c.args.seq
     c.self.invariant.rows_are
-    (subst (λ (v : BookState). c.args.seq < asked c.args.client v.items) (sym c.self.view_is) c.requires.asked)
+    (subst (λ (v : BookState). c.args.seq < asked_count c.args.client v.items) (sym c.self.view_is) c.requires.asked)
 
 pub invariant_of-self : goal.invariant_of-self
 invariant_of-self c =
     let b = c.self.inside in
-    let below = subst (λ (v : BookState). c.args.seq < asked c.args.client v.items) (sym c.self.view_is)
+    let below = subst (λ (v : BookState). c.args.seq < asked_count c.args.client v.items) (sym c.self.view_is)
     c.requires.asked in
     let x = took_of c.args.client c.args.seq c.args.outcome c.args.give_ups in
     let after = room_of c.put.new.items.cap c.put.new.items.len c.put.new.entries.cap c.put.new.entries.len

@@ -10,7 +10,7 @@ pub loop-name-init : goal.loop-name-init
 loop-name-init c = (
   [],
   sym c.entries-name-items.ensures
-      ∙ ap Rattle.node_tree.specs.Named.named (sym c.into_iter-name-iterator.ensures.into_iter_gives.0),
+      ∙ ap Rattle.node_tree.specs.Named.named_entries (sym c.into_iter-name-iterator.ensures.into_iter_gives.0),
   tt,
 )
 

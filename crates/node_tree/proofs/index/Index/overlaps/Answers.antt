@@ -1,7 +1,7 @@
 use Rattle.std.proofs.Common.{◌≡◌, ◌<◌, All, IfOk, [], sym, ap, ◌∙◌, subst}
 use Rattle.std.proofs.lemmas.Result.{IfOk-weaker}
 use Rattle.std.specs.FinMap.{entries, entries-from_sorted, from_sorted, len}
-use Rattle.node_tree.specs.Named.{named, AreInOrder}
+use Rattle.node_tree.specs.Named.{named_entries, AreInOrder}
 use Rattle.node_tree.specs.OverlapSearch.{AreNamedRegisters}
 use Rattle.node_tree.specs.Overlaps.{overlapping}
 use Rattle.node_tree.proofs.EntryLemmas.{get-at}
@@ -12,8 +12,8 @@ use Rattle.node_tree.proofs.index.Index.overlaps.Goals as goal
 pub returns-clause-pairs : goal.returns-clause-pairs
 returns-clause-pairs c =
     let same =
-    ap named c.as_slice.ensures.value
-    ∙ sym (entries-from_sorted by_bytes (named c.self.inside.entries.items)
+    ap named_entries c.as_slice.ensures.value
+    ∙ sym (entries-from_sorted by_bytes (named_entries c.self.inside.entries.items)
     (sorted c.self.inside.entries.items c.self.invariant.ordered)) ∙ ap entries c.self.view_is in
     subst (λ es. IfOk c.overlapping_pairs.result (λ pairs. pairs.items ≡ overlapping [] es)) same
     c.overlapping_pairs.ensures
@@ -30,6 +30,6 @@ overlapping_pairs-requires-clause-in_order c = subst AreInOrder (sym c.as_slice.
 pub overlapping_pairs-requires-clause-registers : goal.overlapping_pairs-requires-clause-registers
 overlapping_pairs-requires-clause-registers c =
     let es = c.self.inside.entries.items in
-    let whole = entries-from_sorted by_bytes (named es) (sorted es c.self.invariant.ordered) in
-    subst AreNamedRegisters (whole ∙ ap named (sym c.as_slice.ensures.value))
-    (λ i e is. c.self.invariant.registers e.0 e.1 (get-at (from_sorted (named es)) i e.0 e.1 is))
+    let whole = entries-from_sorted by_bytes (named_entries es) (sorted es c.self.invariant.ordered) in
+    subst AreNamedRegisters (whole ∙ ap named_entries (sym c.as_slice.ensures.value))
+    (λ i e is. c.self.invariant.registers e.0 e.1 (get-at (from_sorted (named_entries es)) i e.0 e.1 is))

@@ -1,7 +1,7 @@
 use Rattle.std.proofs.Common.{◌<◌, sym, subst, arith}
 use Rattle.std.proofs.lemmas.List.Elements.{Contains-push}
 use Rattle.std.specs.List.{Contains}
-use Rattle.node_tree.specs.Named.{named}
+use Rattle.node_tree.specs.Named.{named_entries}
 use Rattle.node_tree.specs.OverlapSearch.{IsTimeline}
 use Rattle.node_tree.proofs.NamedLemmas.{sorted}
 use Rattle.node_tree.proofs.TimelineLemmas.{closed_at, grows-adds}
@@ -23,7 +23,7 @@ push_event-requires c =
 
 pub loop-earlier-preserved : goal.loop-earlier-preserved
 loop-earlier-preserved c =
-    let es = named c.args.entries.now in
+    let es = named_entries c.args.entries.now in
     let adds = c.in_ok-push_event.ensures in
     let line =
     subst (λ ps. IsTimeline es c.args.place ps c.loop-earlier.events.items) c.in-Some.ensures.items

@@ -1,11 +1,11 @@
 use Rattle.std.proofs.Common.{length}
-use Rattle.node_tree.specs.Named.{named}
+use Rattle.node_tree.specs.Named.{named_entries}
 use Rattle.node_tree.specs.OverlapSearch.{IsTimeline, Grows}
 use Rattle.node_tree.proofs.overlapping.events.close.Given as goal
 
 abbrev pub invariant-loop-earlier : goal.invariant-loop-earlier
 invariant-loop-earlier l = record {
-  timeline : IsTimeline (named l.entries) l.place l.open_places.items l.events.items;
+  timeline : IsTimeline (named_entries l.entries) l.place l.open_places.items l.events.items;
   grows : Grows l.initial.events.items l.events.items;
 }
 

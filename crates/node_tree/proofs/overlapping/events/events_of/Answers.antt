@@ -1,6 +1,6 @@
 use Rattle.std.proofs.Common.{◌≡◌, get_or, length, subst, arith}
 use Rattle.std.proofs.lemmas.List.Elements.{Contains-get_or}
-use Rattle.node_tree.specs.Named.{named}
+use Rattle.node_tree.specs.Named.{named_entries}
 use Rattle.node_tree.specs.OverlapSearch.{IsNoted, AreNoted}
 use Rattle.node_tree.proofs.NamedLemmas.{sorted, length-named}
 use Rattle.node_tree.proofs.NotingLemmas.{lowers-same, lowers-more}
@@ -11,8 +11,8 @@ pub loop-place-init : goal.loop-place-init
 loop-place-init c =
     rw (c.in_ok-events.ensures.items, c.new-open_places.ensures.items)
     record {
-      timeline = timeline-none (named c.args.entries.now);
-      lowers = lowers-same (named c.args.entries.now) c.args.firsts.now;
+      timeline = timeline-none (named_entries c.args.entries.now);
+      lowers = lowers-same (named_entries c.args.entries.now) c.args.firsts.now;
       noted = λ a b less within. absurd (omega arith);
     }
 
@@ -24,7 +24,7 @@ note_each-requires-clause-before c = λ k d less.
 
 pub loop-place-preserved : goal.loop-place-preserved
 loop-place-preserved c =
-    let es = named c.args.entries.now in
+    let es = named_entries c.args.entries.now in
     let order = sorted c.args.entries.now c.requires.in_order in
     let k = c.loop-place.place in
     let events = c.close.new.events.items in
@@ -49,7 +49,7 @@ loop-place-preserved c =
 
 pub returns : goal.returns
 returns c =
-    let es = named c.args.entries.now in
+    let es = named_entries c.args.entries.now in
     let same : c.loop-place.place ≡ length es =
     omega (arith, length-named c.args.entries.now, c.loop-place-test.false) in
     record {

@@ -3,7 +3,7 @@ use Rattle.std.specs.List.{AllByRecursion}
 use Rattle.reliable_engine.specs.Answers.{IsQuiet, sent_next}
 use Rattle.world_model.specs.declared.offered.OpenPlace.{OpenPlace}
 use Rattle.world_model.specs.Hub.{Hub}
-use Rattle.world_model.specs.Sends.{first_send, wanted}
+use Rattle.world_model.specs.Sends.{first_send, first_wanted}
 use Rattle.reliable_engine.specs.Steps.{places_wanted, sending_of}
 use Rattle.reliable_engine.specs.View.{hub_of}
 use Rattle.world_model.proofs.Hubs.{wanted_is}
@@ -23,13 +23,13 @@ pub returns-in-Some-clause-open_place : goal.returns-in-Some-clause-open_place
 returns-in-Some-clause-open_place c =
     let i = c.self.inside in
     let os = i.open_places in
-    sendable (record (hub_of i) { open_places = c.take_wanted.new.self }) os (wanted i.first os) c.in-Some.send
+    sendable (record (hub_of i) { open_places = c.take_wanted.new.self }) os (first_wanted i.first os) c.in-Some.send
     c.take_wanted.ensures.after (wanted_is i.first os) (sym c.take_wanted.ensures.send ∙ c.in-Some.is)
 
 pub returns-in-Some-clause-none : goal.returns-in-Some-clause-none
 returns-in-Some-clause-none c =
     let i = c.self.inside in
-    let told : sending_of (wanted i.first i.open_places) ≡ Some c.in-Some.send =
+    let told : sending_of (first_wanted i.first i.open_places) ≡ Some c.in-Some.send =
     sym c.take_wanted.ensures.send ∙ c.in-Some.is in (
       λ e. absurd (cc),
       λ nothing. absurd (not_quiet i.first i.open_places c.in-Some.send told
@@ -41,7 +41,7 @@ returns-clause-none c =
     let i = c.self.inside in
     let h = c.args.self.now in
     let os = i.open_places in
-    let none : wanted i.first os ≡ None =
+    let none : first_wanted i.first os ≡ None =
     nothing_wanted i.first os (sym c.take_wanted.ensures.send ∙ c.in_default.is) in
     let same : c.take_wanted.new.self ≡ os = c.take_wanted.ensures.after ∙ ap (places_wanted os) none in
     let sent = c.first_send.ensures.send
@@ -49,4 +49,4 @@ returns-clause-none c =
     same
     ∙ ap (λ (y : Hub). sent_next (first_send y y.queue)) c.self.view_is) in
     nothing h c.first_send.result (ap (λ (y : Hub). y.status_wanted) (sym c.self.view_is) ∙ c.if-self.false)
-    (ap (λ (y : Hub). wanted y.first y.open_places) (sym c.self.view_is) ∙ none) sent
+    (ap (λ (y : Hub). first_wanted y.first y.open_places) (sym c.self.view_is) ∙ none) sent

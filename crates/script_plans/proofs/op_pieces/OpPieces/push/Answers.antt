@@ -1,7 +1,7 @@
 use Rattle.std.proofs.Common.{◌≡◌, ◌++◌, [], ◌∷◌, ◌∙◌, List, ap, arith, length, map}
 use Rattle.script_plans.specs.declared.planned.PieceAt.{PieceAt}
 use Rattle.script_plans.specs.declared.op_pieces.Span.{Span}
-use Rattle.script_plans.specs.Plan.{moved}
+use Rattle.script_plans.specs.Plan.{piece_behind}
 use Rattle.script_plans.proofs.SpanLemmas.{one_more}
 use Rattle.script_plans.proofs.op_pieces.OpPieces.push.Goals as goal
 
@@ -9,7 +9,7 @@ pub returns : goal.returns
 returns c =
     let places = c.self.inside.places.items in
     let spans = c.self.inside.spans.items in
-    let more = map (moved c.args.first) c.args.pieces.now in
+    let more = map (piece_behind c.args.first) c.args.pieces.now in
     let reserved : c.reserve-2.new.self.items ≡ places = c.reserve-2.ensures.items in
     let places_are : c.push_moved.new.places.items ≡ places ++ more =
     c.push_moved.ensures ∙ ap (λ (ps : List PieceAt). ps ++ more) reserved in

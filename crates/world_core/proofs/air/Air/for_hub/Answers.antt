@@ -3,7 +3,7 @@ use Rattle.std.specs.List.{slice_get}
 use Rattle.world_model.specs.declared.datagram.Direction.TheVariants.{ToHub}
 use Rattle.world_model.specs.Links.{IsHandedAt, Told}
 use Rattle.world_core.specs.Airs.{may_hear, told_of}
-use Rattle.world_core.specs.Store.{datagram_of, lent}
+use Rattle.world_core.specs.Store.{datagram_of, lent_datagram}
 use Rattle.world_core.proofs.Airs.{handed_at}
 use Rattle.world_core.proofs.air.Air.for_hub.Goals as goal
 
@@ -12,7 +12,7 @@ returns-clause-some c =
     let i = c.self.inside in
     let place = c.args.place in
     let datagram = datagram_of c.in-Some.datagram in
-    let there : slice_get i.datagrams place ≡ Some datagram = sym c.get.ensures ∙ ap lent c.in-Some.is in
+    let there : slice_get i.datagrams place ≡ Some datagram = sym c.get.ensures ∙ ap lent_datagram c.in-Some.is in
     let may : may_hear ToHub i.sent (slice_get i.datagrams place) ≡ true =
     ap (may_hear ToHub i.sent) there ∙ (sym c.may_hear.ensures ∙ c.if-not-may_hear.false) in
     subst (λ (told : Told). IsHandedAt told datagram.bytes place) c.self.view_is

@@ -7,14 +7,14 @@ use Rattle.world_core.specs.declared.message.Message.TheVariants.{Reply, Status,
 use Rattle.world_core.specs.Messages.{IsRead}
 use Rattle.world_core.specs.declared.datagrams.DatagramRef.{DatagramRef}
 use Rattle.world_core.specs.Steps.{world_of}
-use Rattle.world_core.specs.Store.{datagram_of, lent}
+use Rattle.world_core.specs.Store.{datagram_of, lent_datagram}
 use Rattle.world_core.proofs.Hearing.{message_told, other_told}
 use Rattle.world_core.proofs.run.Run.tell_hub.Goals as goal
 
 -- the datagram at the place
 there : (air : List Datagram) (place : ℕ) (datagram : DatagramRef) (got : Option DatagramRef)
-    → lent got ≡ slice_get air place → got ≡ Some datagram → slice_get air place ≡ Some (datagram_of datagram)
-there air place datagram got is some = sym is ∙ ap lent some
+    → lent_datagram got ≡ slice_get air place → got ≡ Some datagram → slice_get air place ≡ Some (datagram_of datagram)
+there air place datagram got is some = sym is ∙ ap lent_datagram some
 
 -- the message in it
 read_in : (bytes read : List ℕ) (message is : Message) → read ≡ bytes → message ≡ is → IsRead read message

@@ -13,7 +13,7 @@ returns-clause-status c = λ bytes fits. (
 pub returns-clause-resend : goal.returns-clause-resend
 returns-clause-resend c = λ bytes id fits. (
   λ e. resend_found c.laws_below.ensures bytes id fits e,
-  λ is. ap to_board is.1 ∙ resend_read c.laws_below.ensures id is.0,
+  λ is. ap to_board is.1 ∙ resend_read c.laws_below.ensures.packets.back id is.0,
 )
 
 pub returns-clause-control : goal.returns-clause-control

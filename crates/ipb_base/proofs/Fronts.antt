@@ -2,7 +2,7 @@
 use Rattle.std.proofs.Common.{◌≡◌, ℕ, zero, suc, ◌<◌, ◌≤◌, List, [], ◌∷◌, ◌++◌, length, Option, Some, None, refl, sym}
 use Rattle.std.proofs.Common.{ap, ◌∙◌, arith, append_assoc}
 use Rattle.std.specs.List.{AllByRecursion, flat_map}
-use Rattle.transcript_reader.specs.Fronts.{Front, in_front, many_by, many, all_of, ◌>>=◌}
+use Rattle.ipb_base.specs.Fronts.{Front, in_front, many_by, many, all_of, ◌>>=◌}
 
 -- what is read is taken off the text
 abbrev pub Shortens : {A : Type 0} → (List ℕ → Front A) → Type 0
@@ -83,3 +83,32 @@ module _ {A : Type 0} (at : List ℕ → Front A) (short : Shortens at) (spell :
       ap (all_of at) (append_assoc (spell a) (flat_map spell items) rest)
       ∙ (all_step at short (spell a ++ tail) tail a (again a tail are.0)
       ∙ ap (in_front a) (all_again again items rest are.1 none))
+
+  Spelled : List ℕ → List A × List ℕ → Type 0
+  Spelled text read = AllByRecursion Is read.0 × (text ≡ flat_map spell read.0 ++ read.1)
+
+  found_by : ((text rest : List ℕ) (a : A) → at text ≡ Some (a, rest) → Is a × (text ≡ spell a ++ rest)) → (m : ℕ)
+      (text : List ℕ) (r : Front A) → at text ≡ r → ((rest : List ℕ) → Spelled rest (many at m rest))
+      → Spelled text (many_by (many at m) text r)
+  unfolding Spelled
+  found_by found m text None e later = (tt, refl)
+  found_by found m text (Some (a, rest)) e later =
+      let here = found text rest a e in
+      let more = later rest in (
+        (here.0, more.0),
+        here.1 ∙ (ap (λ (t : List ℕ). spell a ++ t) more.1
+            ∙ sym (append_assoc (spell a) (flat_map spell (many at m rest).0) (many at m rest).1)),
+      )
+
+  many_found : ((text rest : List ℕ) (a : A) → at text ≡ Some (a, rest) → Is a × (text ≡ spell a ++ rest)) → (m : ℕ)
+      (text : List ℕ) → Spelled text (many at m text)
+  unfolding Spelled
+  many_found found zero text = (tt, refl)
+  many_found found (suc m) text = found_by found m text (at text) refl (λ rest. many_found found m rest)
+
+  -- what is read is spelled so
+  pub all_found : ((text rest : List ℕ) (a : A) → at text ≡ Some (a, rest) → Is a × (text ≡ spell a ++ rest))
+      → (text : List ℕ)
+      → AllByRecursion Is (all_of at text).0 × (text ≡ flat_map spell (all_of at text).0 ++ (all_of at text).1)
+  unfolding Spelled
+  all_found found text = many_found found (length text) text

@@ -4,7 +4,7 @@ use Rattle.std.proofs.Common.{nat_eq, true, inl, inr}
 use Rattle.std.specs.Option.{MatchOption}
 use Rattle.std.proofs.lemmas.Bool.{cases_Bool}
 use Rattle.std.proofs.lemmas.Bool.Decides.{nat_tests}
-use Rattle.transcript_reader.specs.Fronts.{behind, Finds}
+use Rattle.ipb_base.specs.Fronts.{behind, Finds}
 
 same_byte : (b : ℕ) → nat_eq b b ≡ true
 same_byte b = grind (arith, nat_tests)
