@@ -9,10 +9,24 @@ ghost use Rattle.address_table.specs.Keys as spec;
 ghost use Rattle.address_table.specs.Rules as rule;
 ghost use Rattle.address_table.specs.Fields.{SaysFields};
 
-use crate::kinds::{mode_named, permission_named};
+use crate::kinds::{is_one_of, mode_named, permission_named};
 use crate::{MAX_ID_BYTES, MAX_INDEXES, MAX_WORDS, Mode, Permission, TableWhy, number};
 use toml::value::Array;
 use toml::{Table, Value};
+
+/// The keys of a node of any format.
+const COMMON_KEYS: [&str; 10] = [
+    "id",
+    "address",
+    "mask",
+    "permission",
+    "mode",
+    "size",
+    "module",
+    "tags",
+    "description",
+    "nodes",
+];
 
 /// What a node says of its registers.
 #[derive(Clone, Copy)]
@@ -166,20 +180,10 @@ fn is_array_key(key: &str) -> bool
     key == "count" || key == "stride"
 }
 
-/// The keys of a node of any format.
 fn is_common_key(key: &str) -> bool
     ensures { result ≡ spec.is_common_key key.now }
 {
-    key == "id"
-        || key == "address"
-        || key == "mask"
-        || key == "permission"
-        || key == "mode"
-        || key == "size"
-        || key == "module"
-        || key == "tags"
-        || key == "description"
-        || key == "nodes"
+    is_one_of(&COMMON_KEYS, key)
 }
 
 pub(crate) fn has_key(members: &Table, key: &str) -> bool

@@ -111,18 +111,18 @@ impl From<crate::NoMemory> for TableRefusal {
 
 impl fmt::Display for TableWhy {
     fn fmt<W: fmt::Write>(&self, f: &mut fmt::Formatter<W>) -> fmt::Result {
-        match self {
-            TableWhy::Shape => write!(f, "a value of another kind"),
-            TableWhy::UnknownKey => write!(f, "a key that no node of this format has"),
-            TableWhy::MissingId => write!(f, "no id"),
-            TableWhy::BadId => write!(f, "an id out of form"),
-            TableWhy::BadNumber => write!(f, "no number of 32 bits"),
-            TableWhy::BadMask => write!(f, "a mask of 0"),
-            TableWhy::BadPermission => write!(f, "an unknown permission"),
-            TableWhy::BadMode => write!(f, "an unknown mode, or a mask that it does not take"),
-            TableWhy::BadSize => write!(f, "a size that the mode does not take"),
-            TableWhy::BadCount => write!(f, "a count or a stride out of range, or a stride alone"),
-        }
+        f.write_str(match self {
+            TableWhy::Shape => "a value of another kind",
+            TableWhy::UnknownKey => "a key that no node of this format has",
+            TableWhy::MissingId => "no id",
+            TableWhy::BadId => "an id out of form",
+            TableWhy::BadNumber => "no number of 32 bits",
+            TableWhy::BadMask => "a mask of 0",
+            TableWhy::BadPermission => "an unknown permission",
+            TableWhy::BadMode => "an unknown mode, or a mask that it does not take",
+            TableWhy::BadSize => "a size that the mode does not take",
+            TableWhy::BadCount => "a count or a stride out of range, or a stride alone",
+        })
     }
 }
 

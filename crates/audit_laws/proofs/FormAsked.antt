@@ -1,9 +1,8 @@
 -- The request at the place of each piece of a plan is that piece.
-use Rattle.std.proofs.Common.{◌≡◌, ℕ, zero, suc, ◌+◌, ◌<◌, ◌^◌, ◌==◌, List, [], ◌∷◌, ◌++◌, length, map, Option, Some}
-use Rattle.std.proofs.Common.{None, refl, sym, ap, ◌∙◌, subst, inl, inr, arith, append_assoc, append-nil}
+use Rattle.std.proofs.Common.{◌≡◌, ℕ, zero, suc, ◌+◌, ◌<◌, ◌^◌, List, [], ◌∷◌, ◌++◌, length, map, Option, Some}
+use Rattle.std.proofs.Common.{None, refl, sym, ap, ◌∙◌, subst, arith, append_assoc, append-nil}
 use Rattle.std.specs.List.{slice_get, flat_map, fold, AllByRecursion}
 use Rattle.std.specs.Option.{option_and_then, option_map}
-use Rattle.std.proofs.lemmas.Bool.{cases_Bool}
 use Rattle.std.proofs.lemmas.Option.{same_Some, slice_get-map}
 use Rattle.transaction_codec.specs.declared.request.Op.{Op}
 use Rattle.transaction_codec.specs.declared.request.Request.{Request}
@@ -15,12 +14,11 @@ use Rattle.mtu_packer.specs.Packing.{requests_from, body_requests, body_words, A
 use Rattle.mtu_packer.specs.Packed.{piece_at, pieces_at, Contents, IsPacked, packed_contents}
 use Rattle.script_steps.specs.declared.operation.RegOp.{RegOp}
 use Rattle.script_steps.specs.declared.operation.Step.{Step}
-use Rattle.script_steps.specs.declared.operation.Step.TheVariants.{Do, Denied, Dispatch}
 use Rattle.script_plans.specs.declared.planned.PieceAt.{PieceAt}
-use Rattle.script_plans.specs.Plan.{ClientBodies, no_bodies, piece_behind, into_next_dispatch, dispatches, operations, ops_on, plan}
+use Rattle.script_plans.specs.Plan.{ClientBodies, no_bodies, piece_behind, dispatches, operations, ops_on, plan}
 use Rattle.script_plans.specs.Plan.{with_dispatch, all_dispatches}
 use Rattle.board_history.proofs.Lists.{Both, all_at, both_append, both_map, both_same, get_back}
-use Rattle.board_history.proofs.Asking.{heads}
+use Rattle.board_history.proofs.Asking.{heads, ops_dispatched}
 
 -- ---- the request at a place
 
@@ -166,33 +164,6 @@ dispatches_requested payload board (d ∷ ds) all ops is both =
     subst (λ (xs : List Op). Both (AreRequested all_of.bodies payload) xs all_of.pieces)
     (append_assoc ops (ops_on board d) (flat_map (ops_on board) ds))
     (dispatches_requested payload board ds next (ops ++ ops_on board d) is.1 here)
-
--- ---- the operations on the board
-
-one_and_more : (board : ℕ) (op : RegOp) (ops : List RegOp)
-    → ops_on board (op ∷ ops) ≡ ops_on board (op ∷ []) ++ ops_on board ops
-one_and_more board op ops =
-    elim (cases_Bool (op.board == board)) [
-      | inl here ↦ rw here
-      | inr away ↦ rw away
-    ]
-
-begun_ops : (board : ℕ) (op : RegOp) (ds : List (List RegOp))
-    → flat_map (ops_on board) (into_next_dispatch op ds) ≡ ops_on board (op ∷ []) ++ flat_map (ops_on board) ds
-begun_ops board op [] = refl
-begun_ops board op (d ∷ later) =
-    ap (λ (xs : List Op). xs ++ flat_map (ops_on board) later) (one_and_more board op d)
-    ∙ append_assoc (ops_on board (op ∷ [])) (ops_on board d) (flat_map (ops_on board) later)
-
-pub ops_dispatched : (board : ℕ) (steps : List Step)
-    → flat_map (ops_on board) (dispatches steps) ≡ ops_on board (operations steps)
-ops_dispatched board [] = refl
-ops_dispatched board (Do op ∷ steps) =
-    begun_ops board op (dispatches steps)
-    ∙ ap (λ (xs : List Op). ops_on board (op ∷ []) ++ xs) (ops_dispatched board steps)
-    ∙ sym (one_and_more board op (operations steps))
-ops_dispatched board (Denied rule op ∷ steps) = ops_dispatched board steps
-ops_dispatched board (Dispatch ∷ steps) = ops_dispatched board steps
 
 pub plan_requested : (payload board : ℕ) (steps : List Step)
     → AllByRecursion (λ dispatch. IsPacked (ops_on board dispatch) payload (packed_contents payload (ops_on board dispatch)))

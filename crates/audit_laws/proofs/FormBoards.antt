@@ -1,12 +1,11 @@
 -- What a run shows of a board of this process whose link tells.
 use Rattle.std.proofs.Common.{◌≡◌, ℕ, zero, suc, ◌+◌, ◌*◌, ◌<◌, ◌≤◌, ◌^◌, ◌++◌, true, length, map, List, [], ◌∷◌}
-use Rattle.std.proofs.Common.{Option, Some, None, refl, sym, ap, ◌∙◌, subst, inl, inr, arith, is_some}
+use Rattle.std.proofs.Common.{Option, Some, None, refl, sym, ap, ◌∙◌, subst, arith, is_some}
 use Rattle.std.specs.Int.{div_ceil}
 use Rattle.std.specs.List.{AllByRecursion, AllZip, count_by, slice_get}
-use Rattle.std.specs.Option.{option_map}
 use Rattle.std.proofs.lemmas.Grind.{div_ceil_times}
 use Rattle.std.proofs.lemmas.List.Sums.{count_by-le-length}
-use Rattle.std.proofs.lemmas.Option.{same_Some, slice_get-map, slice_get_cases}
+use Rattle.std.proofs.lemmas.Option.{same_Some}
 use Rattle.transaction_codec.specs.declared.request.Op.{Op}
 use Rattle.transaction_codec.specs.declared.request.Op.TheVariants as ops
 use Rattle.transaction_codec.specs.Request.{op_count}
@@ -31,7 +30,7 @@ use Rattle.script_plans.specs.declared.planned.PieceAt.{PieceAt}
 use Rattle.script_plans.specs.declared.board_run.ClientPart.{ClientPart}
 use Rattle.script_plans.specs.declared.board_run.BoardRun.{BoardRun}
 use Rattle.script_plans.specs.Plan.{ClientBodies, all_dispatches, count_on, dispatches, operations, ops_on, plan}
-use Rattle.script_plans.specs.Plan.{planned_on, plans_on}
+use Rattle.script_plans.specs.Plan.{plans_on}
 use Rattle.script_plans.specs.Runs.{outcomes_on}
 use Rattle.script_plans.proofs.PackedDispatches.{AreDispatchesPacked, PacksWords, dispatched, dispatches_packed}
 use Rattle.transcript.specs.Ends.{ends_of, piece_place, piece_result}
@@ -45,6 +44,7 @@ use Rattle.board_history.specs.Order.{order}
 use Rattle.board_history.specs.Runs.{greeting_of, opens_with}
 use Rattle.board_history.proofs.Lists.{all_at, both_at}
 use Rattle.board_history.proofs.Asking.{op_at}
+use Rattle.board_history.proofs.BusLines.{planned_at}
 use Rattle.board_history.proofs.Spelled.{Spelling, parts_spelled}
 use Rattle.lane_history.specs.Links.{LinkReport, board_there}
 use Rattle.lane_history.specs.Runs.{AreRunsOver, IsAsTold, IsLiveRun, IsRunOver, IsTrueRun, TellsPayload}
@@ -53,7 +53,8 @@ use Rattle.lane_history.proofs.Told.{at_some, told_there}
 use Rattle.audit_laws.proofs.FormAsked.{AreRequested, plan_requested}
 use Rattle.audit_laws.proofs.FormBodies.{few_outcomes}
 use Rattle.audit_laws.proofs.FormLines.{CutUnlessDenied}
-use Rattle.audit_laws.proofs.FormPieces.{EachIsThat, IsFitPart, Joins, pieces_show}
+use Rattle.transcript.proofs.Skipping.{Joins}
+use Rattle.audit_laws.proofs.FormPieces.{EachIsThat, IsFitPart, pieces_show}
 use Rattle.audit_laws.proofs.FormRanges.{AnsweringEach, board_fits, each_long}
 use Rattle.audit_laws.proofs.FormResults.{pieces_can_show}
 
@@ -226,29 +227,6 @@ module _ (laws : Laws) (settings : Limits) (few_rounds : settings.rounds < 2 ^ 8
   )
 
 -- ---- an operation on a live board
-
-planned_at : (board : ℕ) (told : Greeting) (parts : List ClientPart) (scripts : List (List Step)) (client : ℕ)
-    (steps : List Step)
-    → map (λ (p : ClientPart). p.planned) parts ≡ plans_on board told scripts → slice_get scripts client ≡ Some steps
-    → (part : ClientPart) × (slice_get parts client ≡ Some part) × (part.planned ≡ planned_on board told steps)
-planned_at board told parts scripts client steps plans at =
-    let wanted : slice_get (map (λ (p : ClientPart). p.planned) parts) client ≡ Some (planned_on board told steps) =
-    ap (λ (ps : List ClientBodies). slice_get ps client) plans
-    ∙ slice_get-map (planned_on board told) scripts client ∙ ap (option_map (planned_on board told)) at in
-    let found : slice_get (map (λ (p : ClientPart). p.planned) parts) client
-    ≡ option_map (λ (p : ClientPart). p.planned) (slice_get parts client) =
-    slice_get-map (λ (p : ClientPart). p.planned) parts client in
-    elim (slice_get_cases parts client).1 [
-      | inl (part, within, there, again) ↦ (
-        part,
-        there,
-        same_Some part.planned (planned_on board told steps)
-            (sym (found ∙ ap (option_map (λ (p : ClientPart). p.planned)) there) ∙ wanted),
-      )
-      | inr (past, none) ↦
-          (let nothing : None ≡ Some (planned_on board told steps) =
-          sym (found ∙ ap (option_map (λ (p : ClientPart). p.planned)) none) ∙ wanted in absurd cc)
-    ]
 
 some_count : (op : Op) → CanBeCut op → 1 ≤ op_count op
 some_count (ops.Read base count) can = can.0

@@ -20,7 +20,7 @@ use Rattle.script_plans.specs.Plan.{ClientBodies, dispatches, no_bodies, operati
 use Rattle.script_plans.specs.Plan.{with_dispatch}
 use Rattle.script_plans.specs.Runs.{outcomes_in}
 use Rattle.board_history.proofs.Asking.{heads}
-use Rattle.audit_laws.proofs.FormAsked.{ops_dispatched}
+use Rattle.board_history.proofs.Asking.{ops_dispatched}
 
 -- ---- no more bodies than pieces
 

@@ -1,24 +1,19 @@
 -- What a line can show of one piece, by the outcome of its body.
-use Rattle.std.proofs.Common.{◌≡◌, ◌≢◌, ◌⊎◌, ℕ, zero, suc, ◌+◌, ◌<◌, ◌^◌, ◌==◌, false, true, length, map, List, [], ◌∷◌}
+use Rattle.std.proofs.Common.{◌≡◌, ◌≢◌, ◌⊎◌, ℕ, zero, suc, ◌+◌, ◌<◌, ◌^◌, false, true, length, List, [], ◌∷◌}
 use Rattle.std.proofs.Common.{Option, Some, None, refl, sym, ◌∙◌, subst, inl, inr, arith, get_or}
 use Rattle.std.specs.List.{AllByRecursion, slice_get}
-use Rattle.std.proofs.lemmas.Bool.{cases_Bool}
 use Rattle.std.proofs.lemmas.Option.{slice_get_cases, slice_get_within}
 use Rattle.ipb_base.specs.Word.{AreWords}
-use Rattle.ipb_base.proofs.AllLemmas.{AllByRecursion-append, AllByRecursion-replicate}
 use Rattle.transaction_codec.specs.declared.request.Op.{Op}
 use Rattle.transaction_codec.specs.declared.request.Op.TheVariants as ops
 use Rattle.transaction_codec.specs.declared.request.Request.{Request}
-use Rattle.transaction_codec.specs.declared.reply.Reply.{Reply}
-use Rattle.transaction_codec.specs.declared.info_code.TheConstants.{SUCCESS}
 use Rattle.transaction_codec.specs.Header.{is_write}
 use Rattle.transaction_codec.specs.Request.{AreRequests, op_count, op_kind, requests_words}
-use Rattle.transaction_codec.specs.Reply.{IsReply, AreReplies, HasForm}
 use Rattle.transaction_codec.specs.Answer.{Fails, values_done}
 use Rattle.mtu_packer.proofs.Sizes.{requests_are_words}
 use Rattle.reply_join.specs.declared.answer.Answer.{Answer}
 use Rattle.reply_join.specs.declared.answer.Answer.TheVariants as answer
-use Rattle.reply_join.specs.Joining.{IsAnswerTo, IsJoined, answer_of}
+use Rattle.reply_join.specs.Joining.{IsAnswerTo, IsJoined}
 use Rattle.reply_join.specs.ByWords.{answers}
 use Rattle.lane_record.specs.declared.outcome.Outcome.{Outcome}
 use Rattle.lane_record.specs.declared.outcome.Outcome.TheVariants as became
@@ -31,10 +26,12 @@ use Rattle.transcript.specs.declared.line.LateAnswer.TheVariants as late_answer
 use Rattle.transcript.specs.declared.line.OpResult.{OpResult}
 use Rattle.transcript.specs.declared.line.OpResult.TheVariants.{Value, Done, Was, Error, Skipped, TimedOut, Late}
 use Rattle.transcript.specs.declared.line.OpResult.TheVariants.{Unsent, LinkLost, Garbled, Denied}
-use Rattle.transcript.specs.Claims.{HasWordsLate, IsByte, IsInRange, IsPrinted, IsPrintedLate, IsPrintedPlace}
+use Rattle.transcript.specs.Claims.{HasWordsLate, IsInRange, IsPrinted, IsPrintedLate, IsPrintedPlace}
 use Rattle.transcript.specs.Ends.{answer_result, end_of, ends_of, late_at, late_of, piece_place, piece_result, place_at}
 use Rattle.transcript.specs.Ends.{place_in, result_in, told_at, told_by, told_of}
 use Rattle.transcript.proofs.EndsInOrder.{ends_at}
+use Rattle.transcript.proofs.Printed.{AnswerFits, joined_fit}
+use Rattle.transcript.proofs.Skipping.{Joins}
 use Rattle.transcript_reader.specs.Results.{IsPlaceless}
 use Rattle.board_history.proofs.Lists.{Both, all_at}
 use Rattle.audit_laws.proofs.FormAsked.{IsRequested, low_index}
@@ -74,39 +71,6 @@ pub record Shows (one : Op) (r : OpResult) (places : List (ℕ × ℕ)) : Type 0
 
 -- ---- answers
 
-abbrev IsFitAnswer : Answer → Type 0
-IsFitAnswer (answer.Values words) = AreWords words
-IsFitAnswer answer.Done = Unit {0}
-IsFitAnswer (answer.Fault code after) = IsByte code × IsByte after
-IsFitAnswer answer.Skipped = Unit {0}
-
-code_fits : (kind code count carried : ℕ) → HasForm kind code count carried → IsByte code
-code_fits kind code count carried (inl (is, more)) = omega arith
-code_fits kind code count carried (inr (inl (is, more))) = omega (arith, is.0, is.1)
-code_fits kind code count carried (inr (inr (is, read, none, nothing))) = omega arith
-
-reply_fits : (reply : Reply) → IsReply reply → IsFitAnswer (answer_of reply)
-reply_fits reply is =
-    elim (cases_Bool (reply.code == SUCCESS)) [
-      | inl done ↦ rw done (
-          elim (cases_Bool (is_write reply.kind)) [
-            | inl writes ↦ rw writes tt
-            | inr reads ↦ rw reads is.values
-          ]
-          )
-      | inr failed ↦ rw failed (code_fits reply.kind reply.code reply.count (length reply.values) is.form, is.count)
-    ]
-
-replies_fit : (replies : List Reply) → AreReplies replies → AllByRecursion IsFitAnswer (map answer_of replies)
-replies_fit [] are = tt
-replies_fit (reply ∷ replies) are = (reply_fits reply are.0, replies_fit replies are.1)
-
-joined_fit : (body words : List ℕ) (list : List Answer) → IsJoined body words list → AllByRecursion IsFitAnswer list
-joined_fit body words list joined =
-    subst (AllByRecursion IsFitAnswer) (sym joined.1)
-    (AllByRecursion-append IsFitAnswer (map answer_of joined.0.replies) _ (replies_fit joined.0.replies joined.0.items)
-    (AllByRecursion-replicate IsFitAnswer _ answer.Skipped tt))
-
 -- what is read is as much as is asked for, and what is written answers no words
 read_count : (op : Op) → is_write (op_kind op) ≡ false → op_count op ≡ values_done op
 read_count (ops.Read base count) is = refl
@@ -132,8 +96,9 @@ pub record IsTold (one : Op) (r : OpResult) : Type 0 where
   pub printed_late : IsPrintedLate (late_of r)
   pub other : r ≢ Unsent
 
-answer_told : (tid : ℕ) (one : Op) (a : Answer) → IsAnswerTo (record { tid = tid; op = one }) a → IsFitAnswer a
+answer_told : (tid : ℕ) (one : Op) (a : Answer) → IsAnswerTo (record { tid = tid; op = one }) a → AnswerFits a
     → IsTold one (answer_result (Some a))
+unfolding AnswerFits
 answer_told tid one (answer.Values words) is fits =
     let same = is.1 ∙ read_count one is.0 in
     record { came = same; late = same; printed = fits; printed_late = fits; other = λ e. absurd cc }
@@ -155,11 +120,6 @@ EachIsThat = (body reply : List ℕ) (answers : List Answer) (requests : List Re
     (one : Answer) → IsJoined body reply answers → AreRequests requests → body ≡ requests_words requests
     → slice_get requests i ≡ Some request → slice_get answers i ≡ Some one → IsAnswerTo request one
 
-abbrev pub Joins : Type 0
-Joins = (body reply : List ℕ) (list : List Answer) → AreWords body → AreWords reply
-    → (IsJoined body reply list → answers body reply ≡ Some list)
-    × (answers body reply ≡ Some list → IsJoined body reply list)
-
 module _ (each_is : EachIsThat) (joins : Joins) (requests : List Request) (ranges : AreRequests requests)
     (one : Op) (index : ℕ) (at : slice_get requests index ≡ Some (record { tid = index; op = one })) where
   at_index : (words : List ℕ) (list : List Answer) → IsJoined (requests_words requests) words list
@@ -169,7 +129,7 @@ module _ (each_is : EachIsThat) (joins : Joins) (requests : List Request) (range
         | inl (a, within, there, again) ↦
             rw there (answer_told index one a
             (each_is (requests_words requests) words list requests index (record { tid = index; op = one }) a joined
-            ranges refl at there) (all_at IsFitAnswer list index a (joined_fit (requests_words requests) words list
+            ranges refl at there) (all_at AnswerFits list index a (joined_fit (requests_words requests) words list
             joined) there))
         | inr (past, none) ↦ rw none (garbled_told one)
       ]

@@ -1,15 +1,11 @@
 -- What became of bodies over a link that tells has the ranges of its fields.
 use Rattle.std.proofs.Common.{◌≡◌, ℕ, zero, suc, ◌+◌, ◌<◌, ◌≤◌, ◌^◌, length, map, List, [], ◌∷◌, Option, Some, None}
-use Rattle.std.proofs.Common.{sym, subst, arith}
+use Rattle.std.proofs.Common.{subst, arith}
 use Rattle.std.specs.List.{AllByRecursion, AllZip}
 use Rattle.ipb_base.specs.Word.{AreWords}
 use Rattle.ipb_base.proofs.AllLemmas.{AllByRecursion-append, all-map, front_of_all, back_of_all}
-use Rattle.ipb_base.proofs.WordLemmas.{AreWords-append}
-use Rattle.transaction_codec.specs.declared.reply.Reply.{Reply}
 use Rattle.transaction_codec.specs.Request.{SpellsRequests}
-use Rattle.transaction_codec.specs.Reply.{IsReply, AreReplies, reply_words, replies_words}
 use Rattle.transaction_codec.specs.Answer.{CanAnswer}
-use Rattle.transaction_codec.proofs.Replies.{fields_fit}
 use Rattle.board_bus.specs.Cells.{CellMap, HoldsWords}
 use Rattle.board_bus.specs.Bodies.{replay}
 use Rattle.world_model.specs.Places.{at_place}
@@ -25,25 +21,18 @@ use Rattle.board_history.specs.Answering.{AsksRequests}
 use Rattle.board_history.proofs.Answering.{spelled_words}
 use Rattle.board_history.proofs.Asking.{heads}
 use Rattle.board_history.proofs.Lists.{all_at}
+use Rattle.board_history.proofs.ReplyWords.{answer_words}
 use Rattle.board_history.proofs.Sorting.{all_sorted, sorted_all}
 use Rattle.audit_laws.proofs.FormPieces.{IsFitPart}
 
 -- ---- a board answers words
-
-one_reply : (r : Reply) → IsReply r → AreWords (reply_words r)
-one_reply r is = let f = fields_fit r.kind r.code r.count (length r.values) is.form in
-    (omega (arith, is.tid, is.count, f.0, f.1), is.values)
-
-all_replies : (rs : List Reply) → AreReplies rs → AreWords (replies_words rs)
-all_replies [] is = tt
-all_replies (r ∷ rs) is = AreWords-append (reply_words r) (replies_words rs) (one_reply r is.0) (all_replies rs is.1)
 
 answers_words : (bodies replies : List (List ℕ)) → AllZip CanAnswer bodies replies → AllByRecursion AreWords replies
 answers_words [] [] can = tt
 answers_words [] (r ∷ replies) can = absurd can
 answers_words (b ∷ bodies) [] can = absurd can
 answers_words (b ∷ bodies) (r ∷ replies) can =
-    (subst AreWords (sym can.0.spelled) (all_replies can.0.replies can.0.items), answers_words bodies replies can.1)
+    (answer_words b r can.0, answers_words bodies replies can.1)
 
 word_at : (replies : List (List ℕ)) (place : ℕ) (words : List ℕ) → AllByRecursion AreWords replies
     → at_place replies place ≡ Some words → AreWords words

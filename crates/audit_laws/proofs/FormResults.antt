@@ -36,6 +36,7 @@ use Rattle.transcript.specs.Ends.{late_of}
 use Rattle.transcript.specs.Results.{combined_result, first_not_done, is_good, shown_result, shown_late, shown_not_done, values_in}
 use Rattle.transcript.specs.Results.{word_before}
 use Rattle.transcript_reader.specs.Results.{CanBeLate, CanComeTo, CanRead, CanShowLive, IsPlaceless, ShowsWord}
+use Rattle.transcript.proofs.Printed.{values_fit}
 use Rattle.board_history.proofs.Lists.{Both}
 use Rattle.audit_laws.proofs.FormPieces.{CameLate, CameTo, Shows}
 
@@ -167,19 +168,6 @@ good_count one LinkLost good came = absurd cc
 good_count one Garbled good came = absurd cc
 good_count one (Denied rule) good came = absurd came
 
-good_words : (r : OpResult) → IsPrinted r → AreWords (values_in r)
-good_words (Value words) fits = fits
-good_words Done fits = tt
-good_words (Was word) fits = (fits, tt)
-good_words (Error code after) fits = tt
-good_words Skipped fits = tt
-good_words (TimedOut rounds) fits = tt
-good_words (Late rounds answer) fits = tt
-good_words Unsent fits = tt
-good_words LinkLost fits = tt
-good_words Garbled fits = tt
-good_words (Denied rule) fits = tt
-
 -- ---- what is printed
 
 field_fits : (word mask : ℕ) → IsWord word → IsWord (field word mask)
@@ -287,7 +275,7 @@ module _ (f : PieceAt → OpResult) (g : PieceAt → List (ℕ × ℕ)) where
                 sum_by-cons values_done one ones,
               );
               fits = AllByRecursion-append IsWord (values_in (f p)) (flat_map values_in (map f ps))
-                  (good_words (f p) shows.0.printed) later.fits;
+                  (values_fit (f p) shows.0.printed) later.fits;
             })
         | inr bad ↦ (let none : Some (f p) ≡ None = rw bad at is in absurd cc)
       ]

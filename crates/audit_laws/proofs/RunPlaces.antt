@@ -1,9 +1,8 @@
 -- The places of a run: those of an order, each of one body, and rising with the bodies of a client.
 use Rattle.std.proofs.Common.{◌≡◌, ◌≢◌, ℕ, zero, suc, ◌+◌, ◌<◌, ◌≤◌, List, [], ◌∷◌, ◌++◌, length, map}
-use Rattle.std.proofs.Common.{Option, Some, None, refl, sym, ap, subst, ◌∙◌, inl, inr, arith, append-nil}
+use Rattle.std.proofs.Common.{Option, Some, None, refl, ap, subst, inl, inr, arith, append-nil}
 use Rattle.std.specs.Prelude.{nat_le, option_and_then}
 use Rattle.std.specs.List.{AllByRecursion, Any, slice_get}
-use Rattle.std.proofs.lemmas.Bool.{cases_eq}
 use Rattle.std.proofs.lemmas.Option.{same_Some}
 use Rattle.ipb_base.proofs.AllLemmas.{back_of_all, front_of_all}
 use Rattle.mtu_packer.proofs.AnyLemmas.{any_append, any_cases, any_here, any_later, any_nowhere}
@@ -14,7 +13,8 @@ use Rattle.lane_record.specs.Outcomes.{place_of}
 use Rattle.script_plans.specs.declared.board_run.ClientPart.{ClientPart}
 use Rattle.board_history.specs.Order.{Placed, RisesFrom, all_placed, by_place, insert, order, bodies_with_places, places_of, with_place}
 use Rattle.board_history.specs.Parts.{HasOneOrder, KeepsScripts}
-use Rattle.board_history.proofs.OwnPlaces.{AreApart, IsApart, counting_apart, sorted_apart}
+use Rattle.board_history.proofs.OwnPlaces.{AreApart, IsApart, back_apart, counting_apart, front_apart, sorted_apart}
+use Rattle.board_history.proofs.PlacesShown.{IsAt, reached}
 use Rattle.board_history.proofs.Sorting.{sorted_all}
 use Rattle.audit_laws.proofs.ShownPieces.{place_in_parts}
 
@@ -27,9 +27,6 @@ outcomes_in parts = map (λ (p : ClientPart). p.outcomes) parts
 -- each body has an outcome
 abbrev IsInShape : List ClientPart → Type 0
 IsInShape parts = map length (outcomes_in parts) ≡ map length (bodies_in parts)
-
-abbrev IsAt : ℕ → Placed → Type 0
-IsAt place p = p.place ≡ place
 
 -- the place of body k, by the outcomes of its client
 abbrev place_at : List Outcome → ℕ → Option ℕ
@@ -136,23 +133,7 @@ counts_between low high k (p ∷ ps) counts from to = (
   counts_between low high (k + 1) ps counts.1 (omega arith) (omega arith),
 )
 
-reached : (k : ℕ) (ps : List Placed) (place : ℕ) → CountsFrom k (places_of ps) → k ≤ place → place < k + length ps
-    → Any (IsAt place) ps
-reached k [] place counts low high = absurd (omega arith)
-reached k (p ∷ ps) place counts low high = elim (cases_eq place k) [
-  | inl same ↦ any_here (IsAt place) p ps (counts.0 ∙ sym same)
-  | inr other ↦ any_later (IsAt place) p ps (reached (k + 1) ps place counts.1 (omega arith) (omega arith))
-]
-
 -- ---- places that stand apart
-
-front_apart : (xs ys : List Placed) → AreApart (xs ++ ys) → AreApart xs
-front_apart [] ys apart = tt
-front_apart (x ∷ xs) ys apart = (front_of_all (IsApart x) xs ys apart.0, front_apart xs ys apart.1)
-
-back_apart : (xs ys : List Placed) → AreApart (xs ++ ys) → AreApart ys
-back_apart [] ys apart = apart
-back_apart (x ∷ xs) ys apart = back_apart xs ys apart.1
 
 -- each of the first list has another place than each of the second
 across : (xs ys : List Placed) → AreApart (xs ++ ys) → AllByRecursion (λ x. AllByRecursion (IsApart x) ys) xs

@@ -29,6 +29,7 @@ use Rattle.transcript.specs.Ends.{end_of, ends_of, ends_with}
 use Rattle.transcript.specs.Lines.{Showing, showing}
 use Rattle.transcript.specs.Results.{op_places}
 use Rattle.transcript.proofs.EndsInOrder.{ends_at}
+use Rattle.transcript.proofs.ShownLines.{matched}
 use Rattle.run_audit.specs.AskedLines.{AskedLine, ShownPiece, asked_of, greeting_at, pieces_in, pieces_of}
 use Rattle.run_audit.specs.AskedLines.{pieces_shown, pieces_unless, with_places}
 use Rattle.run_audit.specs.Places.{IsPartial}
@@ -63,18 +64,6 @@ pub record IsBoardRun (boards : List BoardSpec) (scripts : List (List Step)) (bo
   pub greeted : (payload : ℕ) → run.greeting ≡ Live payload → greeting_at boards board ≡ Live payload
 
 -- ---- lists
-
--- where two lists read as one, so does the element that the other has at a position
-matched : {A B C : Type 0} (f : A → C) (g : B → C) (xs : List A) (ys : List B) (k : ℕ) (x : A) → map f xs ≡ map g ys
-    → slice_get xs k ≡ Some x → (y : B) × (slice_get ys k ≡ Some y) × (f x ≡ g y)
-matched f g [] ys k x same at = absurd cc
-matched f g (z ∷ xs) [] k x same at = absurd cc
-matched f g (z ∷ xs) (y ∷ ys) zero x same at =
-    let first : f z ≡ g y = cc in
-    (y, refl, ap f (sym (same_Some z x at)) ∙ first)
-matched f g (z ∷ xs) (y ∷ ys) (suc k) x same at =
-    let rest : map f xs ≡ map g ys = cc in
-    matched f g xs ys k x rest at
 
 module _ {S T : Type 0} where
   -- what holds of all that each element gives

@@ -30,13 +30,22 @@ fn the_limit_is_exact(rt: HostRuntime) {
     assert!(rt; stops_at_three(rt.alloc()));
 }
 
-/// Whether a sink with room for three bytes takes two, and one of two more.
-fn is_written_over(mut sink: CalmSink) -> bool {
-    let is_right = write_whole(&mut sink, b"ab") == Ok(())
-        && write_whole(&mut sink, b"cd") == Err(Failed)
-        && sink.bytes() == b"abc".as_slice();
+/// Writes to a sink with room for three bytes, and what they come to.
+const WRITES: [(&[u8], Result<(), Failed>); 2] = [(b"ab", Ok(())), (b"cd", Err(Failed))];
+
+fn writes(sink: &mut CalmSink) -> bool {
+    for &(bytes, wanted) in &WRITES {
+        if write_whole(sink, bytes) != wanted {
+            return false;
+        }
+    }
     sink.end();
-    is_right
+    true
+}
+
+/// Whether a sink takes two bytes, and one of two more.
+fn is_written_over(mut sink: CalmSink) -> bool {
+    writes(&mut sink) && sink.bytes() == b"abc".as_slice()
 }
 
 fn writes_over_its_room(alloc: Global) -> bool {

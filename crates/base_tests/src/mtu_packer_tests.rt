@@ -1,45 +1,8 @@
 //! Operations packed into bodies.
 
-use mtu_packer::{Packed, Piece, pack, pack_into};
+use mtu_packer::{Packed, Piece, pack};
 use std::alloc::Global;
-use transaction_codec::{Op, Words};
-
-/// A body of no words, whose place another body takes.
-fn other_bodies(alloc: Global) -> Option<Vec<Words>> {
-    let mut others = Vec::new(alloc);
-    others.push(Words::from_vec(Vec::new(alloc))).ok()?;
-    Some(others)
-}
-
-/// Whether the only body is that of the sum.
-fn is_the_sum(packed: &Packed) -> bool {
-    match packed.bodies() {
-        [only] => only.as_slice() == [0x2000_015f, 5, 7].as_slice(),
-        _ => false,
-    }
-}
-
-/// Whether bodies that take the place of others are right.
-fn is_packed_into(alloc: Global, others: Vec<Words>) -> bool {
-    let ops = [Op::RmwSum { base: 5, addend: 7 }];
-    match pack_into(alloc, others, &ops, 368) {
-        Ok(packed) => is_the_sum(&packed)
-            && packed.pieces(0) == [Piece { body: 0, index: 0 }].as_slice(),
-        Err(_) => false,
-    }
-}
-
-fn are_others_replaced(alloc: Global) -> bool {
-    match other_bodies(alloc) {
-        Some(others) => is_packed_into(alloc, others),
-        None => false,
-    }
-}
-
-#[test]
-fn bodies_take_the_place_of_others(rt: HostRuntime) {
-    assert!(rt; are_others_replaced(rt.alloc()));
-}
+use transaction_codec::Op;
 
 /// What is left of a read of 600 words behind the first body, and the sum behind it.
 const REST: [u32; 7] = [0x2000_ff2f, 0x1000, 0x2001_5a2f, 0x1000, 0x2002_015f, 5, 7];

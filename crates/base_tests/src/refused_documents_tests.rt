@@ -2,16 +2,24 @@
 //! asked again.
 
 ghost use Rattle.std.specs.Prelude.{IfSome};
+ghost use Rattle.address_table.specs.Valid.{IsValid};
 ghost use Rattle.script_lang.specs.Limits.{IsWithin};
 
-use crate::documents::{session_of, value_of};
-use address_table::{TableRefusal, TableWhy, number, read_table};
-use node_tree::{CompileRefusal, CompileWhy, Index, compile};
+use address_table::{Table, TableRefusal, TableWhy, number, read_table};
+use node_tree::{CompileRefusal, CompileWhy, Index, Tables, compile};
 use script_lang::{
     DocWhy, ScriptRefusal, ScriptWhy, Session, SessionRefusal, compile_scripts, read_session,
+    take_key,
 };
 use std::alloc::Global;
+use std::slice;
 use toml::Value;
+
+/// The value under the key `t` of a document.
+fn value_of(alloc: Global, document: &str) -> Option<Value> {
+    let mut members = toml::table_from_str(alloc, document).ok()?;
+    take_key(&mut members, "t")
+}
 
 /// Values that are no number of 32 bits.
 const NO_NUMBERS: [&str; 8] = [
@@ -26,8 +34,8 @@ const NO_NUMBERS: [&str; 8] = [
 ];
 
 fn is_no_number(alloc: Global, text: &str) -> bool {
-    match value_of(alloc, text, "t") {
-        Some(value) => number(&value).is_none(),
+    match value_of(alloc, text) {
+        Some(value) => number(&value).is_none() && number(&value).is_none(),
         None => false,
     }
 }
@@ -35,9 +43,7 @@ fn is_no_number(alloc: Global, text: &str) -> bool {
 #[test]
 fn values_are_refused_again(rt: HostRuntime) {
     for text in &NO_NUMBERS {
-        for _ in 0..2 {
-            assert!(rt; is_no_number(rt.alloc(), text), "{text}");
-        }
+        assert!(rt; is_no_number(rt.alloc(), text));
     }
 }
 
@@ -82,17 +88,27 @@ const TABLES: [(&str, &[u64], TableWhy); 13] = [
     ("t = [{ id = \"a\", stride = 2 }]", &[0], TableWhy::BadCount),
 ];
 
+/// Whether a refusal names this node and this rule.
+fn is_at_node(refusal: &TableRefusal, place: &[u64], rule: TableWhy) -> bool {
+    match refusal {
+        TableRefusal::At { path, why } => path.as_slice() == place && *why == rule,
+        TableRefusal::NoMemory => false,
+    }
+}
+
 /// Whether a value is refused as a table at this node by this rule.
 fn is_refused_at(alloc: Global, value: &Value, place: &[u64], rule: TableWhy) -> bool {
     match read_table(alloc, value, 2) {
-        Err(TableRefusal::At { path, why }) => path.as_slice() == place && why == rule,
-        _ => false,
+        Err(refusal) => is_at_node(&refusal, place, rule),
+        Ok(_) => false,
     }
 }
 
 fn is_no_table(alloc: Global, text: &str, place: &[u64], rule: TableWhy) -> bool {
-    match value_of(alloc, text, "t") {
-        Some(value) => is_refused_at(alloc, &value, place, rule),
+    match value_of(alloc, text) {
+        Some(value) => {
+            is_refused_at(alloc, &value, place, rule) && is_refused_at(alloc, &value, place, rule)
+        }
         None => false,
     }
 }
@@ -100,9 +116,7 @@ fn is_no_table(alloc: Global, text: &str, place: &[u64], rule: TableWhy) -> bool
 #[test]
 fn tables_are_refused_again(rt: HostRuntime) {
     for &(text, place, rule) in &TABLES {
-        for _ in 0..2 {
-            assert!(rt; is_no_table(rt.alloc(), text, place, rule), "{text}");
-        }
+        assert!(rt; is_no_table(rt.alloc(), text, place, rule));
     }
 }
 
@@ -127,86 +141,107 @@ const DOCUMENTS: [(&[u8], &str, DocWhy); 9] = [
     ),
 ];
 
+/// Whether a refusal names this place of a document and this rule.
+fn is_at_place(refusal: &SessionRefusal, place: &str, rule: DocWhy) -> bool {
+    match refusal {
+        SessionRefusal::Document { path, why } => path.as_str() == place && *why == rule,
+        _ => false,
+    }
+}
+
 /// Whether a document is refused at this place by this rule.
 fn is_no_session(alloc: Global, bytes: &[u8], place: &str, rule: DocWhy) -> bool {
     match read_session(alloc, bytes) {
-        Err(SessionRefusal::Document { path, why }) => path.as_str() == place && why == rule,
-        _ => false,
+        Err(refusal) => is_at_place(&refusal, place, rule),
+        Ok(_) => false,
     }
+}
+
+fn is_never_a_session(alloc: Global, bytes: &[u8], place: &str, rule: DocWhy) -> bool {
+    is_no_session(alloc, bytes, place, rule) && is_no_session(alloc, bytes, place, rule)
 }
 
 #[test]
 fn documents_are_refused_again(rt: HostRuntime) {
     for &(bytes, place, rule) in &DOCUMENTS {
-        for _ in 0..2 {
-            assert!(rt; is_no_session(rt.alloc(), bytes, place, rule), "{place}");
-        }
+        assert!(rt; is_never_a_session(rt.alloc(), bytes, place, rule));
     }
 }
 
-/// Tables, the first table or name that is at fault, and the first rule that they break from the root `main`.
+/// The table `main`, the root, the first name that is at fault, and the first rule that is broken from the root.
 const TREES: [(&str, &str, &str, CompileWhy); 6] = [
-    ("", "main", "", CompileWhy::UnknownModule),
+    ("t = []", "other", "", CompileWhy::UnknownModule),
     (
-        "tables.main = [{ id = \"a\", module = \"m\" }]",
+        "t = [{ id = \"a\", module = \"m\" }]",
         "main",
         "",
         CompileWhy::UnknownModule,
     ),
     (
-        "tables.main = [{ id = \"a\", module = \"main\" }]",
+        "t = [{ id = \"a\", module = \"main\" }]",
         "main",
         "",
         CompileWhy::ModuleCycle,
     ),
     (
-        "tables.main = [{ id = \"a\" }, { id = \"a\" }]",
+        "t = [{ id = \"a\" }, { id = \"a\" }]",
         "main",
         "a",
         CompileWhy::Duplicate,
     ),
     (
-        "tables.main = [{ id = \"y\", address = 0xffffffff, nodes = [{ id = \"z\", address = 1 }] }]",
+        "t = [{ id = \"y\", address = 0xffffffff, nodes = [{ id = \"z\", address = 1 }] }]",
         "main",
         "y.z",
         CompileWhy::AddressPastEnd,
     ),
     (
-        "format = 2\ntables.main = [{ id = \"a\", count = 65536 }, { id = \"b\" }]",
+        "t = [{ id = \"a\", count = 65536 }, { id = \"b\" }]",
         "main",
         "b",
         CompileWhy::TooMany,
     ),
 ];
 
-const BOARD: &str = "\nboard = [{ name = \"b0\", table = \"main\" }]\n";
-
-/// The session of a document with a board.
-fn with_board(alloc: Global, text: &str) -> Option<Session>
-    ensures within { IfSome result IsWithin }
+/// The table of a document.
+fn table(alloc: Global, text: &str) -> Option<Table>
+    ensures valid { IfSome result IsValid }
 {
-    let document = format!(in alloc; "{text}{BOARD}").ok()?;
-    session_of(alloc, document.as_str())
+    read_table(alloc, &value_of(alloc, text)?, 2).ok()
 }
 
-/// The registers of the board of a session.
-fn index_of(alloc: Global, session: &Session) -> Result<Index, CompileRefusal> {
-    compile(alloc, &session.tables, "main")
+/// Tables of which `main` is that of a document.
+fn tables(alloc: Global, text: &str) -> Option<Tables> {
+    let table = table(alloc, text)?;
+    let mut tables = Tables::new(alloc);
+    tables.put("main", table).ok()?;
+    Some(tables)
 }
 
-/// Whether the tables of a session are refused there by this rule.
-fn is_refused_by(alloc: Global, session: &Session, at: &str, name: &str, rule: CompileWhy) -> bool {
-    match index_of(alloc, session) {
-        Err(CompileRefusal::At { table, path, why }) => {
-            table.as_str() == at && path.as_str() == name && why == rule
+/// Whether a refusal names this table, this name and this rule.
+fn is_at_name(refusal: &CompileRefusal, at: &str, name: &str, rule: CompileWhy) -> bool {
+    match refusal {
+        CompileRefusal::At { table, path, why } => {
+            table.as_str() == at && path.as_str() == name && *why == rule
         }
-        _ => false,
+        CompileRefusal::NoMemory => false,
+    }
+}
+
+/// Whether tables are refused from this root by this rule.
+fn is_refused_by(alloc: Global, tables: &Tables, at: &str, name: &str, rule: CompileWhy) -> bool {
+    match compile(alloc, tables, at) {
+        Err(refusal) => is_at_name(&refusal, at, name, rule),
+        Ok(_) => false,
     }
 }
 
 fn is_no_tree(alloc: Global, text: &str, at: &str, name: &str, rule: CompileWhy) -> bool {
-    match with_board(alloc, text) {
-        Some(session) => is_refused_by(alloc, &session, at, name, rule),
+    match tables(alloc, text) {
+        Some(tables) => {
+            is_refused_by(alloc, &tables, at, name, rule)
+                && is_refused_by(alloc, &tables, at, name, rule)
+        }
         None => false,
     }
 }
@@ -214,19 +249,17 @@ fn is_no_tree(alloc: Global, text: &str, at: &str, name: &str, rule: CompileWhy)
 #[test]
 fn trees_are_refused_again(rt: HostRuntime) {
     for &(text, at, name, rule) in &TREES {
-        for _ in 0..2 {
-            assert!(rt; is_no_tree(rt.alloc(), text, at, name, rule), "{text}");
-        }
+        assert!(rt; is_no_tree(rt.alloc(), text, at, name, rule));
     }
 }
 
 /// Names that are those of no register of a table with an array `a` of two nodes.
-const NO_NAMES: [&str; 6] = ["", "a", "a[2]", "a[00]", "a[0].", "b"];
+const NO_NAMES: [&str; 7] = ["", "a", "a[]", "a[2]", "a[00]", "a[0].", "b"];
 
 /// The registers of an array of two nodes.
 fn array(alloc: Global) -> Option<Index> {
-    let document = "format = 2\ntables.main = [{ id = \"a\", count = 2 }]";
-    index_of(alloc, &with_board(alloc, document)?).ok()
+    let tables = tables(alloc, "t = [{ id = \"a\", count = 2 }]")?;
+    compile(alloc, &tables, "main").ok()
 }
 
 /// Whether there is no register of this name, and none when it is sought again.
@@ -234,18 +267,25 @@ fn is_not_in(index: &Index, name: &str) -> bool {
     index.find(name).is_none() && index.find(name).is_none()
 }
 
-fn is_no_name(alloc: Global, name: &str) -> bool {
+fn has_none(index: &Index) -> bool {
+    for name in &NO_NAMES {
+        if !is_not_in(index, name) {
+            return false;
+        }
+    }
+    true
+}
+
+fn is_none_found(alloc: Global) -> bool {
     match array(alloc) {
-        Some(index) => is_not_in(&index, name),
+        Some(index) => has_none(&index),
         None => false,
     }
 }
 
 #[test]
 fn names_are_refused_again(rt: HostRuntime) {
-    for name in &NO_NAMES {
-        assert!(rt; is_no_name(rt.alloc(), name), "{name}");
-    }
+    assert!(rt; is_none_found(rt.alloc()));
 }
 
 /// Lines of a script, and the first rule that they break.
@@ -264,25 +304,34 @@ const LINES: [(&str, ScriptWhy); 10] = [
 
 const REGISTERS: &str =
     "tables.main = [{ id = \"a\" }, { id = \"id\", address = 1, permission = \"r\" }, \
-{ id = \"bit\", address = 2, mask = 1 }]\nclient = [{ script = [\"read b0:a\", \"";
+{ id = \"bit\", address = 2, mask = 1 }]\nboard = [{ name = \"b0\", table = \"main\" }]\n\
+client = [{ script = [\"read b0:a\", \"";
 
-/// The session of a script whose second line this is.
-fn with_line(alloc: Global, line: &str) -> Option<Session>
+/// The document of a script whose second line this is.
+fn with_line(alloc: Global, line: &str) -> Option<String> {
+    format!(in alloc; "{REGISTERS}{line}\"] }}]").ok()
+}
+
+fn session_of(alloc: Global, line: &str) -> Option<Session>
     ensures within { IfSome result IsWithin }
 {
-    let document = format!(in alloc; "{REGISTERS}{line}\"] }}]{BOARD}").ok()?;
-    session_of(alloc, document.as_str())
+    let document = with_line(alloc, line)?;
+    read_session(alloc, document.as_bytes()).ok()
 }
 
-/// Why its script is not compiled.
-fn refusal_of(alloc: Global, line: &str) -> Option<ScriptRefusal> {
-    let session = with_line(alloc, line)?;
-    let index = index_of(alloc, &session).ok()?;
-    compile_scripts(alloc, &session, &[index]).err()
+/// Why the script of a session is not compiled.
+fn script_refusal(alloc: Global, session: &Session) -> Option<ScriptRefusal>
+    requires { IsWithin session.now }
+{
+    let index = compile(alloc, &session.tables, "main").ok()?;
+    compile_scripts(alloc, session, slice::from_ref(&index)).err()
 }
 
-fn is_no_line(alloc: Global, line: &str, why: ScriptWhy) -> bool {
-    refusal_of(alloc, line)
+/// Whether a session is refused at its second line by this rule.
+fn is_refused_there(alloc: Global, session: &Session, why: ScriptWhy) -> bool
+    requires { IsWithin session.now }
+{
+    script_refusal(alloc, session)
         == Some(ScriptRefusal::At {
             client: 1,
             line: 2,
@@ -290,11 +339,18 @@ fn is_no_line(alloc: Global, line: &str, why: ScriptWhy) -> bool {
         })
 }
 
+fn is_no_line(alloc: Global, line: &str, why: ScriptWhy) -> bool {
+    match session_of(alloc, line) {
+        Some(session) => {
+            is_refused_there(alloc, &session, why) && is_refused_there(alloc, &session, why)
+        }
+        None => false,
+    }
+}
+
 #[test]
 fn lines_are_refused_again(rt: HostRuntime) {
     for &(line, why) in &LINES {
-        for _ in 0..2 {
-            assert!(rt; is_no_line(rt.alloc(), line, why), "{line}");
-        }
+        assert!(rt; is_no_line(rt.alloc(), line, why));
     }
 }

@@ -2,7 +2,7 @@
 
 use address_table::is_id;
 use hub_framing::{FrameRefusal, Framer};
-use ipb_base::number_in_text;
+use ipb_base::{Text, number_in_text};
 use packet_codec::{BadPacket, read_head, read_header, read_packet};
 use status_packet::{BadStatus, is_status_request, read_resend, read_status_reply};
 use std::alloc::Global;
@@ -36,7 +36,7 @@ fn are_refused(alloc: Global, bytes: &[u8], why: BadPacket) -> bool {
 
 fn is_no_packet(alloc: Global, front: &[u8], length: usize, why: BadPacket) -> bool {
     match padded(alloc, front, length) {
-        Some(bytes) => are_refused(alloc, &bytes, why),
+        Some(bytes) => are_refused(alloc, &bytes, why) && are_refused(alloc, &bytes, why),
         None => false,
     }
 }
@@ -44,9 +44,7 @@ fn is_no_packet(alloc: Global, front: &[u8], length: usize, why: BadPacket) -> b
 #[test]
 fn packets_are_refused_again(rt: HostRuntime) {
     for &(front, length, why) in &PACKETS {
-        for _ in 0..2 {
-            assert!(rt; is_no_packet(rt.alloc(), front, length, why));
-        }
+        assert!(rt; is_no_packet(rt.alloc(), front, length, why));
     }
 }
 
@@ -97,9 +95,13 @@ const STATUSES: [(&[u8], usize, BadStatus); 12] = [
     ),
 ];
 
+fn is_refused_status(bytes: &[u8], why: BadStatus) -> bool {
+    read_status_reply(bytes).err() == Some(why)
+}
+
 fn is_no_status(alloc: Global, front: &[u8], length: usize, why: BadStatus) -> bool {
     match padded(alloc, front, length) {
-        Some(bytes) => read_status_reply(&bytes).err() == Some(why),
+        Some(bytes) => is_refused_status(&bytes, why) && is_refused_status(&bytes, why),
         None => false,
     }
 }
@@ -107,9 +109,7 @@ fn is_no_status(alloc: Global, front: &[u8], length: usize, why: BadStatus) -> b
 #[test]
 fn statuses_are_refused_again(rt: HostRuntime) {
     for &(front, length, why) in &STATUSES {
-        for _ in 0..2 {
-            assert!(rt; is_no_status(rt.alloc(), front, length, why));
-        }
+        assert!(rt; is_no_status(rt.alloc(), front, length, why));
     }
 }
 
@@ -126,10 +126,16 @@ const QUESTIONS: [(&[u8], usize, bool, Option<u16>); 9] = [
     (b"\xf2\x01\0\x20", 4, false, None),
 ];
 
+fn are_asking(bytes: &[u8], is_request: bool, again: Option<u16>) -> bool {
+    is_status_request(bytes) == is_request && read_resend(bytes) == again
+}
+
 /// Whether bytes ask for this.
 fn asks(alloc: Global, front: &[u8], length: usize, is_request: bool, again: Option<u16>) -> bool {
     match padded(alloc, front, length) {
-        Some(bytes) => is_status_request(&bytes) == is_request && read_resend(&bytes) == again,
+        Some(bytes) => {
+            are_asking(&bytes, is_request, again) && are_asking(&bytes, is_request, again)
+        }
         None => false,
     }
 }
@@ -137,21 +143,21 @@ fn asks(alloc: Global, front: &[u8], length: usize, is_request: bool, again: Opt
 #[test]
 fn questions_are_refused_again(rt: HostRuntime) {
     for &(front, length, is_request, again) in &QUESTIONS {
-        for _ in 0..2 {
-            assert!(rt; asks(rt.alloc(), front, length, is_request, again));
-        }
+        assert!(rt; asks(rt.alloc(), front, length, is_request, again));
     }
 }
 
 /// Words that are no header of a packet: another version, a reserved bit, another byte order, no bit and each bit.
 const NO_HEADERS: [u32; 5] = [0x3000_01f0, 0x2100_01f0, 0xf001_0020, 0, u32::MAX];
 
+fn is_no_header(word: u32) -> bool {
+    read_header(word).is_none() && read_header(word).is_none()
+}
+
 #[test]
 fn headers_are_refused_again(rt: HostRuntime) {
     for &word in &NO_HEADERS {
-        for _ in 0..2 {
-            assert!(rt; read_header(word).is_none());
-        }
+        assert!(rt; is_no_header(word));
     }
 }
 
@@ -170,27 +176,23 @@ fn are_no_requests(alloc: Global, words: &[u32], why: Why) -> bool {
         && first_request(words).err() == Some(why)
 }
 
-#[test]
-fn requests_are_refused_again(rt: HostRuntime) {
-    for &(words, why, _) in &WORDS {
-        for _ in 0..2 {
-            assert!(rt; are_no_requests(rt.alloc(), words, why));
-        }
-    }
-}
-
 /// The same of replies.
 fn are_no_replies(alloc: Global, words: &[u32], why: Why) -> bool {
     read_replies(alloc, words).err() == Some(BadWords::At { place: 0, why })
         && first_reply(words).err() == Some(why)
 }
 
+fn are_no_words(alloc: Global, words: &[u32], request: Why, reply: Why) -> bool {
+    are_no_requests(alloc, words, request)
+        && are_no_requests(alloc, words, request)
+        && are_no_replies(alloc, words, reply)
+        && are_no_replies(alloc, words, reply)
+}
+
 #[test]
-fn replies_are_refused_again(rt: HostRuntime) {
-    for &(words, _, why) in &WORDS {
-        for _ in 0..2 {
-            assert!(rt; are_no_replies(rt.alloc(), words, why));
-        }
+fn requests_and_replies_are_refused_again(rt: HostRuntime) {
+    for &(words, request, reply) in &WORDS {
+        assert!(rt; are_no_words(rt.alloc(), words, request, reply));
     }
 }
 
@@ -237,23 +239,49 @@ const NO_NUMBERS: [&str; 12] = [
     "1e3",
 ];
 
+fn is_no_number(text: &str) -> bool {
+    number_in_text(text.as_bytes()).is_none() && number_in_text(text.as_bytes()).is_none()
+}
+
 #[test]
 fn numbers_are_refused_again(rt: HostRuntime) {
     for text in &NO_NUMBERS {
-        for _ in 0..2 {
-            assert!(rt; number_in_text(text.as_bytes()).is_none(), "{text}");
-        }
+        assert!(rt; is_no_number(text));
     }
 }
 
 /// Texts that are no id: none, 65 letters, and those with another byte.
 const NO_IDS: [&[u8]; 6] = [b"", &[b'a'; 65], b"a b", b"a.b", b"a[0]", b"\xff"];
 
+fn is_no_id(text: &[u8]) -> bool {
+    !is_id(text) && !is_id(text)
+}
+
 #[test]
 fn ids_are_refused_again(rt: HostRuntime) {
     for text in &NO_IDS {
-        for _ in 0..2 {
-            assert!(rt; !is_id(text));
-        }
+        assert!(rt; is_no_id(text));
+    }
+}
+
+/// A byte of no text, the first byte of two, and half of a pair of 16-bit units.
+const NO_TEXTS: [&[u8]; 3] = [b"\xff", b"\xc3", b"\xed\xa0\x80"];
+
+/// Whether bytes are those of no text.
+fn is_no_text(alloc: Global, bytes: &[u8]) -> bool {
+    match bytes.to_vec(alloc) {
+        Ok(bytes) => Text::from_vec(bytes).is_err(),
+        Err(_) => false,
+    }
+}
+
+fn is_never_a_text(alloc: Global, bytes: &[u8]) -> bool {
+    is_no_text(alloc, bytes) && is_no_text(alloc, bytes)
+}
+
+#[test]
+fn bytes_that_are_no_text_are_refused_again(rt: HostRuntime) {
+    for bytes in &NO_TEXTS {
+        assert!(rt; is_never_a_text(rt.alloc(), bytes));
     }
 }

@@ -20,6 +20,7 @@ use Rattle.mtu_packer.specs.Packed.{piece_at, pieces_at, Contents, IsPacked, pac
 use Rattle.script_steps.specs.declared.operation.RegOp.{RegOp}
 use Rattle.script_steps.specs.declared.operation.Step.{Step}
 use Rattle.script_steps.specs.declared.operation.Step.TheVariants.{Do, Denied, Dispatch}
+use Rattle.script_plans.proofs.PlanLemmas.{one_and_more}
 use Rattle.script_plans.specs.declared.planned.PieceAt.{PieceAt}
 use Rattle.script_plans.specs.Plan.{ClientBodies, no_bodies, piece_behind, into_next_dispatch, dispatches, operations, ops_on, plan}
 use Rattle.script_plans.specs.Plan.{with_dispatch, all_dispatches, count_on}
@@ -200,14 +201,6 @@ dispatches_asked payload board (d ∷ ds) all ops is both =
 
 -- ---- the operations on the board
 
-one_and_more : (board : ℕ) (op : RegOp) (ops : List RegOp)
-    → ops_on board (op ∷ ops) ≡ ops_on board (op ∷ []) ++ ops_on board ops
-one_and_more board op ops =
-    elim (cases_Bool (op.board == board)) [
-      | inl here ↦ rw here
-      | inr away ↦ rw away
-    ]
-
 begun_ops : (board : ℕ) (op : RegOp) (ds : List (List RegOp))
     → flat_map (ops_on board) (into_next_dispatch op ds) ≡ ops_on board (op ∷ []) ++ flat_map (ops_on board) ds
 begun_ops board op [] = refl
@@ -215,7 +208,7 @@ begun_ops board op (d ∷ later) =
     ap (λ (xs : List Op). xs ++ flat_map (ops_on board) later) (one_and_more board op d)
     ∙ append_assoc (ops_on board (op ∷ [])) (ops_on board d) (flat_map (ops_on board) later)
 
-ops_dispatched : (board : ℕ) (steps : List Step)
+pub ops_dispatched : (board : ℕ) (steps : List Step)
     → flat_map (ops_on board) (dispatches steps) ≡ ops_on board (operations steps)
 ops_dispatched board [] = refl
 ops_dispatched board (Do op ∷ steps) =

@@ -115,7 +115,7 @@ shows_at telling board (spec ∷ specs) scripts (r ∷ runs) is ready asks (suc 
 
 -- ---- a line
 
-planned_at : (board : ℕ) (told : Greeting) (parts : List ClientPart) (scripts : List (List Step)) (client : ℕ)
+pub planned_at : (board : ℕ) (told : Greeting) (parts : List ClientPart) (scripts : List (List Step)) (client : ℕ)
     (steps : List Step)
     → map (λ (p : ClientPart). p.planned) parts ≡ plans_on board told scripts → slice_get scripts client ≡ Some steps
     → (part : ClientPart) × (slice_get parts client ≡ Some part) × (part.planned ≡ planned_on board told steps)

@@ -5,9 +5,9 @@ mod Sends
 pub mod Alone
 pub mod OwnPlaces
 pub mod Merging
-mod PlacesShown
+pub mod PlacesShown
 pub mod OneRead
-mod ReplyWords
+pub mod ReplyWords
 pub mod Lists
 mod Shown
 pub mod Answering

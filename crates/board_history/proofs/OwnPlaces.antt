@@ -53,11 +53,11 @@ sorted_apart (p ∷ ps) apart =
     let both = inserted_apart p (by_place ps) apart in
     (sorted_all (IsApart p) ps both.0, sorted_apart ps both.1)
 
-front_apart : (xs ys : List Placed) → AreApart (xs ++ ys) → AreApart xs
+pub front_apart : (xs ys : List Placed) → AreApart (xs ++ ys) → AreApart xs
 front_apart [] ys apart = tt
 front_apart (x ∷ xs) ys apart = (front_of_all (IsApart x) xs ys apart.0, front_apart xs ys apart.1)
 
-back_apart : (xs ys : List Placed) → AreApart (xs ++ ys) → AreApart ys
+pub back_apart : (xs ys : List Placed) → AreApart (xs ++ ys) → AreApart ys
 back_apart [] ys apart = apart
 back_apart (x ∷ xs) ys apart = back_apart xs ys apart.1
 

@@ -26,7 +26,7 @@ use Rattle.lane_record.specs.Lists.{CountsFrom}
 use Rattle.board_history.specs.History.{IsOrdered, bodies_by_client, outcomes_by_client}
 use Rattle.board_history.proofs.Sends.{sends_are_the_order}
 
-abbrev IsAt : ℕ → Placed → Type 0
+abbrev pub IsAt : ℕ → Placed → Type 0
 IsAt place p = p.place ≡ place
 
 -- ---- bodies with a place
@@ -155,7 +155,7 @@ counted k (p ∷ ps) place counts any = elim (any_cases (IsAt place) p ps any) [
       (omega (arith, both.0), omega (arith, both.1))
 ]
 
-reached : (k : ℕ) (ps : List Placed) (place : ℕ) → CountsFrom k (places_of ps) → k ≤ place → place < k + length ps
+pub reached : (k : ℕ) (ps : List Placed) (place : ℕ) → CountsFrom k (places_of ps) → k ≤ place → place < k + length ps
     → Any (IsAt place) ps
 reached k [] place counts low high = absurd (omega arith)
 reached k (p ∷ ps) place counts low high = elim (cases_eq place k) [

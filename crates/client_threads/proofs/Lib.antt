@@ -4,3 +4,4 @@ mod Each
 mod Jobs
 mod Ran
 mod Results
+mod Shares

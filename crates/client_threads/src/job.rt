@@ -8,6 +8,7 @@ ghost use Rattle.hub_multiplexer.specs.Seats.{IsMasterOf};
 ghost use Rattle.client_threads.specs.Clients.{AreOfClientsFrom, AwaitClients, IsPlanFor};
 ghost use Rattle.client_threads.specs.Jobs.{AreJoined, HasEnded, IsSeated, made_more, plans_of};
 
+use crate::context::Context;
 use crate::gate::Gate;
 use crate::plan::ClientPlan;
 use crate::result::{ClientResult, LaneOutcomes};
@@ -79,25 +80,14 @@ pub(crate) fn seat_all<'a, L: Link + Send>(
 
 /// Runs a client.
 pub(crate) fn run_job<R: Wait, L: Link + Send, G: Gate>(
-    rt: &R,
-    alloc: Global,
-    hub: &Hub<L>,
-    gate: &G,
+    context: &Context<'_, R, L, G>,
     job: &mut Job<'_>,
 )
-    requires { IsSeated hub.now.turns job.old }
-    ensures ended { HasEnded hub.now.turns job.new }
+    requires { IsSeated context.now.hub.now.turns job.old }
+    ensures ended { HasEnded context.now.hub.now.turns job.new }
     ensures plan { job.new.plan ≡ job.old.plan }
 {
-    let ran = run_client(
-        rt,
-        alloc,
-        hub,
-        gate,
-        &mut job.seat,
-        job.plan,
-        job.lanes.as_mut_slice(),
-    );
+    let ran = run_client(context, &mut job.seat, job.plan, job.lanes.as_mut_slice());
     job.ran = ran.is_ok();
 }
 

@@ -2,6 +2,7 @@
 //! bodies of one, and then takes what became of each.
 #![tactic(auto)]
 
+mod context;
 mod gate;
 mod job;
 pub mod laws;

@@ -6,31 +6,30 @@ ghost use Rattle.client_threads.specs.Clients.{AreRisingFrom, IsPlanFor, bodies_
 ghost use Rattle.client_threads.specs.Running.{AddNoPlans, AskedOnEach, AtEach, CanAsk, CanTake, DispatchedOnEach};
 ghost use Rattle.client_threads.specs.Running.{HasRun, IsSameSeat, OfEach, TookOn, TookOnEach};
 
+use crate::context::Context;
 use crate::gate::Gate;
 use crate::plan::{ClientPlan, Dispatch};
-use hub_multiplexer::{Asked, Hub, Link, NoMemory, Performed, Seat};
+use hub_multiplexer::{Asked, Link, NoMemory, Performed, Seat};
 use lane_record::{Outcome, Outcomes};
-use std::alloc::Global;
 use std::mem;
 use std::sync::Wait;
 
 /// Asks for so many of the client's next bodies on a lane.
-fn ask_on<R: Wait, L: Link + Send>(
-    rt: &R,
-    hub: &Hub<L>,
+fn ask_on<R: Wait, L: Link + Send, G>(
+    context: &Context<'_, R, L, G>,
     seat: &mut Seat,
     lane: usize,
     count: u32,
 ) -> Result<(), NoMemory>
-    requires lane { lane < length hub.now.turns }
-    requires seat { IsSeatOf hub.now seat.old }
+    requires lane { lane < length context.now.hub.now.turns }
+    requires seat { IsSeatOf context.now.hub.now seat.old }
     requires planned { OfEach seat.old.knows (λ on. CanAsk (bodies_on on ((lane, count) ∷ []))) }
     ensures seat { IsSameSeat seat.old seat.new }
     ensures asked { OnOk result (AskedOnEach (λ on. bodies_on on ((lane, count) ∷ [])) seat.old.knows seat.new.knows) }
     ensures no_plan { AddNoPlans seat.old.knows seat.new.knows }
 {
     for _ in 0..count {
-        match hub.ask(rt, seat, lane)? {
+        match context.hub.ask(context.rt, seat, lane)? {
             Asked::Asked(_seq) => {}
             Asked::Nothing => unreachable!(),
         }
@@ -39,16 +38,15 @@ fn ask_on<R: Wait, L: Link + Send>(
 }
 
 /// Takes what becomes of so many of the client's oldest asked bodies on a lane, behind the outcomes that it has.
-fn take_on<R: Wait, L: Link + Send>(
-    rt: &R,
-    hub: &Hub<L>,
+fn take_on<R: Wait, L: Link + Send, G>(
+    context: &Context<'_, R, L, G>,
     seat: &mut Seat,
     lane: usize,
     count: u32,
     outcomes: &mut Vec<Outcome>,
 ) -> Result<(), NoMemory>
-    requires lane { lane < length hub.now.turns }
-    requires seat { IsSeatOf hub.now seat.old }
+    requires lane { lane < length context.now.hub.now.turns }
+    requires seat { IsSeatOf context.now.hub.now seat.old }
     requires asked { OfEach seat.old.knows (λ on. CanTake (bodies_on on ((lane, count) ∷ []))) }
     ensures seat { IsSameSeat seat.old seat.new }
     ensures took { OnOk result
@@ -56,7 +54,7 @@ fn take_on<R: Wait, L: Link + Send>(
     ensures no_plan { AddNoPlans seat.old.knows seat.new.knows }
 {
     for _ in 0..count {
-        match hub.perform(rt, seat, lane)? {
+        match context.hub.perform(context.rt, seat, lane)? {
             Performed::Ready(outcome) => outcomes.push(outcome)?,
             Performed::Nothing => unreachable!(),
         }
@@ -65,18 +63,16 @@ fn take_on<R: Wait, L: Link + Send>(
 }
 
 /// Takes what becomes of so many of the client's oldest asked bodies on a lane, behind the outcomes of that lane.
-fn take_into<R: Wait, L: Link + Send>(
-    rt: &R,
-    alloc: Global,
-    hub: &Hub<L>,
+fn take_into<R: Wait, L: Link + Send, G>(
+    context: &Context<'_, R, L, G>,
     seat: &mut Seat,
     lane: usize,
     count: u32,
     lanes: &mut [Outcomes],
 ) -> Result<(), NoMemory>
-    requires lane { lane < length hub.now.turns }
-    requires seat { IsSeatOf hub.now seat.old }
-    requires lanes { length lanes.old ≡ length hub.now.turns }
+    requires lane { lane < length context.now.hub.now.turns }
+    requires seat { IsSeatOf context.now.hub.now seat.old }
+    requires lanes { length lanes.old ≡ length context.now.hub.now.turns }
     requires asked { OfEach seat.old.knows (λ on. CanTake (bodies_on on ((lane, count) ∷ []))) }
     ensures seat { IsSameSeat seat.old seat.new }
     ensures lanes { length lanes.new ≡ length lanes.old }
@@ -84,45 +80,45 @@ fn take_into<R: Wait, L: Link + Send>(
         lanes.old lanes.new seat.old.knows seat.new.knows) }
     ensures no_plan { AddNoPlans seat.old.knows seat.new.knows }
 {
-    let before = mem::replace(&mut lanes[lane], Outcomes::from_vec(Vec::new(alloc)));
+    let before = mem::replace(
+        &mut lanes[lane],
+        Outcomes::from_vec(Vec::new(context.alloc)),
+    );
     let mut outcomes = before.into_vec();
-    let taken = take_on(rt, hub, seat, lane, count, &mut outcomes);
+    let taken = take_on(context, seat, lane, count, &mut outcomes);
     lanes[lane] = Outcomes::from_vec(outcomes);
     taken
 }
 
 /// Asks for all bodies of a dispatch, lane by lane.
-fn ask_all<R: Wait, L: Link + Send>(
-    rt: &R,
-    hub: &Hub<L>,
+fn ask_all<R: Wait, L: Link + Send, G>(
+    context: &Context<'_, R, L, G>,
     seat: &mut Seat,
     asks: &[(u32, u32)],
 ) -> Result<(), NoMemory>
-    requires lanes { AreRisingFrom 0 (length hub.now.turns) asks.now }
-    requires seat { IsSeatOf hub.now seat.old }
+    requires lanes { AreRisingFrom 0 (length context.now.hub.now.turns) asks.now }
+    requires seat { IsSeatOf context.now.hub.now seat.old }
     requires planned { OfEach seat.old.knows (λ on. CanAsk (bodies_on on asks.now)) }
     ensures seat { IsSameSeat seat.old seat.new }
     ensures asked { OnOk result (AskedOnEach (λ on. bodies_on on asks.now) seat.old.knows seat.new.knows) }
     ensures no_plan { AddNoPlans seat.old.knows seat.new.knows }
 {
     for ask in asks {
-        ask_on(rt, hub, seat, ask.0 as usize, ask.1)?;
+        ask_on(context, seat, ask.0 as usize, ask.1)?;
     }
     Ok(())
 }
 
 /// Takes what becomes of all bodies of a dispatch, lane by lane, behind the outcomes of each lane.
-fn take_all<R: Wait, L: Link + Send>(
-    rt: &R,
-    alloc: Global,
-    hub: &Hub<L>,
+fn take_all<R: Wait, L: Link + Send, G>(
+    context: &Context<'_, R, L, G>,
     seat: &mut Seat,
     asks: &[(u32, u32)],
     lanes: &mut [Outcomes],
 ) -> Result<(), NoMemory>
-    requires asks { AreRisingFrom 0 (length hub.now.turns) asks.now }
-    requires seat { IsSeatOf hub.now seat.old }
-    requires lanes { length lanes.old ≡ length hub.now.turns }
+    requires asks { AreRisingFrom 0 (length context.now.hub.now.turns) asks.now }
+    requires seat { IsSeatOf context.now.hub.now seat.old }
+    requires lanes { length lanes.old ≡ length context.now.hub.now.turns }
     requires known { length lanes.old ≡ length seat.old.knows }
     requires asked { OfEach seat.old.knows (λ on. CanTake (bodies_on on asks.now)) }
     ensures seat { IsSameSeat seat.old seat.new }
@@ -132,25 +128,22 @@ fn take_all<R: Wait, L: Link + Send>(
     ensures no_plan { AddNoPlans seat.old.knows seat.new.knows }
 {
     for ask in asks {
-        take_into(rt, alloc, hub, seat, ask.0 as usize, ask.1, lanes)?;
+        take_into(context, seat, ask.0 as usize, ask.1, lanes)?;
     }
     Ok(())
 }
 
 /// Does a dispatch: all Asks, and then all that becomes of them.
 fn do_dispatch<R: Wait, L: Link + Send, G: Gate>(
-    rt: &R,
-    alloc: Global,
-    hub: &Hub<L>,
-    gate: &G,
+    context: &Context<'_, R, L, G>,
     client: u32,
     seat: &mut Seat,
     dispatch: &Dispatch,
     lanes: &mut [Outcomes],
 ) -> Result<(), NoMemory>
-    requires asks { AreRisingFrom 0 (length hub.now.turns) dispatch.now.asks }
-    requires seat { IsSeatOf hub.now seat.old }
-    requires lanes { length lanes.old ≡ length hub.now.turns }
+    requires asks { AreRisingFrom 0 (length context.now.hub.now.turns) dispatch.now.asks }
+    requires seat { IsSeatOf context.now.hub.now seat.old }
+    requires lanes { length lanes.old ≡ length context.now.hub.now.turns }
     requires known { length lanes.old ≡ length seat.old.knows }
     requires planned { OfEach seat.old.knows (λ on. CanAsk (bodies_on on dispatch.now.asks)) }
     ensures seat { IsSameSeat seat.old seat.new }
@@ -159,26 +152,23 @@ fn do_dispatch<R: Wait, L: Link + Send, G: Gate>(
         lanes.old lanes.new seat.old.knows seat.new.knows) }
     ensures no_plan { AddNoPlans seat.old.knows seat.new.knows }
 {
-    ask_all(rt, hub, seat, dispatch.asks.as_slice())?;
-    gate.between(client);
-    take_all(rt, alloc, hub, seat, dispatch.asks.as_slice(), lanes)?;
-    gate.answered(client);
+    ask_all(context, seat, dispatch.asks.as_slice())?;
+    context.gate.between(client);
+    take_all(context, seat, dispatch.asks.as_slice(), lanes)?;
+    context.gate.answered(client);
     Ok(())
 }
 
 /// Does all dispatches of a client's plan, one after another.
 pub(crate) fn run_client<R: Wait, L: Link + Send, G: Gate>(
-    rt: &R,
-    alloc: Global,
-    hub: &Hub<L>,
-    gate: &G,
+    context: &Context<'_, R, L, G>,
     seat: &mut Seat,
     plan: &ClientPlan,
     lanes: &mut [Outcomes],
 ) -> Result<(), NoMemory>
-    requires plan { IsPlanFor (length hub.now.turns) plan.now }
-    requires seat { IsSeatOf hub.now seat.old }
-    requires lanes { length lanes.old ≡ length hub.now.turns }
+    requires plan { IsPlanFor (length context.now.hub.now.turns) plan.now }
+    requires seat { IsSeatOf context.now.hub.now seat.old }
+    requires lanes { length lanes.old ≡ length context.now.hub.now.turns }
     requires first { AtEach seat.old.knows lanes.old
         (λ on. HasRun plan.now.client (sum (counts_on on plan.now)) []) }
     ensures seat { IsSameSeat seat.old seat.new }
@@ -187,7 +177,7 @@ pub(crate) fn run_client<R: Wait, L: Link + Send, G: Gate>(
     ensures no_plan { AddNoPlans seat.old.knows seat.new.knows }
 {
     for dispatch in plan.dispatches.as_slice() {
-        do_dispatch(rt, alloc, hub, gate, plan.client, seat, dispatch, lanes)?;
+        do_dispatch(context, plan.client, seat, dispatch, lanes)?;
     }
     Ok(())
 }

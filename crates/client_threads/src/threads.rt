@@ -9,6 +9,7 @@ ghost use Rattle.client_threads.specs.Clients.{AreOfClientsFrom, AreResultsFor, 
 ghost use Rattle.client_threads.specs.Clients.{WereTakenIn};
 ghost use Rattle.client_threads.specs.Jobs.{HasEnded, IsSeated, made_more, plans_of};
 
+use crate::context::Context;
 use crate::gate::Gate;
 use crate::job::{Job, join_all, run_job, seat_all};
 use crate::plan::ClientPlan;
@@ -23,14 +24,11 @@ use std::thread::Threads;
 /// Runs all clients at once, with as many threads as clients. A client whose thread cannot be started is run on the
 /// thread of the call.
 fn run_all<R: Threads + Wait + Sync, L: Link + Send, G: Gate>(
-    rt: &R,
-    alloc: Global,
-    hub: &Hub<L>,
-    gate: &G,
+    context: &Context<'_, R, L, G>,
     jobs: &mut [Job<'_>],
 )
-    requires { AllByRecursion (IsSeated hub.now.turns) jobs.old }
-    ensures ended { AllByRecursion (HasEnded hub.now.turns) jobs.new }
+    requires { AllByRecursion (IsSeated context.now.hub.now.turns) jobs.old }
+    ensures ended { AllByRecursion (HasEnded context.now.hub.now.turns) jobs.new }
     ensures plans { plans_of jobs.new ≡ plans_of jobs.old }
 {
     let threads = jobs.len();
@@ -38,46 +36,43 @@ fn run_all<R: Threads + Wait + Sync, L: Link + Send, G: Gate>(
         return;
     }
     thread::for_each_mut(
-        rt,
+        context.rt,
         jobs,
         threads,
         &|_i: usize, job: &mut Job<'_>|
-            requires { IsSeated hub.now.turns job.old }
-            ensures ended { HasEnded hub.entry.now.turns job.new }
+            requires { IsSeated context.now.hub.now.turns job.old }
+            ensures ended { HasEnded context.entry.now.hub.now.turns job.new }
             ensures plan { job.new.plan ≡ job.old.plan }
-        { run_job(rt, alloc, hub, gate, job) },
+        { run_job(context, job) },
     );
 }
 
 /// Gives each client a seat, and then runs them all. Where memory runs out for a seat, none is run.
 fn seat_and_run<'a, R: Threads + Wait + Sync, L: Link + Send, G: Gate>(
-    rt: &R,
-    alloc: Global,
-    hub: &Hub<L>,
+    context: &Context<'_, R, L, G>,
     master: &mut Master,
     plans: &'a [ClientPlan],
-    gate: &G,
     jobs: &mut Vec<Job<'a>>,
 ) -> Result<(), NoMemory>
-    requires hub { IsMasterOf hub.now master.old }
+    requires hub { IsMasterOf context.now.hub.now master.old }
     requires clients { AreOfClientsFrom (master.old.seats + 1) plans.now }
     requires few { master.old.seats + length plans.now < 2 ^ 32 }
-    requires plans { AllByRecursion (IsPlanFor (length hub.now.turns)) plans.now }
+    requires plans { AllByRecursion (IsPlanFor (length context.now.hub.now.turns)) plans.now }
     requires awaited { AwaitClients plans.now master.old.knows }
     requires empty { jobs.old.items ≡ [] }
     requires room { length plans.now ≤ vec_capacity jobs.old }
     ensures few { length jobs.new.items ≤ length plans.now }
     ensures all { OnOk result (length jobs.new.items ≡ length plans.now) }
     ensures plans { plans_of jobs.new.items ≡ take (length jobs.new.items) plans.now }
-    ensures ended { AllByRecursion (HasEnded hub.now.turns) jobs.new.items }
+    ensures ended { AllByRecursion (HasEnded context.now.hub.now.turns) jobs.new.items }
     ensures master { master.new ≡ record master.old {
       seats = master.old.seats + length jobs.new.items;
       knows = map (made_more (length jobs.new.items)) master.old.knows;
     } }
     ensures taken_in { (n : _) → HasTakenIn n master.old → HasTakenIn n master.new }
 {
-    seat_all(alloc, hub, master, plans, jobs)?;
-    run_all(rt, alloc, hub, gate, jobs.as_mut_slice());
+    seat_all(context.alloc, context.hub, master, plans, jobs)?;
+    run_all(context, jobs.as_mut_slice());
     Ok(())
 }
 
@@ -107,7 +102,13 @@ pub fn run_clients<R: Threads + Wait + Sync, L: Link + Send, G: Gate>(
     master.knows_each_turn();
     let mut results = Vec::with_capacity(alloc, plans.len())?;
     let mut jobs = Vec::with_capacity(alloc, plans.len())?;
-    let seated = seat_and_run(rt, alloc, hub, master, plans, gate, &mut jobs);
+    let context = Context {
+        rt,
+        alloc,
+        hub,
+        gate,
+    };
+    let seated = seat_and_run(&context, master, plans, &mut jobs);
     let ran = join_all(hub, master, jobs, &mut results);
     seated?;
     if ran { Ok(results) } else { Err(NoMemory) }

@@ -1,4 +1,5 @@
 pub mod Alone
+pub mod Below
 pub mod Walks
 pub mod Strays
 pub mod Digits

@@ -3,9 +3,10 @@
 ghost use Rattle.std.specs.Prelude.{◌≡◌, ℕ, true, false, map, IfOk, IsErrOf, Some, List};
 ghost use Rattle.clap.specs.Words.{app_of, rule_of, rows_of, found_of, first_of};
 ghost use Rattle.command_words.specs.Forms.{Form, words_of, IsNamed, IsPlain, ArePlain, texts};
-ghost use Rattle.clap.specs.Simple.{new_app, with_rule};
-ghost use Rattle.command_words.specs.App.{bare, ipbus, needed_word, serve_app, with_alone as with_names, worded_app};
-ghost use Rattle.command_words.specs.App.{HasShapeBelow, IsFor, name_of, rows_of_form};
+ghost use Rattle.clap.specs.Simple.{new_app, with_rule, with_subcommand};
+ghost use Rattle.command_words.specs.App.{bare as bare_app, ipbus, needed_word, serve_app, worded_app};
+ghost use Rattle.command_words.specs.App.{with_alone as with_names};
+ghost use Rattle.command_words.specs.App.{HasShapeBelow, IsBehind, IsFor, name_of, rows_of_form};
 ghost use Rattle.command_words.specs.Read.{form_of};
 
 use clap::error::ErrorKind;
@@ -67,7 +68,7 @@ fn serve<'a>(alloc: Global) -> Result<Command<'a>, AllocError>
 
 /// The program without its commands. There is no help and no version, and a command has to be there.
 fn bare<'a>(alloc: Global) -> Command<'a>
-    ensures { app_of result ≡ bare }
+    ensures { app_of result ≡ bare_app }
 {
     Command::new(alloc, "ipbus")
         .no_binary_name(true)
@@ -77,17 +78,23 @@ fn bare<'a>(alloc: Global) -> Command<'a>
         .subcommand_required(true)
 }
 
+/// The program with a command behind its others, if that could be made.
+fn with_below<'a>(
+    program: Command<'a>,
+    below: Result<Command<'a>, AllocError>,
+) -> Result<Command<'a>, AllocError>
+    ensures { IfOk result (IsBehind (app_of program.entry) below.entry) }
+{
+    program.subcommand(below?)
+}
+
 /// The program with the commands that have words.
 fn worded<'a>(alloc: Global) -> Result<Command<'a>, AllocError>
     ensures { IfOk result (λ c. app_of c ≡ worded_app) }
 {
-    let check = with_word(alloc, "check", "table")?;
-    let serve = serve(alloc)?;
-    let load = with_word(alloc, "load", "count")?;
-    bare(alloc)
-        .subcommand(check)?
-        .subcommand(serve)?
-        .subcommand(load)
+    let with_check = with_below(bare(alloc), with_word(alloc, "check", "table"))?;
+    let with_serve = with_below(with_check, serve(alloc))?;
+    with_below(with_serve, with_word(alloc, "load", "count"))
 }
 
 /// The commands, each with its words.
@@ -96,6 +103,17 @@ fn command<'a>(alloc: Global) -> Result<Command<'a>, AllocError>
 {
     let worded = worded(alloc)?;
     with_alone(alloc, worded, &ALONE)
+}
+
+/// A command with a command of this name below it, which has no words.
+fn with_one_alone<'a>(
+    alloc: Global,
+    command: Command<'a>,
+    name: &'a str,
+) -> Result<Command<'a>, AllocError>
+    ensures { IfOk result (λ c. app_of c ≡ with_subcommand (app_of command.entry) (new_app name.entry.now).top) }
+{
+    command.subcommand(Command::new(alloc, name))
 }
 
 /// A command with commands of these names below it, which have no words.
@@ -108,7 +126,7 @@ fn with_alone<'a>(
 {
     match names {
         [name, rest @ ..] => {
-            let more = command.subcommand(Command::new(alloc, name))?;
+            let more = with_one_alone(alloc, command, name)?;
             with_alone(alloc, more, rest)
         }
         [] => Ok(command),

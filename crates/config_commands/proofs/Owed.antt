@@ -1,5 +1,5 @@
 -- What `save` and `apply` leave by bytes that break none of their rules.
-use Rattle.std.proofs.Common.{◌≡◌, inl, inr, ℕ, List, [], ◌∷◌, length, Result, Ok, Err, IfOk}
+use Rattle.std.proofs.Common.{◌≡◌, ℕ, List, [], ◌∷◌, length, Result}
 use Rattle.std.proofs.Common.{sym, subst, ◌∙◌, arith}
 use Rattle.board_node.specs.declared.spec.LinkSpec.{LinkSpec}
 use Rattle.lane_history.specs.Links.{LinkReport}
@@ -17,21 +17,15 @@ use Rattle.config_input.specs.Work.{ConfigCommand, apply_command, save_command}
 use Rattle.command_terms.specs.declared.answer.Answer.{Answer}
 use Rattle.command_terms.specs.Leaving.{Leaves}
 use Rattle.command_terms.specs.Outside.{NoneCame, no_pairs}
-use Rattle.command_terms.specs.Terms.{Owes, Terms}
-use Rattle.command_terms.proofs.Leaving.{none_came}
-use Rattle.run_laws.specs.Runs.{IsSessionRun}
+use Rattle.command_terms.specs.Terms.{Terms}
+use Rattle.run_laws.specs.Leaving.{RunLeaves}
 use Rattle.run_laws.specs.Steps.{CanRunSteps}
+use Rattle.run_laws.proofs.Leaving.{RunsLaw, run_left}
 use Rattle.config_commands.specs.Applied.{IsAppliedText}
 use Rattle.config_commands.specs.Saved.{IsOpeningText}
-use Rattle.config_commands.specs.Steps.{RunLeaves, Writes}
+use Rattle.config_commands.specs.Steps.{Writes}
 use Rattle.config_commands.specs.Terms.{apply_terms, save_terms}
 use Rattle.config_commands.specs.Written.{AllTell, IsWritten, RanSomeFor}
-
--- outcomes over links are a run of the steps
-abbrev pub RunsLaw : Type 0
-RunsLaw = (session : Session) (steps : List (List Step)) (runs : List BoardRun) (links : List LinkReport)
-    → CanRunSteps session steps → AreRunsOver session.settings 0 session.boards steps runs links
-    → IsSessionRun session steps runs links
 
 written_by : RunsLaw → (session : Session) (steps : List Step) (links : List LinkReport) (status : ℕ) (text : List ℕ)
     → CanRunSteps session (steps ∷ []) → Writes session (steps ∷ []) links status text
@@ -51,34 +45,24 @@ module _ (command : ConfigCommand) (terms : Terms) (bytes : List ℕ)
     → IsReadFor command bytes session (steps ∷ []) → CanRunSteps session (steps ∷ [])
     → Writes session (steps ∷ []) links status text → terms.Done bytes (no_pairs links) status text)
     (session : Session) where
-  owed : (steps : List (List Step)) (links : List LinkReport) (result : Result Answer RunFault)
-      → IsReadFor command bytes session steps → length steps ≡ 1 → CanRunSteps session steps
-      → IfOk result (λ answer. Writes session steps links answer.status answer.text.items)
-      → IfOk result (λ answer. Owes terms bytes (no_pairs links) answer.status answer.text.items)
-  owed [] links result read alone can writes = absurd cc
-  owed (one ∷ other ∷ others) links result read alone can writes = absurd (omega (arith, alone))
-  owed (steps ∷ []) links (Err why) read alone can writes = tt
-  owed (steps ∷ []) links (Ok answer) read alone can writes =
-      inl (done session steps links answer.status answer.text.items read can writes)
+  done_by : (steps : List (List Step)) (links : List LinkReport) → IsReadFor command bytes session steps
+      → length steps ≡ 1 → CanRunSteps session steps → (status : ℕ) (text : List ℕ)
+      → Writes session steps links status text → terms.Done bytes (no_pairs links) status text
+  done_by [] links read alone can status text writes = absurd cc
+  done_by (one ∷ other ∷ others) links read alone can status text writes = absurd (omega (arith, alone))
+  done_by (steps ∷ []) links read alone can status text writes = done session steps links status text read can writes
 
   leaves_by : (steps handed : List (List Step)) (made makes : List LinkSpec) (result : Result Answer RunFault)
       (links : List LinkReport) → IsReadFor command bytes session steps → length steps ≡ 1
-      → CanRunSteps session steps → handed ≡ steps → RunLeaves session handed made makes result links
+      → CanRunSteps session steps → handed ≡ steps
+      → RunLeaves (Writes session handed) session handed made makes result links
       → Leaves NoneCame IsRunFailure Rack terms bytes made makes result (no_pairs links)
-  leaves_by steps handed made makes result links read alone can same left =
-      let leaves = subst (λ steps. RunLeaves session steps made makes result links) same left in
-      let made' = leaves.links_made in
-      let ran : RanSomeFor command bytes made'.specs links =
-      record { session = session; steps = steps; read = read; first = made'.first; left = leaves.left } in record {
-        specs = made'.specs;
-        grown = made'.grown;
-        counted = made'.many;
-        used = inr (uses made'.specs links ran);
-        back = none_came;
-        owed = owed steps links result read alone can leaves.writes;
-        behind = λ fault is failed. uses made'.specs links ran;
-        untouched = leaves.untouched;
-      }
+  leaves_by steps handed made makes result links read alone can same leaves =
+      run_left (Writes session steps) session steps made makes terms bytes result links
+      (λ specs first left. uses specs links
+      (record { session = session; steps = steps; read = read; first = first; left = left }))
+      (done_by steps links read alone can)
+      (subst (λ steps. RunLeaves (Writes session steps) session steps made makes result links) same leaves)
 
 -- ---- save
 
@@ -92,7 +76,7 @@ SavedLaw = (bytes : List ℕ) (session : Session) (steps : List Step) (runs : Li
 pub save_leaves : RunsLaw → SavedLaw → (bytes : List ℕ) (session : Session) (steps handed : List (List Step))
     (made makes : List LinkSpec) (result : Result Answer RunFault) (links : List LinkReport)
     → IsSavable bytes session steps → length steps ≡ 1 → CanRunSteps session steps → handed ≡ steps
-    → RunLeaves session handed made makes result links
+    → RunLeaves (Writes session handed) session handed made makes result links
     → Leaves NoneCame IsRunFailure Rack save_terms bytes made makes result (no_pairs links)
 save_leaves runs law bytes session =
     leaves_by save_command save_terms bytes (λ specs links ran. ran)
@@ -118,7 +102,7 @@ AppliedLaw = (bytes : List ℕ) (session : Session) (steps : List Step) (runs : 
 pub apply_leaves : RunsLaw → AppliedLaw → (bytes : List ℕ) (session : Session) (steps handed : List (List Step))
     (made makes : List LinkSpec) (result : Result Answer RunFault) (links : List LinkReport)
     → IsApplicable bytes session steps → length steps ≡ 1 → CanRunSteps session steps → handed ≡ steps
-    → RunLeaves session handed made makes result links
+    → RunLeaves (Writes session handed) session handed made makes result links
     → Leaves NoneCame IsRunFailure Rack apply_terms bytes made makes result (no_pairs links)
 apply_leaves runs law bytes session =
     leaves_by apply_command apply_terms bytes (λ specs links ran. ran)

@@ -5,8 +5,9 @@ ghost use Rattle.board_greeting.specs.Links.{Keeps};
 ghost use Rattle.transcript.specs.Lines as lines;
 ghost use Rattle.ipb_outside.specs.Faults.{RisesExactlyIf};
 ghost use Rattle.config_store.specs.Text as texts;
+ghost use Rattle.run_laws.specs.Leaving.{RunLeaves};
 ghost use Rattle.run_laws.specs.Steps.{MayRun};
-ghost use Rattle.config_commands.specs.Steps.{RunLeaves, first_of};
+ghost use Rattle.config_commands.specs.Steps.{Writes, first_of};
 
 use board_node::BoardSpec;
 use client_threads::Gate;
@@ -36,7 +37,7 @@ pub(crate) fn write_configuration<R: Rack, T: Threads + Wait + Sync, G: Gate>(
     requires runs { MayRun session.now steps.now }
     requires alone { length steps.now ≡ 1 }
     ensures leaves { Keeps R.Rack R.L.Link rack.old rack.new
-        (RunLeaves session.now steps.now (R.made rack.old) (R.made rack.new) result) }
+        (RunLeaves (Writes session.now steps.now) session.now steps.now (R.made rack.old) (R.made rack.new) result) }
     ensures rack_faults { RisesExactlyIf (result ≡ Err RunFault.Rack) (R.faults rack.old) (R.faults rack.new) }
 {
     let boards = session.boards.as_slice();

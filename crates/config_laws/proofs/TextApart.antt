@@ -25,7 +25,8 @@ use Rattle.config_store.proofs.NameSearch.{Registers}
 use Rattle.config_laws.specs.Applied.{AreFor, IsFor}
 use Rattle.config_laws.specs.ReadBack.{AreApart, CanBeReadBack, CanBeSpelled, IsApartFrom, IsOfSomeBoard}
 use Rattle.config_laws.proofs.SavedLines.{first_of}
-use Rattle.config_laws.proofs.SessionBoards.{valid_tables, zip_at}
+use Rattle.script_lang.proofs.ValidTables.{valid_tables}
+use Rattle.config_laws.proofs.SessionBoards.{zip_at}
 use Rattle.config_laws.proofs.TextNames.{IsQuotable, boards_bare, register_quotable}
 use Rattle.config_laws.proofs.TextNodes.{BoardsApart, boards_apart}
 

@@ -18,13 +18,13 @@ use Rattle.mtu_packer.specs.Packed.{Contents, IsPacked, packed_contents, pieces_
 use Rattle.mtu_packer.proofs.Pieces.{piece_limit-some}
 use Rattle.script_steps.specs.declared.operation.RegOp.{RegOp}
 use Rattle.script_steps.specs.declared.operation.Step.{Step}
-use Rattle.script_steps.specs.declared.operation.Step.TheVariants.{Do, Denied, Dispatch}
 use Rattle.script_plans.specs.declared.greeting.Greeting.TheVariants.{Live}
 use Rattle.script_plans.specs.declared.planned.PieceAt.{PieceAt}
-use Rattle.script_plans.specs.Plan.{ClientBodies, into_next_dispatch, dispatches, piece_behind, no_bodies, operations, ops_on, planned_on}
+use Rattle.script_plans.specs.Plan.{ClientBodies, dispatches, piece_behind, no_bodies, operations, ops_on, planned_on}
 use Rattle.script_plans.specs.Plan.{with_dispatch}
 use Rattle.script_plans.proofs.PackedDispatches.{AreDispatchesPacked}
-use Rattle.board_history.proofs.Asking.{heads}
+use Rattle.script_plans.proofs.PlanLemmas.{one_and_more}
+use Rattle.board_history.proofs.Asking.{heads, ops_dispatched}
 use Rattle.board_history.proofs.Readiness.{ArePacked}
 use Rattle.config_laws.specs.Turns.{AreOfOneWord, IsOfOneWord}
 use Rattle.config_laws.proofs.PlanReads.{exactly_one}
@@ -191,36 +191,12 @@ laid_all payload board (d ∷ ds) all before low packings one laid =
 
 -- ---- the operations on a board
 
-pub one_and_more : (board : ℕ) (op : RegOp) (ops : List RegOp)
-    → ops_on board (op ∷ ops) ≡ ops_on board (op ∷ []) ++ ops_on board ops
-one_and_more board op ops = elim (cases_Bool (op.board == board)) [
-  | inl here ↦ rw here
-  | inr away ↦ rw away
-]
-
 pub ops_append : (board : ℕ) (xs ys : List RegOp) → ops_on board (xs ++ ys) ≡ ops_on board xs ++ ops_on board ys
 ops_append board [] ys = refl
 ops_append board (x ∷ xs) ys =
     one_and_more board x (xs ++ ys) ∙ ap (λ (os : List Op). ops_on board (x ∷ []) ++ os) (ops_append board xs ys)
     ∙ sym (append_assoc (ops_on board (x ∷ [])) (ops_on board xs) (ops_on board ys))
     ∙ ap (λ (os : List Op). os ++ ops_on board ys) (sym (one_and_more board x xs))
-
-begun_ops : (board : ℕ) (op : RegOp) (ds : List (List RegOp))
-    → flat_map (ops_on board) (into_next_dispatch op ds) ≡ ops_on board (op ∷ []) ++ flat_map (ops_on board) ds
-begun_ops board op [] = refl
-begun_ops board op (d ∷ later) =
-    ap (λ (xs : List Op). xs ++ flat_map (ops_on board) later) (one_and_more board op d)
-    ∙ append_assoc (ops_on board (op ∷ [])) (ops_on board d) (flat_map (ops_on board) later)
-
-ops_dispatched : (board : ℕ) (steps : List Step)
-    → flat_map (ops_on board) (dispatches steps) ≡ ops_on board (operations steps)
-ops_dispatched board [] = refl
-ops_dispatched board (Do op ∷ steps) =
-    begun_ops board op (dispatches steps)
-    ∙ ap (λ (xs : List Op). ops_on board (op ∷ []) ++ xs) (ops_dispatched board steps)
-    ∙ sym (one_and_more board op (operations steps))
-ops_dispatched board (Denied rule op ∷ steps) = ops_dispatched board steps
-ops_dispatched board (Dispatch ∷ steps) = ops_dispatched board steps
 
 one_word_on : (board : ℕ) (ops : List RegOp) → AllByRecursion IsOfOneWord ops → AllByRecursion HasOneWord (ops_on board ops)
 one_word_on board [] one = tt

@@ -1,6 +1,6 @@
 -- Lemmas on the greeting of a board over a link that tells: each datagram is a status reply, and a receive is quiet
 -- only where datagrams were held.
-use Rattle.std.proofs.Common.{◌≡◌, ℕ, ◌+◌, ◌*◌, ◌<◌, ◌≤◌, List, [], ◌∷◌, ◌++◌, length, Option}
+use Rattle.std.proofs.Common.{◌≡◌, ℕ, ◌+◌, ◌<◌, ◌≤◌, List, [], ◌∷◌, ◌++◌, length, Option}
 use Rattle.std.proofs.Common.{Some, None}
 use Rattle.std.proofs.Common.{refl, sym, ap, ◌∙◌, subst, arith, inl, inr, ◌⊎◌, length-append}
 use Rattle.std.specs.Prelude.{Result, Ok, Err, IfSome}
@@ -26,16 +26,16 @@ use Rattle.world_core.specs.declared.link.LinkFault.{LinkFault}
 use Rattle.world_core.specs.declared.link.LinkFault.TheVariants as fault
 use Rattle.world_core.specs.declared.link.Received.{Received}
 use Rattle.world_core.specs.declared.link.Received.TheVariants as came
-use Rattle.world_core.specs.Receives.{first_status}
 use Rattle.world_core.specs.Telling.{IfTelling, IsGot, IsQuiet, IsReceived, IsSent, Receives, Telling}
 use Rattle.hub_lane.specs.Standing.{AreInAir}
 use Rattle.hub_lane.proofs.Closed.{got_in_air, sent_in_air, unheard_in_air}
+use Rattle.hub_lane.proofs.Requests.{if_both}
 use Rattle.recovery_laws.proofs.Heard.{AirGrows, GoesThere, contains_get, front_goes, heard_first, heard_goes}
 use Rattle.recovery_laws.proofs.Heard.{nothing_due, one_way}
 use Rattle.hub_lane.specs.declared.greeting.Answer.{Answer}
 use Rattle.hub_lane.specs.declared.greeting.Answer.TheVariants as answer
 use Rattle.hub_lane.specs.Greeting.{CanBegin, EndsAskingWith, EndsRoundWith, IsExpecting}
-use Rattle.hub_lane.specs.Greeting.{HandedOutNone, HasAskedAtMost, IsHeardFrom, IsTold, StaysFresh}
+use Rattle.hub_lane.specs.Greeting.{HandedOutNone, IsHeardFrom, IsTold, StaysFresh}
 
 -- what the laws of links say of what a board hears
 abbrev pub HeardGoesOn : Type 0
@@ -224,103 +224,10 @@ got_told law grows tells settings bytes told all before now old new begins is =
 
 -- ---- what was handed out
 
-pub handed_first : (a : Option Telling) → IfTelling a a HandedOutNone
-handed_first None = tt
-handed_first (Some t) = refl
-
-pub handed_then : (a b c : Option Telling) → IfTelling a b HandedOutNone → IfTelling b c HandedOutNone
-    → IfTelling a c HandedOutNone
-handed_then None None c is js = js
-handed_then None (Some t) c is js = absurd is
-handed_then (Some s) None c is js = absurd is
-handed_then (Some s) (Some t) None is js = js
-handed_then (Some s) (Some t) (Some u) is js = js ∙ is
-
-handed_as : (R : Telling → Telling → Type 0) (a b : Option Telling) → ((s t : Telling) → R s t → HandedOutNone s t)
-    → IfTelling a b R → IfTelling a b HandedOutNone
-handed_as R None None f is = tt
-handed_as R None (Some t) f is = is
-handed_as R (Some s) None f is = is
-handed_as R (Some s) (Some t) f is = f s t is
-
 pub handed_quiet : (bytes : List ℕ) (before now : ℕ) (a b : Option Telling)
     → IfTelling a b (Receives (Ok came.Quiet) bytes before now) → IfTelling a b HandedOutNone
-handed_quiet bytes before now a b is = handed_as (Receives (Ok came.Quiet) bytes before now) a b
+handed_quiet bytes before now a b is = if_both (Receives (Ok came.Quiet) bytes before now) HandedOutNone a b
     (λ s t quiet. quiet.received.handed ∙ append-nil s.handed) is
-
--- ---- a round
-
-abbrev pub IsSameTelling : Telling → Telling → Type 0
-IsSameTelling old new = new ≡ old
-
--- other datagrams came so far: over a link that tells there was none
-pub record IsListening (before now : Option Telling) (other quiets quiets_now gots gots_now faults faults_now held
-    held_now : ℕ) (receives : List (Option (List ℕ))) : Type 0 where
-  pub same : IfTelling before now IsSameTelling
-  pub first : IfSome before (λ _. (other ≡ 0) × (held_now ≡ held))
-  pub quiet : quiets_now ≡ quiets
-  pub got : gots_now ≡ gots + other
-  pub untold : first_status receives ≡ None
-  pub fault : faults ≤ faults_now
-  pub hold : held ≤ held_now
-
-pub handed_still : (a b : Option Telling) → IfTelling a b IsSameTelling → IfTelling a b HandedOutNone
-handed_still a b is = handed_as IsSameTelling a b (λ s t same. ap (λ (x : Telling). x.handed) same) is
-
-pub handed_after : (a b c : Option Telling) → IfTelling a b IsSameTelling → IfTelling b c HandedOutNone
-    → IfTelling a c HandedOutNone
-handed_after a b c same is = handed_then a b c (handed_still a b same) is
-
--- another datagram came: so the link tells nothing
-pub no_other : (a b c : Option Telling) (P : Type 0) → IfTelling a b IsSameTelling → IfTelling b c (λ s t. ⊥)
-    → IfTelling a c IsSameTelling × IfSome a (λ _. P)
-no_other None None None P same is = (tt, tt)
-no_other None None (Some u) P same is = absurd is
-no_other None (Some t) c P same is = absurd same
-no_other (Some s) None c P same is = absurd same
-no_other (Some s) (Some t) None P same is = absurd is
-no_other (Some s) (Some t) (Some u) P same is = absurd is
-
-told_round : (settings : Limits) (q q' h h' before now : ℕ) (status : Status) (a b c : Option Telling)
-    → IfTelling a b IsSameTelling → IfTelling b c (IsHeardFrom settings before now (answer.Told status))
-    → IfTelling a c (EndsRoundWith settings q q' h h' (Some status))
-told_round settings q q' h h' before now status None None None same is = tt
-told_round settings q q' h h' before now status None None (Some u) same is = absurd is
-told_round settings q q' h h' before now status None (Some t) c same is = absurd same
-told_round settings q q' h h' before now status (Some s) None c same is = absurd same
-told_round settings q q' h h' before now status (Some s) (Some t) None same is = absurd is
-told_round settings q q' h h' before now status (Some s) (Some t) (Some u) same is = is
-
-nothing_round : (settings : Limits) (q q' h h' now : ℕ) (a b c : Option Telling) → q + 1 ≤ q'
-    → IfSome a (λ _. now ≡ h) → IfTelling a b IsSameTelling
-    → IfTelling b c (IsHeardFrom settings now h' answer.Nothing) → IfTelling a c (EndsRoundWith settings q q' h h' None)
-nothing_round settings q q' h h' now None None None more first same is = tt
-nothing_round settings q q' h h' now None None (Some u) more first same is = absurd is
-nothing_round settings q q' h h' now None (Some t) c more first same is = absurd same
-nothing_round settings q q' h h' now (Some s) None c more first same is = absurd same
-nothing_round settings q q' h h' now (Some s) (Some t) None more first same is = absurd is
-nothing_round settings q q' h h' now (Some s) (Some t) (Some u) more first same is =
-    (more, λ expecting. subst (λ (n : ℕ). Rose n h') first (is (subst IsExpecting (sym same) expecting)))
-
-pub round_nothing : (settings : Limits) (q q' h h' now : ℕ) (told : Answer) (a b c : Option Telling)
-    → told ≡ answer.Nothing → q + 1 ≤ q' → IfSome a (λ _. now ≡ h) → IfTelling a b IsSameTelling
-    → IfTelling b c (IsHeardFrom settings now h' told) → IfTelling a c (EndsRoundWith settings q q' h h' None)
-round_nothing settings q q' h h' now told a b c e more first same is =
-    nothing_round settings q q' h h' now a b c more first same
-    (subst (λ (x : Answer). IfTelling b c (IsHeardFrom settings now h' x)) e is)
-
-pub held_first : (other held now : ℕ) (a : Option Telling) → IfSome a (λ _. (other ≡ 0) × (now ≡ held))
-    → IfSome a (λ _. now ≡ held)
-held_first other held now None is = tt
-held_first other held now (Some s) is = is.1
-
--- after 64 others the link tells nothing
-pub no_more : (settings : Limits) (q q' h h' other now : ℕ) (a b : Option Telling) → 1 ≤ other
-    → IfSome a (λ _. (other ≡ 0) × (now ≡ h)) → IfTelling a b IsSameTelling
-    → IfTelling a b (EndsRoundWith settings q q' h h' None)
-no_more settings q q' h h' other now None None some first same = tt
-no_more settings q q' h h' other now None (Some t) some first same = absurd same
-no_more settings q q' h h' other now (Some s) b some first same = absurd (let e = first.0 in omega (arith, e, some))
 
 -- ---- a round with its request
 
@@ -383,27 +290,9 @@ asked_held h h1 h' old new bytes le more is later = elim (sent_expects bytes h h
   | inr rose ↦ omega (arith, rose, more)
 ]
 
-round_asked : (settings : Limits) (q q1 q' h h1 h' : ℕ) (bytes : List ℕ) (found : Option Status) (s t u : Telling)
+pub round_asked : (settings : Limits) (q q1 q' h h1 h' : ℕ) (bytes : List ℕ) (found : Option Status) (s t u : Telling)
     → q1 ≡ q → h ≤ h1 → h1 ≤ h' → IsSent bytes h h1 s t → EndsRoundWith settings q1 q' h1 h' found t u
     → EndsAskingWith settings q q' h h' found s u
 round_asked settings q q1 q' h h1 h' bytes (Some status) s t u same le more sent is = is
 round_asked settings q q1 q' h h1 h' bytes None s t u same le more sent is =
     (let k = is.0 in omega (arith, k, same), asked_held h h1 h' s t bytes le more sent is.1)
-
--- ---- all rounds
-
--- over a link that tells each round so far had a quiet receive and held a datagram
-abbrev pub HasPaid : ℕ → ℕ → ℕ → Telling → Type 0
-HasPaid rounds quiets held t = (rounds ≤ quiets) × (rounds ≤ held)
-
-pub record IsAsking (settings : Limits) (before now : Option Telling)
-    (rounds quiets gots held faults faults_now : ℕ) (receives : List (Option (List ℕ))) : Type 0 where
-  pub fresh : IfTelling before now (StaysFresh settings)
-  pub handed : IfTelling before now HandedOutNone
-  pub asked : IfTelling before now (HasAskedAtMost rounds)
-  pub paid : IfSome now (HasPaid rounds quiets held)
-  pub few_quiets : quiets ≤ rounds
-  pub few_gots : gots ≤ 64 * rounds
-  pub counted : 64 * rounds ≤ 64 * quiets + gots
-  pub untold : first_status receives ≡ None
-  pub fault : faults ≤ faults_now

@@ -10,6 +10,8 @@ mod Heard
 mod Datagrams
 mod Greetings
 mod Requests
+mod Listening
+mod GreetingRounds
 mod Truth
 mod EachLate
 mod Tables

@@ -57,7 +57,7 @@ receives_ask_none (Err fault.NoMemory) bytes before now old new is = heard_asked
 
 -- ---- over any link
 
-if_both : (R S : Telling → Telling → Type 0) (a b : Option Telling) → ((s t : Telling) → R s t → S s t)
+pub if_both : (R S : Telling → Telling → Type 0) (a b : Option Telling) → ((s t : Telling) → R s t → S s t)
     → IfTelling a b R → IfTelling a b S
 if_both R S None None f is = tt
 if_both R S None (Some t) f is = is

@@ -1,5 +1,5 @@
 -- Sends of a hub, one after another.
-use Rattle.std.proofs.Common.{◌≡◌, ℕ, zero, suc, ◌<◌, ◌≤◌, Option, Some, None}
+use Rattle.std.proofs.Common.{◌≡◌, ℕ, zero, suc, ◌≤◌, Option, Some, None}
 use Rattle.std.proofs.Common.{refl, sym, ap, ◌∙◌, subst, arith}
 use Rattle.world_model.specs.Hub.{Hub}
 use Rattle.world_model.specs.Sends.{Next, next_send, pending}

@@ -453,10 +453,9 @@ impl<L: Link> Lane<L> {
             return Ok(Taken::NotYet);
         };
         let answer = copy_outcome(self.alloc, outcome)?;
-        let kept = copy_outcome(self.alloc, outcome)?;
         self.book.reserve()?;
-        self.book.take(client, seq, kept, self.give_ups);
-        Ok(Taken::Ready(answer))
+        let taken = self.book.take(client, seq, answer, self.give_ups);
+        Ok(Taken::Ready(taken))
     }
 
     /// Whether a body may be planned.

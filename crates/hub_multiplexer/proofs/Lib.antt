@@ -12,3 +12,4 @@ pub mod Openings
 pub mod LaneCalls
 pub mod Submits
 pub mod AskedAll
+pub mod Shares

@@ -26,7 +26,7 @@ use Rattle.ipbus_program.specs.declared.no_answer.NoAnswer.TheVariants.{NoMemory
 use Rattle.ipbus_program.specs.Ended.{Ended}
 use Rattle.ipbus_program.specs.Owed.{AreCommand}
 use Rattle.ipbus_program.specs.Steps.{InputLeaves, IsFailure, no_answer_of}
-use Rattle.ipbus_program.proofs.Ending.{failed_with, outside, status_of, untouched}
+use Rattle.ipbus_program.proofs.Ending.{failed, outside, status_of, untouched}
 use Rattle.ipbus_program.proofs.Faults.{run_behind, run_rack}
 use Rattle.ipbus_program.proofs.Served.{none_as_served}
 
@@ -119,15 +119,16 @@ module _ {L I O : Type 0} (shown : L → LinkReport) (source : SourceGhosts I) (
   pub unanswered : (old new : List L) (coming coming_now kept kept_now : Option (List (I × O)))
       (words : List (String Global)) (command : Command) (laws : AreTerms (terms_of command))
       (are : AreCommand words command) (before now : Option (List ℕ)) (made makes : List LinkSpec)
-      (written : Option (List ℕ)) (why other : NoAnswer) → why ≡ other
+      (written : Option (List ℕ)) (result : Result Answer NoAnswer) (why : NoAnswer) → result ≡ Err why
       → Together shown source sink old new coming coming_now kept kept_now
-      (InputLeaves (terms_of command) before now made makes (Err why))
+      (InputLeaves (terms_of command) before now made makes result)
       → Together shown source sink old new coming coming_now kept kept_now
       (λ given. Ended words (outside words command laws are before now made makes written written given)
-      (status_of other))
-  unanswered old new coming coming_now kept kept_now words command laws are before now made makes written why other is =
+      (status_of why))
+  unanswered old new coming coming_now kept kept_now words command laws are before now made makes written result why
+      is =
       therefore shown source sink old new coming coming_now kept kept_now
-      (InputLeaves (terms_of command) before now made makes (Err why))
+      (InputLeaves (terms_of command) before now made makes result)
       (λ given. Ended words (outside words command laws are before now made makes written written given)
-      (status_of other))
-      (λ given. failed_with words command laws are before now made makes written written given why other is)
+      (status_of why))
+      (λ given. failed words command laws are before now made makes written written given result why is)

@@ -76,16 +76,10 @@ long_answered terms laws before now given status text is refused line =
       },
     )
 
-not_that : (result s : ℕ) → result ≡ s → 2 ≤ s → (s ≡ refused_status → ⊥) → (s ≡ write_fault_status → ⊥)
-    → (result ≤ 1) ⊎ ((result ≡ refused_status) ⊎ (result ≡ write_fault_status)) → ⊥
-not_that result s told large apart other (inl small) = omega (arith, small, told, large)
-not_that result s told large apart other (inr (inl refused)) = apart (sym told ∙ refused)
-not_that result s told large apart other (inr (inr fault)) = other (sym told ∙ fault)
-
 pub small_is : (n : ℕ) → n ≤ 1 → (n ≡ 0) ⊎ (n ≡ 1)
 small_is n small = grind arith
 
-is_status : (result : ℕ) → (result ≤ 1) ⊎ ((result ≡ refused_status) ⊎ (result ≡ write_fault_status)) → IsStatus result
+pub is_status : (result : ℕ) → (result ≤ 1) ⊎ ((result ≡ refused_status) ⊎ (result ≡ write_fault_status)) → IsStatus result
 is_status result (inl small) = ⊎_elim (λ zero. inl zero) (λ one. inr (inl one)) (small_is result small)
 is_status result (inr (inl refused)) = inr (inr (inr (inl refused)))
 is_status result (inr (inr fault)) = inr (inr (inr (inr (inr (inl fault)))))
@@ -141,13 +135,3 @@ module _ (words : List (String Global)) (command : Command) (laws : AreTerms (te
   part_written (inl done) (inl (is, wrote)) told =
       let small = done_small (terms_of command) laws done.bytes given status text done.done in absurd (omega (arith, is, told, small))
   part_written (inr (refused, why)) (inl (is, wrote)) told = absurd (omega (arith, is, told, refused))
-
-  pub never : (s : ℕ) → AnswersInput (terms_of command) before now given status text
-      → Delivers status handed old new met meets result
-      → result ≡ s → 2 ≤ s → (s ≡ refused_status → ⊥) → (s ≡ write_fault_status → ⊥) → ⊥
-  never s answers delivers told large apart other = not_that result s told large apart other
-      (result_is answers delivers)
-
-  pub some_status : AnswersInput (terms_of command) before now given status text → Delivers status handed old new met meets result
-      → IsStatus result
-  some_status answers delivers = is_status result (result_is answers delivers)

@@ -15,7 +15,7 @@ use Rattle.lane_record.specs.NextEntry.{ask_of, plan_of}
 use Rattle.lane_record.proofs.Lookups.{claims_push}
 use Rattle.lane_tables.specs.declared.rows.PlannedBody.{PlannedBody}
 use Rattle.lane_tables.specs.Books.{HasNext, IsAskedRow, Row, TellsAsks, after_ask, after_took, as_asked, as_taken}
-use Rattle.lane_tables.specs.Books.{ask_at, planned_at, with_changed_body, row_of, with_ask, with_plan, with_took}
+use Rattle.lane_tables.specs.Books.{ask_at, just_planned, with_changed_body, row_of, with_ask, with_plan, with_took}
 use Rattle.lane_tables.specs.Taken.{IsAskAt}
 use Rattle.lane_tables.proofs.ClientRows.{becomes, grown, row_changed, row_changed_other, row_planned, row_planned_other}
 use Rattle.lane_tables.proofs.PlannedBodies.{ask_here, ask_other, ask_push, ask_taken}
@@ -89,23 +89,23 @@ tells_alike items client bodies more asks same is = record {
   all = λ seq less. ap is_some (same seq) ∙ is.all seq less;
 }
 
-row_grown : (items : List Item) (client place : ℕ) (row : Option Row) → IsAskedRow items client row
-    → IsAskedRow items client (Some (grown client place row))
-row_grown items client place None is = tells_alike items client [] (planned_at place ∷ []) 0 (ask_push [] place) is
-row_grown items client place (Some r) is =
-    tells_alike items client r.bodies (r.bodies ++ planned_at place ∷ []) r.asked (ask_push r.bodies place) is
+row_grown : (items : List Item) (client : ℕ) (words : List ℕ) (row : Option Row) → IsAskedRow items client row
+    → IsAskedRow items client (Some (grown client words row))
+row_grown items client words None is = tells_alike items client [] (just_planned words ∷ []) 0 (ask_push [] words) is
+row_grown items client words (Some r) is =
+    tells_alike items client r.bodies (r.bodies ++ just_planned words ∷ []) r.asked (ask_push r.bodies words) is
 
-pub asked_plan : (items : List Item) (rows : List Row) (client seq place : ℕ) (body : List ℕ)
+pub asked_plan : (items : List Item) (rows : List Row) (client seq : ℕ) (body : List ℕ)
     → ((c : ℕ) → IsAskedRow items c (row_of c rows))
     → (other : ℕ) → IsAskedRow (items ++ plan_of client seq body ∷ []) other
-    (row_of other (with_plan client place rows))
-asked_plan items rows client seq place body are other =
-    row_still items (plan_of client seq body) other (row_of other (with_plan client place rows))
+    (row_of other (with_plan client body rows))
+asked_plan items rows client seq body are other =
+    row_still items (plan_of client seq body) other (row_of other (with_plan client body rows))
     (elim (eqb_tells client other) [
-      | inl same ↦ subst (λ (c : ℕ). IsAskedRow items c (row_of c (with_plan client place rows))) same.1
-          (subst (IsAskedRow items client) (sym (row_planned client place rows))
-          (row_grown items client place (row_of client rows) (are client)))
-      | inr apart ↦ subst (IsAskedRow items other) (sym (row_planned_other client place other rows apart.0)) (are other)
+      | inl same ↦ subst (λ (c : ℕ). IsAskedRow items c (row_of c (with_plan client body rows))) same.1
+          (subst (IsAskedRow items client) (sym (row_planned client body rows))
+          (row_grown items client body (row_of client rows) (are client)))
+      | inr apart ↦ subst (IsAskedRow items other) (sym (row_planned_other client body other rows apart.0)) (are other)
     ])
 
 row_taken : (items : List Item) (client seq : ℕ) (row : Option Row) → IsAskedRow items client row

@@ -75,27 +75,27 @@ set_changed client change (r ∷ rs) at is row there = elim (r.client == client)
           rw next (ap (λ (xs : List Row). r ∷ xs) (set_changed client change rs later.0 later.1 row here))
     ] is
 
-pub plan_changed : (client place : ℕ) (rows : List Row) (at : ℕ) → row_at client rows ≡ Some at
-    → with_plan client place rows ≡ with_changed_row client (after_plan place) rows
-plan_changed client place [] at is = absurd cc
-plan_changed client place (r ∷ rs) at is = elim (r.client == client)
+pub plan_changed : (client : ℕ) (words : List ℕ) (rows : List Row) (at : ℕ) → row_at client rows ≡ Some at
+    → with_plan client words rows ≡ with_changed_row client (after_plan words) rows
+plan_changed client words [] at is = absurd cc
+plan_changed client words (r ∷ rs) at is = elim (r.client == client)
     as (λ b. cond b (Some 0) (one_later (row_at client rs)) ≡ Some at
-    → cond b (after_plan place r ∷ rs) (r ∷ with_plan client place rs)
-    ≡ cond b (after_plan place r ∷ rs) (r ∷ with_changed_row client (after_plan place) rs)) [
+    → cond b (after_plan words r ∷ rs) (r ∷ with_plan client words rs)
+    ≡ cond b (after_plan words r ∷ rs) (r ∷ with_changed_row client (after_plan words) rs)) [
       | true ↦ λ e. refl
       | false ↦ λ e. let later = later_is (row_at client rs) at e in
-          ap (λ (xs : List Row). r ∷ xs) (plan_changed client place rs later.0 later.1)
+          ap (λ (xs : List Row). r ∷ xs) (plan_changed client words rs later.0 later.1)
     ] is
 
-pub first_plan : (client place : ℕ) (rows : List Row) → row_at client rows ≡ None
-    → with_plan client place rows ≡ rows ++ first_row client place ∷ []
-first_plan client place [] is = refl
-first_plan client place (r ∷ rs) is = elim (r.client == client)
+pub first_plan : (client : ℕ) (words : List ℕ) (rows : List Row) → row_at client rows ≡ None
+    → with_plan client words rows ≡ rows ++ first_row client words ∷ []
+first_plan client words [] is = refl
+first_plan client words (r ∷ rs) is = elim (r.client == client)
     as (λ b. cond b (Some 0) (one_later (row_at client rs)) ≡ None
-    → cond b (after_plan place r ∷ rs) (r ∷ with_plan client place rs)
-    ≡ r ∷ (rs ++ first_row client place ∷ [])) [
+    → cond b (after_plan words r ∷ rs) (r ∷ with_plan client words rs)
+    ≡ r ∷ (rs ++ first_row client words ∷ [])) [
       | true ↦ λ e. absurd cc
-      | false ↦ λ e. ap (λ (xs : List Row). r ∷ xs) (first_plan client place rs (none_later (row_at client rs) e))
+      | false ↦ λ e. ap (λ (xs : List Row). r ∷ xs) (first_plan client words rs (none_later (row_at client rs) e))
     ] is
 
 pub on_ok : {E : Type 0} {P Q : Type 0} (r : Result (Unit {0}) E) → (P → Q) → OnOk r P → OnOk r Q
@@ -139,30 +139,30 @@ row_changed_other client change other (r ∷ rs) keeps apart = elim (r.client ==
           (row_changed_other client change other rs keeps apart)
     ] refl
 
-abbrev pub grown : ℕ → ℕ → Option Row → Row
-grown client place None = first_row client place
-grown client place (Some r) = after_plan place r
+abbrev pub grown : ℕ → List ℕ → Option Row → Row
+grown client words None = first_row client words
+grown client words (Some r) = after_plan words r
 
-pub row_planned : (client place : ℕ) (rows : List Row)
-    → row_of client (with_plan client place rows) ≡ Some (grown client place (row_of client rows))
-row_planned client place [] = let same = eq-eqb client client refl in rw same refl
-row_planned client place (r ∷ rs) = elim (r.client == client)
+pub row_planned : (client : ℕ) (words : List ℕ) (rows : List Row)
+    → row_of client (with_plan client words rows) ≡ Some (grown client words (row_of client rows))
+row_planned client words [] = let same = eq-eqb client client refl in rw same refl
+row_planned client words (r ∷ rs) = elim (r.client == client)
     as (λ b. (r.client == client) ≡ b
-    → row_of client (cond b (after_plan place r ∷ rs) (r ∷ with_plan client place rs))
-    ≡ Some (grown client place (cond b (Some r) (row_of client rs)))) [
+    → row_of client (cond b (after_plan words r ∷ rs) (r ∷ with_plan client words rs))
+    ≡ Some (grown client words (cond b (Some r) (row_of client rs)))) [
       | true ↦ λ same. rw same refl
-      | false ↦ λ other. rw other (row_planned client place rs)
+      | false ↦ λ other. rw other (row_planned client words rs)
     ] refl
 
-pub row_planned_other : (client place other : ℕ) (rows : List Row) → (client == other) ≡ false
-    → row_of other (with_plan client place rows) ≡ row_of other rows
-row_planned_other client place other [] apart = rw apart refl
-row_planned_other client place other (r ∷ rs) apart = elim (r.client == client)
+pub row_planned_other : (client : ℕ) (words : List ℕ) (other : ℕ) (rows : List Row) → (client == other) ≡ false
+    → row_of other (with_plan client words rows) ≡ row_of other rows
+row_planned_other client words other [] apart = rw apart refl
+row_planned_other client words other (r ∷ rs) apart = elim (r.client == client)
     as (λ b. (r.client == client) ≡ b
-    → row_of other (cond b (after_plan place r ∷ rs) (r ∷ with_plan client place rs))
+    → row_of other (cond b (after_plan words r ∷ rs) (r ∷ with_plan client words rs))
     ≡ row_of other (r ∷ rs)) [
       | true ↦ λ same. (let e : (r.client == other) ≡ false = ap (λ (n : ℕ). n == other) (eqb-true _ _ same) ∙ apart in
           rw e refl)
       | false ↦ λ _. ap (λ (rest : Option Row). cond (r.client == other) (Some r) rest)
-          (row_planned_other client place other rs apart)
+          (row_planned_other client words other rs apart)
     ] refl

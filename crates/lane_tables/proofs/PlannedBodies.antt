@@ -1,11 +1,11 @@
 -- The bodies of a client, by number.
 use Rattle.std.proofs.Common.{◌≡◌, ℕ, zero, suc, ◌<◌, ◌≤◌, ◌+◌, true, false, List, [], ◌∷◌, ◌++◌, length, set}
-use Rattle.std.proofs.Common.{Some, ◌⊎◌, inl, inr, refl, ap, ◌∙◌, arith, get_or}
+use Rattle.std.proofs.Common.{Some, ◌⊎◌, inl, inr, refl, sym, ap, ◌∙◌, arith, get_or}
 use Rattle.std.proofs.Common.{length-append}
 use Rattle.std.specs.List.{slice_get}
 use Rattle.std.proofs.lemmas.Bool.{cases_lt}
 use Rattle.lane_tables.specs.declared.rows.PlannedBody.{PlannedBody}
-use Rattle.lane_tables.specs.Books.{IsFirstUntaken, as_asked, as_taken, ask_at, is_marked, planned_at, with_changed_body}
+use Rattle.lane_tables.specs.Books.{IsFirstUntaken, as_asked, as_taken, ask_at, is_marked, just_planned, with_changed_body}
 
 pub length-replaced : (k : ℕ) (change : PlannedBody → PlannedBody) (bodies : List PlannedBody)
     → length (with_changed_body k change bodies) ≡ length bodies
@@ -46,19 +46,19 @@ was_body (suc k) change (b ∷ bs) (suc n) body e =
 
 -- ---- marks
 
-pub marked_at : (bodies : List PlannedBody) (n : ℕ)
-    → is_marked bodies n ≡ (get_or bodies n (planned_at 0)).is_taken
-marked_at [] n = refl
-marked_at (b ∷ bs) zero = refl
-marked_at (b ∷ bs) (suc n) = marked_at bs n
+pub marked_at : (bodies : List PlannedBody) (n : ℕ) (body : PlannedBody) → n < length bodies
+    → body ≡ get_or bodies n body → is_marked bodies n ≡ body.is_taken
+marked_at [] n body within is = absurd (omega arith)
+marked_at (b ∷ bs) zero body within is = ap (λ (x : PlannedBody). x.is_taken) (sym is)
+marked_at (b ∷ bs) (suc n) body within is = marked_at bs n body (omega arith) is
 
 -- a body that was planned is not marked
-pub marked_push : (bodies : List PlannedBody) (place n : ℕ)
-    → is_marked (bodies ++ planned_at place ∷ []) n ≡ is_marked bodies n
-marked_push [] place zero = refl
-marked_push [] place (suc n) = refl
-marked_push (b ∷ bs) place zero = refl
-marked_push (b ∷ bs) place (suc n) = marked_push bs place n
+pub marked_push : (bodies : List PlannedBody) (words : List ℕ) (n : ℕ)
+    → is_marked (bodies ++ just_planned words ∷ []) n ≡ is_marked bodies n
+marked_push [] words zero = refl
+marked_push [] words (suc n) = refl
+marked_push (b ∷ bs) words zero = refl
+marked_push (b ∷ bs) words (suc n) = marked_push bs words n
 
 pub marked_other : (k : ℕ) (change : PlannedBody → PlannedBody) (bodies : List PlannedBody) (n : ℕ) → (n ≡ k → ⊥)
     → is_marked (with_changed_body k change bodies) n ≡ is_marked bodies n
@@ -94,12 +94,12 @@ still_marked (suc k) (b ∷ bs) (suc n) is = still_marked k bs n is
 
 -- ---- the numbers of Asks
 
-pub ask_push : (bodies : List PlannedBody) (place n : ℕ)
-    → ask_at (bodies ++ planned_at place ∷ []) n ≡ ask_at bodies n
-ask_push [] place zero = refl
-ask_push [] place (suc n) = refl
-ask_push (b ∷ bs) place zero = refl
-ask_push (b ∷ bs) place (suc n) = ask_push bs place n
+pub ask_push : (bodies : List PlannedBody) (words : List ℕ) (n : ℕ)
+    → ask_at (bodies ++ just_planned words ∷ []) n ≡ ask_at bodies n
+ask_push [] words zero = refl
+ask_push [] words (suc n) = refl
+ask_push (b ∷ bs) words zero = refl
+ask_push (b ∷ bs) words (suc n) = ask_push bs words n
 
 pub ask_taken : (k : ℕ) (bodies : List PlannedBody) (n : ℕ)
     → ask_at (with_changed_body k as_taken bodies) n ≡ ask_at bodies n
@@ -125,14 +125,14 @@ ask_other (suc k) ask (b ∷ bs) (suc n) apart = ask_other k ask bs n (λ e. apa
 
 -- ---- the first one that was not taken
 
-pub first_planned : (bodies : List PlannedBody) (asked taken place : ℕ) → IsFirstUntaken bodies asked taken
-    → IsFirstUntaken (bodies ++ planned_at place ∷ []) asked taken
-first_planned bodies asked taken place is = record {
-  few = (let h = is.few in let longer = length-append bodies (planned_at place ∷ []) in omega (arith, h, longer));
+pub first_planned : (bodies : List PlannedBody) (asked taken : ℕ) (words : List ℕ) → IsFirstUntaken bodies asked taken
+    → IsFirstUntaken (bodies ++ just_planned words ∷ []) asked taken
+first_planned bodies asked taken words is = record {
+  few = (let h = is.few in let longer = length-append bodies (just_planned words ∷ []) in omega (arith, h, longer));
   within = is.within;
-  below = λ n less. marked_push bodies place n ∙ is.below n less;
-  stops = λ less. marked_push bodies place taken ∙ is.stops less;
-  later = λ n most. marked_push bodies place n ∙ is.later n most;
+  below = λ n less. marked_push bodies words n ∙ is.below n less;
+  stops = λ less. marked_push bodies words taken ∙ is.stops less;
+  later = λ n most. marked_push bodies words n ∙ is.later n most;
 }
 
 pub first_asked : (bodies : List PlannedBody) (asked taken ask : ℕ) → asked < length bodies

@@ -16,7 +16,7 @@ use Rattle.lane_record.specs.NextEntry.{ask_of, plan_of, the_seal, took_of}
 use Rattle.lane_record.proofs.Lookups.{found_append, found_other}
 use Rattle.lane_tables.specs.declared.rows.PlannedBody.{PlannedBody}
 use Rattle.lane_tables.specs.Books.{HasAsked, IsTakenRow, Row, TellsTaken, after_ask, after_took, as_asked}
-use Rattle.lane_tables.specs.Books.{as_taken, is_marked, planned_at, with_changed_body, row_of, with_ask, with_plan, with_took}
+use Rattle.lane_tables.specs.Books.{as_taken, is_marked, just_planned, with_changed_body, row_of, with_ask, with_plan, with_took}
 use Rattle.lane_tables.specs.Taken.{HasTakenAll, IsOldest, IsTakenIn}
 use Rattle.lane_tables.proofs.ClientRows.{becomes, grown, row_changed, row_changed_other, row_planned, row_planned_other}
 use Rattle.lane_tables.proofs.PlannedBodies.{marked_kept, marked_other, marked_push, marked_taken}
@@ -42,31 +42,31 @@ pub taken_seal : (items : List Item) (rows : List Row) → ((c : ℕ) → IsTake
 taken_seal items rows are other = row_same items (items ++ the_seal ∷ []) other (row_of other rows)
     (λ n. found_other took_in other n items the_seal refl) (are other)
 
-tells_grown : (items : List Item) (client place : ℕ) (bodies : List PlannedBody) (asks : ℕ)
-    → TellsTaken items client bodies asks → TellsTaken items client (bodies ++ planned_at place ∷ []) asks
-tells_grown items client place bodies asks is = record {
-  marks = λ n. is.marks n ∙ sym (marked_push bodies place n);
+tells_grown : (items : List Item) (client : ℕ) (words : List ℕ) (bodies : List PlannedBody) (asks : ℕ)
+    → TellsTaken items client bodies asks → TellsTaken items client (bodies ++ just_planned words ∷ []) asks
+tells_grown items client words bodies asks is = record {
+  marks = λ n. is.marks n ∙ sym (marked_push bodies words n);
   later = is.later;
 }
 
-row_grown : (items : List Item) (client place : ℕ) (row : Option Row) → IsTakenRow items client row
-    → IsTakenRow items client (Some (grown client place row))
-row_grown items client place None is = tells_grown items client place [] 0 is
-row_grown items client place (Some r) is = tells_grown items client place r.bodies r.asked is
+row_grown : (items : List Item) (client : ℕ) (words : List ℕ) (row : Option Row) → IsTakenRow items client row
+    → IsTakenRow items client (Some (grown client words row))
+row_grown items client words None is = tells_grown items client words [] 0 is
+row_grown items client words (Some r) is = tells_grown items client words r.bodies r.asked is
 
-pub taken_plan : (items : List Item) (rows : List Row) (client seq place : ℕ) (body : List ℕ)
+pub taken_plan : (items : List Item) (rows : List Row) (client seq : ℕ) (body : List ℕ)
     → ((c : ℕ) → IsTakenRow items c (row_of c rows))
     → (other : ℕ) → IsTakenRow (items ++ plan_of client seq body ∷ []) other
-    (row_of other (with_plan client place rows))
-taken_plan items rows client seq place body are other =
+    (row_of other (with_plan client body rows))
+taken_plan items rows client seq body are other =
     let x = plan_of client seq body in
-    row_same items (items ++ x ∷ []) other (row_of other (with_plan client place rows))
+    row_same items (items ++ x ∷ []) other (row_of other (with_plan client body rows))
     (λ n. found_other took_in other n items x refl)
     (elim (eqb_tells client other) [
-      | inl same ↦ subst (λ (c : ℕ). IsTakenRow items c (row_of c (with_plan client place rows))) same.1
-          (subst (IsTakenRow items client) (sym (row_planned client place rows))
-          (row_grown items client place (row_of client rows) (are client)))
-      | inr apart ↦ subst (IsTakenRow items other) (sym (row_planned_other client place other rows apart.0)) (are other)
+      | inl same ↦ subst (λ (c : ℕ). IsTakenRow items c (row_of c (with_plan client body rows))) same.1
+          (subst (IsTakenRow items client) (sym (row_planned client body rows))
+          (row_grown items client body (row_of client rows) (are client)))
+      | inr apart ↦ subst (IsTakenRow items other) (sym (row_planned_other client body other rows apart.0)) (are other)
     ])
 
 tells_asked : (items : List Item) (client ask : ℕ) (bodies : List PlannedBody) (asks : ℕ)

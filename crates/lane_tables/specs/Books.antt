@@ -2,16 +2,13 @@
 -- calls of `Book` speak of the entries; the rows are how the code finds them. Profile.
 use Rattle.std.specs.Prelude.{◌≡◌, ℕ, zero, suc, ◌+◌, ◌-◌, ◌≤◌, ◌<◌, ◌==◌, min, Bool, false, true, if◌then◌else◌}
 use Rattle.std.specs.Prelude.{List, [], ◌∷◌, ◌++◌}
-use Rattle.std.specs.Prelude.{length, map}
+use Rattle.std.specs.Prelude.{length}
 use Rattle.std.specs.Prelude.{Option, Some, None, is_some}
 use Rattle.std.specs.List.{slice_get}
-use Rattle.turn_pass.specs.declared.chronicle.Entry.{Entry}
 use Rattle.lane_record.specs.declared.item.Item.{Item}
 use Rattle.lane_record.specs.Claims.{claims}
 use Rattle.lane_record.specs.Items.{asked_count, told_by_first, is_sealed, numbers, plan_in, planned_count, took_in}
 use Rattle.lane_record.specs.Lists.{CountsFrom}
-use Rattle.lane_record.specs.Coding.{entry_of}
-use Rattle.lane_record.specs.NextEntry.{plan_of}
 use Rattle.lane_tables.specs.declared.rows.PlannedBody.{PlannedBody}
 use Rattle.lane_tables.specs.Taken.{IsAskAt}
 use Rattle.lane_tables.specs.Planned.{most_bodies, most_words, planned_bodies, planned_words}
@@ -23,15 +20,15 @@ pub record BookState : Type 0 where
 
 -- ---- the bodies of a client
 
--- a body whose Plan stands there among the entries; the same once it was asked, and once what became of it was taken
-abbrev pub planned_at : ℕ → PlannedBody
-planned_at place = record { plan = place; ask = None; is_taken = false }
+-- a body of these words that was planned; the same once it was asked, and once what became of it was taken
+abbrev pub just_planned : List ℕ → PlannedBody
+just_planned words = record { words = words; ask = None; is_taken = false }
 
 abbrev pub as_asked : ℕ → PlannedBody → PlannedBody
-as_asked ask body = record { plan = body.plan; ask = Some ask; is_taken = body.is_taken }
+as_asked ask body = record { words = body.words; ask = Some ask; is_taken = body.is_taken }
 
 abbrev pub as_taken : PlannedBody → PlannedBody
-as_taken body = record { plan = body.plan; ask = body.ask; is_taken = true }
+as_taken body = record { words = body.words; ask = body.ask; is_taken = true }
 
 -- the body of this number becomes another
 abbrev pub with_changed_body : ℕ → (PlannedBody → PlannedBody) → List PlannedBody → List PlannedBody
@@ -69,11 +66,11 @@ pub record Row : Type 0 where
   pub asked : ℕ
 
 -- a row with one Plan, and with one more Plan, the Ask of this number, or a Took
-abbrev pub first_row : ℕ → ℕ → Row
-first_row client place = record { client = client; bodies = planned_at place ∷ []; asked = 0 }
+abbrev pub first_row : ℕ → List ℕ → Row
+first_row client words = record { client = client; bodies = just_planned words ∷ []; asked = 0 }
 
-abbrev pub after_plan : ℕ → Row → Row
-after_plan place r = record { client = r.client; bodies = r.bodies ++ planned_at place ∷ []; asked = r.asked }
+abbrev pub after_plan : List ℕ → Row → Row
+after_plan words r = record { client = r.client; bodies = r.bodies ++ just_planned words ∷ []; asked = r.asked }
 
 abbrev pub after_ask : ℕ → Row → Row
 after_ask ask r = record {
@@ -105,28 +102,24 @@ abbrev pub later_by : ℕ → Option ℕ → Option ℕ
 later_by n None = None
 later_by n (Some at) = Some (n + at)
 
--- where the next Plan that was not asked stands
-abbrev pub plan_of_body : Option PlannedBody → Option ℕ
-plan_of_body None = None
-plan_of_body (Some body) = Some body.plan
+-- the words of the next body that was not asked
+abbrev pub words_of : Option PlannedBody → Option (List ℕ)
+words_of None = None
+words_of (Some body) = Some body.words
 
-abbrev pub next_in : Row → Option ℕ
-next_in r = plan_of_body (slice_get r.bodies r.asked)
-
-abbrev pub next_of : Option Row → Option ℕ
-next_of None = None
-next_of (Some r) = next_in r
+abbrev pub next_in : Row → Option (List ℕ)
+next_in r = words_of (slice_get r.bodies r.asked)
 
 -- the row of a client becomes another
 abbrev pub with_changed_row : ℕ → (Row → Row) → List Row → List Row
 with_changed_row client change [] = []
 with_changed_row client change (r ∷ rs) = if r.client == client then change r ∷ rs else r ∷ with_changed_row client change rs
 
--- one more Plan of a client, at this place among the entries
-abbrev pub with_plan : ℕ → ℕ → List Row → List Row
-with_plan client place [] = first_row client place ∷ []
-with_plan client place (r ∷ rs) =
-    if r.client == client then after_plan place r ∷ rs else r ∷ with_plan client place rs
+-- one more Plan of a client, of a body of these words
+abbrev pub with_plan : ℕ → List ℕ → List Row → List Row
+with_plan client words [] = first_row client words ∷ []
+with_plan client words (r ∷ rs) =
+    if r.client == client then after_plan words r ∷ rs else r ∷ with_plan client words rs
 
 -- one more Ask of a client, under this number
 abbrev pub with_ask : ℕ → ℕ → List Row → List Row
@@ -150,19 +143,13 @@ pub record HasNext (client : ℕ) (rows : List Row) : Type 0 where
 
 -- ---- what the rows tell of the entries
 
--- the Plan of a client's body stands there
-pub record IsPlanAt (items : List Item) (client seq place : ℕ) : Type 0 where
-  pub body : List ℕ
-  pub there : slice_get items place ≡ Some (plan_of client seq body)
-  pub first : told_by_first plan_in client seq items ≡ Some body
-
 -- a row tells the bodies of its client, and where there is no row there are none
 pub record TellsBodies (items : List Item) (client : ℕ) (bodies : List PlannedBody) (asks : ℕ) : Type 0 where
   pub planned_are : length bodies ≡ planned_count client items
   pub asked_are : asks ≡ asked_count client items
   pub no_more : asks ≤ length bodies
-  pub plans_are : (seq : ℕ) (body : PlannedBody) → slice_get bodies seq ≡ Some body
-      → IsPlanAt items client seq body.plan
+  pub words_are : (seq : ℕ) (body : PlannedBody) → slice_get bodies seq ≡ Some body
+      → told_by_first plan_in client seq items ≡ Some body.words
 
 abbrev pub IsRow : List Item → ℕ → Option Row → Type 0
 IsRow items client None = TellsBodies items client [] 0
@@ -196,17 +183,15 @@ abbrev pub room_of : ℕ → ℕ → ℕ → ℕ → ℕ
 room_of items items_len entries entries_len = min (items - items_len) (entries - entries_len)
 
 -- the tables are those of the entries; there is always room for the Seal
-pub record IsBook (items : List Item) (entries : List Entry) (rows : List Row) (asks bodies words : ℕ) (closed : Bool)
-    (room : ℕ) : Type 0 where
-  pub entries_are : entries ≡ map entry_of items
-  pub plans_count : (client : ℕ) → CountsFrom 0 (numbers plan_in client items)
-  pub rows_are : (client : ℕ) → IsRow items client (row_of client rows)
-  pub asked_are : (client : ℕ) → IsAskedRow items client (row_of client rows)
-  pub taken_are : (client : ℕ) → IsTakenRow items client (row_of client rows)
-  pub asks_are : asks ≡ length (claims items)
-  pub bodies_are : bodies ≡ planned_bodies items
-  pub words_are : words ≡ planned_words items
-  pub closed_is : closed ≡ is_sealed items
+pub record IsBook (book : BookState) (rows : List Row) (asks bodies words : ℕ) (closed : Bool) : Type 0 where
+  pub plans_count : (client : ℕ) → CountsFrom 0 (numbers plan_in client book.items)
+  pub rows_are : (client : ℕ) → IsRow book.items client (row_of client rows)
+  pub asked_are : (client : ℕ) → IsAskedRow book.items client (row_of client rows)
+  pub taken_are : (client : ℕ) → IsTakenRow book.items client (row_of client rows)
+  pub asks_are : asks ≡ length (claims book.items)
+  pub bodies_are : bodies ≡ planned_bodies book.items
+  pub words_are : words ≡ planned_words book.items
+  pub closed_is : closed ≡ is_sealed book.items
   pub few_bodies : bodies ≤ most_bodies
   pub few_words : words ≤ most_words
-  pub seal_fits : is_sealed items ≡ false → 1 ≤ room
+  pub seal_fits : is_sealed book.items ≡ false → 1 ≤ book.room

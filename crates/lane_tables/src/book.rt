@@ -2,15 +2,15 @@
 
 ghost use Rattle.std.specs.Prelude.{◌≡◌, ◌≤◌, ◌<◌, ◌+◌, ◌∷◌, ◌++◌, [], OnOk, OnErr, IfOk, IfSome, IfNone, map, false};
 ghost use Rattle.std.specs.Prelude.{◌↔◌};
-ghost use Rattle.std.specs.Prelude.{length, IsTrue, Some, ◌^◌};
-ghost use Rattle.std.specs.Vec.{vec_len, vec_capacity};
+ghost use Rattle.std.specs.Prelude.{length, IsTrue, Some, ◌^◌, is_some, true};
 ghost use Rattle.transaction_codec.specs.Answer.{reply_room};
-ghost use Rattle.lane_record.specs.Items.{asked_count, told_by_first, is_sealed, plan_in, planned_count};
+ghost use Rattle.lane_record.specs.Items.{asked_count, told_by_first, is_sealed, plan_in, planned_count, took_in};
 ghost use Rattle.lane_record.specs.NextEntry.{ask_of, plan_of, the_seal, took_of};
 ghost use Rattle.lane_record.specs.Coding.{entry_of};
 ghost use Rattle.lane_tables.specs.Planned.{IsFull};
 
-use crate::rows::{ClientRow, add_ask, add_plan, add_took, next_place, row_at};
+use crate::item_log::{ItemLog, Note};
+use crate::rows::{ClientRow, add_ask, add_plan, add_took, row_of};
 use ipb_base::{NoMemory, Words};
 use lane_record::{Item, Outcome, What};
 use std::alloc::Global;
@@ -23,12 +23,12 @@ pub const MAX_BODIES: u64 = 200_000;
 /// The most words of all bodies and longest replies that are planned on a lane (profile).
 pub const MAX_WORDS: u64 = 33_554_432;
 
-/// The record of a lane. Contracts see its entries, and how many more there is room for.
+/// The record of a lane. Contracts see its entries with what they hold, and how many more there is room for. Where the
+/// program runs it has the words of the bodies that were planned, each once, and no copy of what became of them.
 #[derive(Drop)]
 pub struct Book {
     alloc: Global,
-    entries: Vec<Entry>,
-    items: Vec<Item>,
+    log: ItemLog,
     rows: Vec<ClientRow>,
     asks: usize,
     bodies: u64,
@@ -37,19 +37,13 @@ pub struct Book {
 }
 
 impl Model for Book {
-    ghost use Rattle.std.specs.Prelude.{◌≡◌, ◌-◌};
-    ghost use Rattle.lane_record.specs.Items.{is_sealed};
-    ghost use Rattle.lane_tables.specs.Books.{BookState, IsBook, room_of};
+    ghost use Rattle.lane_tables.specs.Books.{BookState, IsBook};
 
     ghost Value = { BookState };
 
-    ghost view = { λ b. record {
-      items = b.items.items;
-      room = room_of b.items.cap b.items.len b.entries.cap b.entries.len;
-    } };
+    ghost view = { λ b. b.log };
 
-    ghost invariant = { λ b. IsBook b.items.items b.entries.items b.rows.items b.asks b.bodies b.words b.sealed
-        (room_of b.items.cap b.items.len b.entries.cap b.entries.len) };
+    ghost invariant = { λ b. IsBook b.log b.rows.items b.asks b.bodies b.words b.sealed };
 }
 
 impl Book {
@@ -60,14 +54,11 @@ impl Book {
     pub fn new(alloc: Global) -> Result<Book, NoMemory>
         ensures { IfOk result (λ book. book.items ≡ []) }
     {
-        let mut items = Vec::new(alloc);
-        items.reserve(1)?;
-        let mut entries = Vec::new(alloc);
-        entries.reserve(1)?;
+        let mut log = ItemLog::new(alloc);
+        log.reserve(1)?;
         Ok(Book {
             alloc,
-            entries,
-            items,
+            log,
             rows: Vec::new(alloc),
             asks: 0,
             bodies: 0,
@@ -80,7 +71,7 @@ impl Book {
     pub fn entries(&self) -> &[Entry]
         ensures { result.now ≡ map entry_of self.now.items }
     {
-        self.entries.as_slice()
+        self.log.entries()
     }
 
     /// Whether planning was closed.
@@ -102,8 +93,8 @@ impl Book {
     pub fn planned(&self, client: u32) -> u64
         ensures { result ≡ planned_count client self.now.items }
     {
-        match row_at(&self.rows, client) {
-            Some(at) => self.rows[at].planned() as u64,
+        match row_of(&self.rows, client) {
+            Some(row) => row.planned() as u64,
             None => 0,
         }
     }
@@ -112,8 +103,8 @@ impl Book {
     pub fn asked(&self, client: u32) -> u64
         ensures { result ≡ asked_count client self.now.items }
     {
-        match row_at(&self.rows, client) {
-            Some(at) => self.rows[at].asked() as u64,
+        match row_of(&self.rows, client) {
+            Some(row) => row.asked() as u64,
             None => 0,
         }
     }
@@ -124,12 +115,7 @@ impl Book {
             ≡ Some body.now) }
         ensures none { IfNone result (asked_count client self.now.items ≡ planned_count client self.now.items) }
     {
-        let place = next_place(&self.rows, client)?;
-        let item = &self.items[place];
-        match &item.what {
-            What::Plan { body } => Some(body),
-            _ => unreachable!(),
-        }
+        row_of(&self.rows, client)?.next()
     }
 
     /// The client's oldest body that was asked and not taken.
@@ -137,10 +123,7 @@ impl Book {
         ensures some { IfSome result (λ seq. IsOldest self.now.items client seq) }
         ensures none { IfNone result (HasTakenAll self.now.items client) }
     {
-        match row_at(&self.rows, client) {
-            Some(at) => self.rows[at].oldest(),
-            None => None,
-        }
+        row_of(&self.rows, client)?.oldest()
     }
 
     /// The number of the Ask of a client's body, where it was asked.
@@ -148,10 +131,7 @@ impl Book {
         ensures some { IfSome result (IsAskAt self.now.items client seq) }
         ensures none { IfNone result (asked_count client self.now.items ≤ seq) }
     {
-        match row_at(&self.rows, client) {
-            Some(at) => self.rows[at].ask_of(seq),
-            None => None,
-        }
+        row_of(&self.rows, client)?.ask_of(seq)
     }
 
     /// Takes room for one entry and the Seal.
@@ -159,9 +139,7 @@ impl Book {
         ensures room { OnOk result (2 ≤ self.new.room) }
         ensures items { self.new.items ≡ self.old.items }
     {
-        self.items.reserve(2)?;
-        self.entries.reserve(2)?;
-        Ok(())
+        self.log.reserve(2)
     }
 
     /// Adds a Plan of the client's next body, which is not too much. Answers its number.
@@ -176,18 +154,16 @@ impl Book {
     {
         let seq = self.planned(client);
         let words = body.len() as u64 + u64::from(reply);
-        add_plan(self.alloc, &mut self.rows, client, self.items.len())?;
+        let plan = Item {
+            client,
+            seq,
+            what: What::Plan { body },
+        };
+        let note = Note::of(&plan);
+        add_plan(self.alloc, &mut self.rows, client, body_of(plan.what))?;
         self.bodies += 1;
         self.words += words;
-        put(
-            &mut self.entries,
-            &mut self.items,
-            Item {
-                client,
-                seq,
-                what: What::Plan { body },
-            },
-        );
+        self.log.add(note);
         Ok(seq)
     }
 
@@ -197,15 +173,11 @@ impl Book {
         ensures { self.new.items ≡ self.old.items ++ the_seal ∷ [] }
     {
         self.sealed = true;
-        put(
-            &mut self.entries,
-            &mut self.items,
-            Item {
-                client: 0,
-                seq: 0,
-                what: What::Seal,
-            },
-        );
+        self.log.add(Note::of(&Item {
+            client: 0,
+            seq: 0,
+            what: What::Seal,
+        }));
     }
 
     /// Adds an Ask of the client's next body, which has this number.
@@ -216,68 +188,60 @@ impl Book {
         ensures { self.new.items ≡ self.old.items ++ ask_of client seq give_ups ∷ [] }
     {
         add_ask(&mut self.rows, client, self.asks);
+        self.log.add(Note::of(&Item {
+            client,
+            seq,
+            what: What::Ask { give_ups },
+        }));
         self.asks += 1;
-        put(
-            &mut self.entries,
-            &mut self.items,
-            Item {
-                client,
-                seq,
-                what: What::Ask { give_ups },
-            },
-        );
     }
 
-    /// Adds a Took of a body that was asked.
-    pub fn take(&mut self, client: u32, seq: u64, outcome: Outcome, give_ups: u64)
+    /// Adds a Took of a body that was asked. Gives back what became of it, of which no copy is kept.
+    pub fn take(&mut self, client: u32, seq: u64, outcome: Outcome, give_ups: u64) -> Outcome
         requires room { 2 ≤ self.old.room }
         requires asked { seq < asked_count client self.old.items }
-        ensures { self.new.items ≡ self.old.items ++ took_of client seq outcome give_ups ∷ [] }
+        ensures items { self.new.items ≡ self.old.items ++ took_of client seq outcome give_ups ∷ [] }
+        ensures outcome { result ≡ outcome }
     {
         add_took(&mut self.rows, client, seq);
-        put(
-            &mut self.entries,
-            &mut self.items,
-            Item {
-                client,
-                seq,
-                what: What::Took { outcome, give_ups },
-            },
-        );
+        let took = Item {
+            client,
+            seq,
+            what: What::Took { outcome, give_ups },
+        };
+        self.log.add(Note::of(&took));
+        outcome_of(took.what)
     }
 }
 
-/// The entry of an item.
-fn entry_of(item: &Item) -> Entry
-    ensures { result ≡ entry_of item.now }
+/// The words of the body of a Plan.
+fn body_of(what: What) -> Words
+    requires { is_some (plan_in what) ≡ true }
+    ensures { plan_in what ≡ Some result }
 {
-    let kind = match &item.what {
-        What::Plan { body: _ } => 1,
-        What::Seal => 2,
-        What::Ask { give_ups: _ } => 3,
+    match what {
+        What::Plan { body } => body,
+        What::Seal => unreachable!(),
+        What::Ask { give_ups: _ } => unreachable!(),
         What::Took {
-            outcome: _,
+            outcome: _outcome,
             give_ups: _,
-        } => 4,
-    };
-    Entry {
-        maker: item.client,
-        kind,
-        seq: item.seq,
+        } => unreachable!(),
     }
 }
 
-/// Puts an entry at the end, for which there is room.
-fn put(entries: &mut Vec<Entry>, items: &mut Vec<Item>, item: Item)
-    requires entries { vec_len entries.old < vec_capacity entries.old }
-    requires items { vec_len items.old < vec_capacity items.old }
-    ensures entries { entries.new.items ≡ entries.old.items ++ entry_of item ∷ [] }
-    ensures items { items.new.items ≡ items.old.items ++ item ∷ [] }
-    ensures entries_len { vec_len entries.new ≡ vec_len entries.old + 1 }
-    ensures items_len { vec_len items.new ≡ vec_len items.old + 1 }
-    ensures entries_capacity { vec_capacity entries.old ≤ vec_capacity entries.new }
-    ensures items_capacity { vec_capacity items.old ≤ vec_capacity items.new }
+/// What became of the body of a Took.
+fn outcome_of(what: What) -> Outcome
+    requires { is_some (took_in what) ≡ true }
+    ensures { took_in what ≡ Some result }
 {
-    entries.push_reserved(entry_of(&item));
-    items.push_reserved(item);
+    match what {
+        What::Plan { body: _body } => unreachable!(),
+        What::Seal => unreachable!(),
+        What::Ask { give_ups: _ } => unreachable!(),
+        What::Took {
+            outcome,
+            give_ups: _,
+        } => outcome,
+    }
 }

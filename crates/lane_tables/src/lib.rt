@@ -3,6 +3,7 @@
 #![tactic(auto)]
 
 mod book;
+mod item_log;
 pub mod laws;
 mod outcome_table;
 mod rows;

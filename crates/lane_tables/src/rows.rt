@@ -1,32 +1,31 @@
 //! The bodies of each client, client by client, each found by its number. A session has at most 64 clients, so rows are
 //! looked through.
 
-ghost use Rattle.std.specs.Prelude.{◌≡◌, ◌≤◌, ◌<◌, ℕ, length, true, false, OnOk, OnErr};
-ghost use Rattle.lane_tables.specs.Books.{HasAsked, HasNext, as_asked, as_taken, is_marked, next_of, with_changed_body};
+ghost use Rattle.std.specs.Prelude.{◌≡◌, ◌≤◌, ◌<◌, ℕ, length, true, false, Some, None, MatchOption, OnOk, OnErr};
+ghost use Rattle.lane_tables.specs.Books.{HasAsked, HasNext, as_asked, as_taken, is_marked, with_changed_body};
 ghost use Rattle.lane_tables.specs.Books.{row_at, row_of, with_ask, with_plan, with_took};
 
-use ipb_base::NoMemory;
+use ipb_base::{NoMemory, Words};
 use std::alloc::Global;
 use std::marker::Model;
 
-/// A body of a client: where its Plan stands among the entries, the number of its Ask once it was asked, and whether
-/// what became of it was taken.
-#[derive(Clone, Copy, PartialEq, Eq)]
+/// A body of a client: its words, the number of its Ask once it was asked, and whether what became of it was taken.
+#[derive(Drop)]
 pub(crate) struct PlannedBody {
-    pub(crate) plan: usize,
+    pub(crate) words: Words,
     pub(crate) ask: Option<usize>,
     pub(crate) is_taken: bool,
 }
 
 impl PlannedBody {
-    ghost use Rattle.lane_tables.specs.Books.{planned_at};
+    ghost use Rattle.lane_tables.specs.Books.{just_planned};
 
-    /// A body whose Plan stands at this place.
-    fn new(plan: usize) -> PlannedBody
-        ensures { result ≡ planned_at plan }
+    /// A body that was not asked.
+    fn new(words: Words) -> PlannedBody
+        ensures { result ≡ just_planned words }
     {
         PlannedBody {
-            plan,
+            words,
             ask: None,
             is_taken: false,
         }
@@ -57,16 +56,16 @@ impl Model for ClientRow {
 }
 
 impl ClientRow {
-    ghost use Rattle.std.specs.Prelude.{◌++◌, ◌∷◌, [], ◌+◌, IfOk, IfSome, IfNone, Some};
-    ghost use Rattle.lane_tables.specs.Books.{after_ask, after_took, ask_at, first_row, next_in, planned_at};
+    ghost use Rattle.std.specs.Prelude.{◌++◌, ◌∷◌, [], ◌+◌, IfOk, IfSome, IfNone};
+    ghost use Rattle.lane_tables.specs.Books.{after_ask, after_took, ask_at, first_row, just_planned, next_in};
     ghost use Rattle.lane_tables.specs.declared.rows.PlannedBody.{PlannedBody};
 
     /// The row of a client with one Plan.
-    fn new(alloc: Global, client: u32, place: usize) -> Result<ClientRow, NoMemory>
-        ensures { IfOk result (λ row. row ≡ first_row client place) }
+    fn new(alloc: Global, client: u32, body: Words) -> Result<ClientRow, NoMemory>
+        ensures { IfOk result (λ row. row ≡ first_row client body) }
     {
         let mut bodies = Vec::new(alloc);
-        bodies.push(PlannedBody::new(place))?;
+        bodies.push(PlannedBody::new(body))?;
         Ok(ClientRow {
             client,
             bodies,
@@ -76,11 +75,11 @@ impl ClientRow {
     }
 
     /// Adds a Plan.
-    fn add_plan(&mut self, place: usize) -> Result<(), NoMemory>
-        ensures ok { OnOk result (self.new ≡ record self.old { bodies = self.old.bodies ++ planned_at place ∷ [] }) }
+    fn add_plan(&mut self, body: Words) -> Result<(), NoMemory>
+        ensures ok { OnOk result (self.new ≡ record self.old { bodies = self.old.bodies ++ just_planned body ∷ [] }) }
         ensures err { OnErr result (self.new ≡ self.old) }
     {
-        self.bodies.push(PlannedBody::new(place))?;
+        self.bodies.push(PlannedBody::new(body))?;
         Ok(())
     }
 
@@ -147,14 +146,12 @@ impl ClientRow {
         }
     }
 
-    /// Where the next Plan that was not asked stands.
-    pub(crate) fn next(&self) -> Option<usize>
-        ensures { result ≡ next_in self.now }
+    /// The next body that was not asked.
+    pub(crate) fn next(&self) -> Option<&Words>
+        ensures { MatchOption result (next_in self.now ≡ None) (λ body. next_in self.now ≡ Some body.now) }
     {
-        match self.bodies.get(self.asked) {
-            Some(body) => Some(body.plan),
-            None => None,
-        }
+        let body = self.bodies.get(self.asked)?;
+        Some(&body.words)
     }
 }
 
@@ -207,33 +204,32 @@ pub(crate) fn row_at(rows: &[ClientRow], client: u32) -> Option<usize>
     None
 }
 
-/// Where the next Plan of a client that was not asked stands.
-pub(crate) fn next_place(rows: &Vec<ClientRow>, client: u32) -> Option<usize>
-    ensures { result ≡ next_of (row_of client rows.now.items) }
+/// The row of a client.
+pub(crate) fn row_of(rows: &Vec<ClientRow>, client: u32) -> Option<&ClientRow>
+    ensures { MatchOption result (row_of client rows.now.items ≡ None)
+        (λ row. row_of client rows.now.items ≡ Some row.now) }
 {
-    match row_at(rows, client) {
-        Some(at) => rows[at].next(),
-        None => None,
-    }
+    let at = row_at(rows, client)?;
+    Some(&rows[at])
 }
 
-/// Adds a Plan of a client, at this place among the entries.
+/// Adds a Plan of a client's next body.
 pub(crate) fn add_plan(
     alloc: Global,
     rows: &mut Vec<ClientRow>,
     client: u32,
-    place: usize,
+    body: Words,
 ) -> Result<(), NoMemory>
-    ensures ok { OnOk result (rows.new.items ≡ with_plan client place rows.old.items) }
+    ensures ok { OnOk result (rows.new.items ≡ with_plan client body rows.old.items) }
     ensures err { OnErr result (rows.new.items ≡ rows.old.items) }
 {
     match row_at(rows, client) {
         Some(at) => {
             let row = &mut rows[at];
-            row.add_plan(place)
+            row.add_plan(body)
         }
         None => {
-            let row = ClientRow::new(alloc, client, place)?;
+            let row = ClientRow::new(alloc, client, body)?;
             rows.push(row)?;
             Ok(())
         }

@@ -1,6 +1,6 @@
 -- What a tap has caught agrees with what its link tells, through every call.
 use Rattle.std.proofs.Common.{◌≡◌, ◌∙◌, ℕ, ◌≤◌, length, Bool, true, false, List, [], ◌∷◌, ◌++◌, map, Option, Some, None}
-use Rattle.std.proofs.Common.{Result, Ok, Err, refl, ap, sym, subst, if◌then◌else◌}
+use Rattle.std.proofs.Common.{Result, Ok, Err, refl, ap, sym, subst, arith, if◌then◌else◌}
 use Rattle.std.specs.Prelude.{IfSome}
 use Rattle.std.specs.List.{slice_get}
 use Rattle.std.proofs.lemmas.List.{append-nil, map-append}
@@ -269,30 +269,28 @@ are_items (Ok Got) bytes short fits = (record { bytes = fits refl; length = shor
 are_items (Ok Quiet) bytes short fits = tt
 are_items (Err fault) bytes short fits = tt
 
-pub caught_received : KeepsAir → KeepsBoard → (result : Result Received LinkFault) (bytes : List ℕ) (before now : ℕ)
-    (old new : Option Telling) (items more : List Caught) → HasCaught old items
-    → IfTelling old new (Receives result bytes before now) → IsCarried result bytes
-    → (result ≡ Ok Got → AreBytes bytes) → more ≡ items ++ caught_after result bytes → HasCaught new more
-caught_received air board result bytes before now old new items more is received short fits e =
-    subst (HasCaught new) (sym e) (record {
-      short = AllByRecursion-append IsItem items (caught_after result bytes) is.short (are_items result bytes short fits);
+-- behind the datagrams that there was room for, which are those before
+pub caught_received : KeepsAir → KeepsBoard → (result : Result Received LinkFault) (bytes read : List ℕ)
+    (before now : ℕ) (old new : Option Telling) (items room more : List Caught) → HasCaught old items
+    → IfTelling old new (Receives result bytes before now) → IsCarried result bytes → read ≡ bytes
+    → (result ≡ Ok Got → AreBytes read) → room ≡ items → more ≡ room ++ caught_after result read → HasCaught new more
+caught_received air board result bytes read before now old new items room more is received short same fits items_same e =
+    let added : more ≡ items ++ caught_after result bytes =
+    e ∙ (ap (λ (front : List Caught). front ++ caught_after result read) items_same
+    ∙ ap (λ (left : List ℕ). items ++ caught_after result left) same) in
+    let are : result ≡ Ok Got → AreBytes bytes = (λ got. subst AreBytes same (fits got)) in
+    subst (HasCaught new) (sym added) (record {
+      short = AllByRecursion-append IsItem items (caught_after result bytes) is.short (are_items result bytes short are);
       traffic = receive_keeps air board result bytes before now old new items is.traffic received;
     })
 
-pub got_more : (result : Result Received LinkFault) (bytes : List ℕ) (items more : List Caught) → result ≡ Ok Got
-    → more ≡ items ++ received_item bytes ∷ [] → more ≡ items ++ caught_after result bytes
-got_more result bytes items more is e = rw is e
+short_enough : (result : Result Received LinkFault) (bytes : List ℕ) → IsCarried result bytes → length bytes ≤ 9000
+short_enough (Ok Got) bytes carried = carried
+short_enough (Ok Quiet) bytes carried = rw carried (omega arith)
+short_enough (Err fault) bytes carried = rw carried (omega arith)
 
-pub quiet_more : (result : Result Received LinkFault) (bytes : List ℕ) (items more : List Caught) → result ≡ Ok Quiet
-    → more ≡ items → more ≡ items ++ caught_after result bytes
-quiet_more result bytes items more is e = rw is (e ∙ sym (append-nil items))
-
-pub failed_more : (result : Result Received LinkFault) (fault : LinkFault) (bytes : List ℕ) (items more : List Caught)
-    → result ≡ Err fault → more ≡ items → more ≡ items ++ caught_after result bytes
-failed_more result fault bytes items more is e = rw is (e ∙ sym (append-nil items))
-
-pub not_got : (result : Result Received LinkFault) (fault : LinkFault) → result ≡ Err fault → result ≡ Ok Got → ⊥
-not_got result fault failed got = cc
-
-pub quiet_is_no_got : (result : Result Received LinkFault) → result ≡ Ok Quiet → result ≡ Ok Got → ⊥
-quiet_is_no_got result quiet got = cc
+-- what a receive left fits into the room for the longest datagram
+pub carried_fits : (result : Result Received LinkFault) (bytes read : List ℕ) (room : ℕ) → IsCarried result bytes
+    → read ≡ bytes → 9000 ≤ room → length read ≤ room
+carried_fits result bytes read room carried same long =
+    rw same (omega (arith, short_enough result bytes carried, long))

@@ -1,26 +1,64 @@
 //! Datagrams put aside.
 
-ghost use Rattle.std.specs.Prelude.{◌≡◌, ◌≤◌, ◌+◌, [], length, IfOk, OnOk};
+ghost use Rattle.std.specs.Prelude.{◌≡◌, ◌≤◌, ◌<◌, ◌+◌, ◌++◌, [], length, Ok, IfOk, OnOk};
 ghost use Rattle.std.specs.Vec.{vec_capacity, vec_len};
 ghost use Rattle.packet_codec.specs.Packet.{AreBytes};
-ghost use Rattle.link_tap.specs.Traffic.{received_item};
+ghost use Rattle.link_tap.specs.Traffic.{caught_after, received_item, sent_item};
 
 use capture_reader::{Bytes, Caught};
 use ipb_base::NoMemory;
 use std::alloc::Global;
 use std::mem;
+use world_core::{LinkFault, MAX_DATAGRAM, Received};
 
-/// Takes room for so many items more.
-pub(crate) fn take_room<T>(items: &mut Vec<T>, more: usize) -> Result<(), NoMemory>
-    ensures same { items.new.items ≡ items.old.items }
-    ensures room { OnOk result (vec_len items.old + more ≤ vec_capacity items.new) }
+/// Takes the room to keep one more datagram that is received, whatever its length.
+pub(crate) fn take_room(spare: &mut Vec<u8>, caught: &mut Vec<Caught>) -> Result<(), NoMemory>
+    ensures spare { spare.new.items ≡ spare.old.items }
+    ensures caught { caught.new.items ≡ caught.old.items }
+    ensures long { OnOk result (vec_len spare.old + MAX_DATAGRAM ≤ vec_capacity spare.new) }
+    ensures room { OnOk result (vec_len caught.old < vec_capacity caught.new) }
 {
-    items.reserve(more)?;
+    spare.reserve(MAX_DATAGRAM)?;
+    caught.reserve(1)?;
     Ok(())
 }
 
+/// A datagram that is about to be sent, and the room to keep it.
+pub(crate) fn sent(
+    alloc: Global,
+    caught: &mut Vec<Caught>,
+    bytes: &[u8],
+) -> Result<Caught, NoMemory>
+    ensures item { IfOk result (λ item. item ≡ sent_item bytes.now) }
+    ensures same { caught.new.items ≡ caught.old.items }
+    ensures room { OnOk result (vec_len caught.old < vec_capacity caught.new) }
+{
+    caught.reserve(1)?;
+    copied(alloc, true, bytes)
+}
+
+/// Keeps what a receive came to, which left these bytes, in room that was taken before.
+pub(crate) fn keep(
+    alloc: Global,
+    spare: &mut Vec<u8>,
+    caught: &mut Vec<Caught>,
+    came: &Result<Received, LinkFault>,
+    bytes: &[u8],
+)
+    requires empty { spare.old.items ≡ [] }
+    requires long { length bytes.now ≤ vec_capacity spare.old }
+    requires room { vec_len caught.old < vec_capacity caught.old }
+    ensures caught { caught.new.items ≡ caught.old.items ++ caught_after came.now bytes.now }
+    ensures bytes { came.now ≡ Ok Received.Got → AreBytes bytes.now }
+    ensures empty { spare.new.items ≡ [] }
+{
+    if let Ok(Received::Got) = came {
+        caught.push_reserved(received(alloc, spare, bytes));
+    }
+}
+
 /// A datagram, in memory of its own.
-pub(crate) fn copied(alloc: Global, sent: bool, bytes: &[u8]) -> Result<Caught, NoMemory>
+fn copied(alloc: Global, sent: bool, bytes: &[u8]) -> Result<Caught, NoMemory>
     ensures { IfOk result (λ item. item ≡ record { sent = sent; bytes = bytes.now }) }
 {
     let mut copy = Vec::with_capacity(alloc, bytes.len())?;
@@ -33,7 +71,7 @@ pub(crate) fn copied(alloc: Global, sent: bool, bytes: &[u8]) -> Result<Caught, 
 
 /// A datagram that was received. Where there is no memory for a copy of its length it gets the spare room, which is
 /// empty and large enough.
-pub(crate) fn received(alloc: Global, spare: &mut Vec<u8>, bytes: &[u8]) -> Caught
+fn received(alloc: Global, spare: &mut Vec<u8>, bytes: &[u8]) -> Caught
     requires empty { spare.old.items ≡ [] }
     requires room { length bytes.now ≤ vec_capacity spare.old }
     ensures item { result ≡ received_item bytes.now }

@@ -6,7 +6,7 @@ ghost use Rattle.world_core.specs.Receives.{receives_after};
 ghost use Rattle.world_core.specs.Telling.{gots_after, IfTelling, IsCarried, IsSent, quiets_after, Receives};
 ghost use Rattle.link_tap.specs.Traffic.{HasCaught, IsUnused, caught_after, sent_item};
 
-use crate::keeping::{copied, received, take_room};
+use crate::keeping::{keep, sent, take_room};
 use capture_reader::{Capture, Caught, Id, Items};
 use std::alloc::Global;
 use std::marker::Model;
@@ -101,10 +101,9 @@ impl<L: Link> TapLink<L> {
         ensures receives { L.receives self.new.link ≡ L.receives self.old.link }
         ensures held { L.held self.old.link ≤ L.held self.new.link }
     {
-        let sent = copied(self.alloc, true, bytes)?;
-        take_room(&mut self.caught, 1)?;
+        let item = sent(self.alloc, &mut self.caught, bytes)?;
         self.link.send(bytes)?;
-        self.caught.push_reserved(sent);
+        self.caught.push_reserved(item);
         Ok(())
     }
 
@@ -128,16 +127,10 @@ impl<L: Link> TapLink<L> {
         a_receive_goes_step_by_step();
         a_link_forgets_nothing();
         into.clear();
-        take_room(&mut self.spare, MAX_DATAGRAM)?;
-        take_room(&mut self.caught, 1)?;
-        match self.link.receive(into)? {
-            Received::Got => {
-                let item = received(self.alloc, &mut self.spare, into.as_slice());
-                self.caught.push_reserved(item);
-                Ok(Received::Got)
-            }
-            Received::Quiet => Ok(Received::Quiet),
-        }
+        take_room(&mut self.spare, &mut self.caught)?;
+        let came = self.link.receive(into);
+        keep(self.alloc, &mut self.spare, &mut self.caught, &came, into);
+        came
     }
 }
 

@@ -11,7 +11,7 @@ use Rattle.board_node.specs.OpeningWords.{OpensOnWords}
 use Rattle.script_plans.specs.declared.board_run.BoardRun.{BoardRun}
 use Rattle.script_plans.specs.Runs.{HaveOwnNames}
 use Rattle.lane_history.specs.Links.{CanBeMade, IsUntouched, LinkReport}
-use Rattle.command_terms.proofs.Leaving.{Told}
+use Rattle.command_terms.proofs.Leaving.{Told, same_Err}
 use Rattle.ipb_base.specs.Numbers.{most_operations}
 use Rattle.load_run.specs.Generated.{boards, steps}
 use Rattle.board_greeting.proofs.Boards.{none_made}
@@ -26,22 +26,17 @@ pub one_name : (runs : List BoardRun) (run : BoardRun) → runs ≡ run ∷ [] �
 one_name runs run one i j d less within =
     let single = ap length one in absurd (omega (arith, single, less, within))
 
-failure : Result Load RunFault → RunFault
-failure (Ok load) = NoMemory
-failure (Err fault) = fault
-
 module _ (Tells : ℕ → List LinkReport → Bool → List ℕ → Type 0) (count : ℕ) (made makes : List LinkSpec) where
   pub load_failed : (result : Result Load RunFault) (fault : RunFault) (links : List LinkReport)
       → AreLeft 0 (boards count) (steps count) links → AreMadeFor (boards count) (length links) made makes
       → IsErr result → IsErrAnd result (λ why. why ≡ fault) → (fault ≡ Rack → AllByRecursion IsUntouched links)
       → LoadLeaves Tells count made makes result links
-  unfolding failure
   load_failed (Ok load) fault links left links_made fails is untouched = absurd cc
   load_failed (Err why) fault links left links_made fails is untouched = record {
     left = left;
     links_made = links_made;
     tells = tt;
-    untouched = λ rack. untouched (sym is ∙ ap failure rack);
+    untouched = λ rack. untouched (sym is ∙ same_Err why Rack rack);
   }
 
   pub load_told : (load : Load) (links : List LinkReport) → AreLeft 0 (boards count) (steps count) links

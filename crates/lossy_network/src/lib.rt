@@ -6,6 +6,7 @@
 
 pub mod examples;
 mod fates;
+mod handing;
 pub mod laws;
 mod link;
 mod rack;

@@ -7,9 +7,10 @@ ghost use Rattle.world_core.specs.declared.link.TheConstants.{MAX_DATAGRAM};
 ghost use Rattle.world_core.specs.declared.link.LinkFault.TheVariants.{Failed, NoMemory as no_memory};
 ghost use Rattle.lossy_network.specs.Network.{Network, all_taken, with_call_counted, with_fault, fails, front, new_network, put_at};
 ghost use Rattle.lossy_network.specs.Network.{receipt_at, network_receipt, network_with_send, takes};
-ghost use Rattle.lossy_network.specs.Inside.{IsTaken, stands};
+ghost use Rattle.lossy_network.specs.Inside.{IsTaken, stands, traffic_of};
 
 use crate::fates::{next_fate, noise_generator};
+use crate::handing::hand_over;
 use crate::under_way::UnderWay;
 use board_node::{Board, Fates};
 use ipb_base::NoMemory;
@@ -61,11 +62,10 @@ impl SimLink {
         ensures { IfOk result (λ link. link ≡ new_network board fates fail.items) }
     {
         let noise = noise_generator(&fates);
-        let mut receives = ReceiveLog::new(alloc);
-        receives.reserve()?;
+        let (under_way, receives) = first_room(alloc)?;
         Ok(SimLink {
             air: Air::new(alloc, board),
-            under_way: UnderWay::new(alloc)?,
+            under_way,
             handed: Vec::new(alloc),
             fates,
             noise,
@@ -247,16 +247,22 @@ impl SimLink {
             unreachable!();
         };
         self.handed.reserve(1)?;
-        into.extend_from_slice(bytes)?;
-        if self.receives.add_got(into).is_err() {
-            into.clear();
-            return Err(NoMemory);
-        }
+        hand_over(&mut self.receives, bytes, into)?;
         self.under_way.queue.pop_front();
         self.handed.push_reserved(place);
         self.gots = self.gots.saturating_add(1);
         Ok(Received::Got)
     }
+}
+
+/// Nothing under way and no receives, with the room for all that can be delayed and for what the first receive comes to.
+fn first_room(alloc: Global) -> Result<(UnderWay, ReceiveLog), NoMemory>
+    ensures traffic { IfOk result (λ room. traffic_of room.0 ≡ record { queue = []; delayed = []; held = 0 }) }
+    ensures receives { IfOk result (λ room. room.1 ≡ []) }
+{
+    let mut receives = ReceiveLog::new(alloc);
+    receives.reserve()?;
+    Ok((UnderWay::new(alloc)?, receives))
 }
 
 /// A count is one of 64 bits.

@@ -7,6 +7,7 @@ ghost use Rattle.world_core.specs.declared.link.LinkFault.TheVariants.{Failed, N
 ghost use Rattle.lossy_network.specs.Scripts.{AreDatagrams, bytes_of, script_call_counted, script_with_fault, fails, new_script};
 ghost use Rattle.lossy_network.specs.Scripts.{receipt_of, script_receipt};
 
+use crate::handing::hand_over;
 use crate::link::fits;
 use ipb_base::NoMemory;
 use std::marker::Model;
@@ -152,11 +153,7 @@ impl ScriptLink {
             self.quiets = self.quiets.saturating_add(1);
             return Ok(Received::Quiet);
         };
-        into.extend_from_slice(bytes)?;
-        if self.receives.add_got(into).is_err() {
-            into.clear();
-            return Err(NoMemory);
-        }
+        hand_over(&mut self.receives, bytes, into)?;
         self.next += 1;
         self.gots = self.gots.saturating_add(1);
         Ok(Received::Got)

@@ -1,11 +1,9 @@
 //! A rack of simulated links.
 
-ghost use Rattle.std.specs.Prelude.{◌≡◌, ◌↔◌, ◌≤◌, ◌<◌, ◌^◌, [], length, true, Some, Err, IfOk, IfSome, IfNone};
+ghost use Rattle.std.specs.Prelude.{◌≡◌, ◌↔◌, ◌≤◌, ◌<◌, ◌^◌, [], length, true, false, Some, Err, IfOk, OnErr, IfSome, IfNone, is_none};
 ghost use Rattle.std.specs.List.{slice_get};
 ghost use Rattle.ipb_base.specs.Faults.{one_more};
-ghost use Rattle.world_model.specs.Board.{bodies_executed};
 ghost use Rattle.lossy_network.specs.declared.rack.RackFault.TheVariants.{Failed};
-ghost use Rattle.lossy_network.specs.Network.{new_network};
 ghost use Rattle.lossy_network.specs.Racks.{after_keep, after_make, fails_to_make, fresh_board, is_named, IsMakeable};
 ghost use Rattle.lossy_network.specs.Racks.{IsSimulable, link_for, made_after, new_rack};
 
@@ -94,21 +92,12 @@ impl SimRack {
     {
         let is_named = self.is_next_named();
         self.makes = self.makes.saturating_add(1);
-        let LinkSpec::Sim {
-            mtu,
-            buffers,
-            first,
-            ranges,
-            fates,
-        } = &spec.link
-        else {
-            return Err(self.count_fault());
-        };
         if is_named {
             return Err(self.count_fault());
         }
-        let board = fresh_board(self.alloc, *mtu, *buffers, *first, ranges)?;
-        let link = new_link(self.alloc, board, fates, &self.fail_calls)?;
+        let Some(link) = link_for(self.alloc, &spec.link, &self.fail_calls)? else {
+            return Err(self.count_fault());
+        };
         self.put_down(&spec.link)?;
         Ok(link)
     }
@@ -167,6 +156,28 @@ impl Rack for SimRack {
     }
 }
 
+/// The link for a simulated board, on which the calls with these numbers fail. There is none for a board on a network.
+fn link_for(alloc: Global, spec: &LinkSpec, fail: &[u64]) -> Result<Option<SimLink>, NoMemory>
+    requires { IsMakeable spec.now }
+    ensures link { IfOk result (λ link. link ≡ link_for fail.now spec.now) }
+    ensures simulated { OnErr result (is_none (link_for fail.now spec.now) ≡ false) }
+{
+    let LinkSpec::Sim {
+        mtu,
+        buffers,
+        first,
+        ranges,
+        fates,
+    } = spec
+    else {
+        return Ok(None);
+    };
+    let fates = copy_fates(alloc, fates)?;
+    let fail = Vec::from_slice(alloc, fail)?;
+    let board = fresh_board(alloc, *mtu, *buffers, *first, ranges)?;
+    Ok(Some(SimLink::new(alloc, board, fates, fail)?))
+}
+
 /// A board that opens with these ranges and has executed nothing.
 fn fresh_board(
     alloc: Global,
@@ -183,15 +194,6 @@ fn fresh_board(
         Err(BusRefusal::NoMemory) => Err(NoMemory),
         Err(_) => unreachable!(),
     }
-}
-
-/// A link to a board with these fates, and with these numbers of calls that fail.
-fn new_link(alloc: Global, board: Board, fates: &Fates, fail: &[u64]) -> Result<SimLink, NoMemory>
-    requires { bodies_executed board ≡ [] }
-    ensures { IfOk result (λ link. link ≡ new_network board fates.now fail.now) }
-{
-    let fates = copy_fates(alloc, fates)?;
-    SimLink::new(alloc, board, fates, Vec::from_slice(alloc, fail)?)
 }
 
 /// The same fates in memory of their own.

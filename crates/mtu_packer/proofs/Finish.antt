@@ -16,7 +16,7 @@ use Rattle.mtu_packer.specs.declared.packed.Span.{Span}
 use Rattle.mtu_packer.specs.Cutting.{cut_pieces, piece_count}
 use Rattle.mtu_packer.specs.Packing.{requests_from, body_words, longest_reply, Fits, AreFull, AreReadable}
 use Rattle.mtu_packer.specs.Packed.{piece_at, pieces_at, places_in, places_from, Contents, IsPacked, FitsPackets}
-use Rattle.mtu_packer.specs.Progress.{Progress, FitsAlone, start, close, all_bodies, run}
+use Rattle.mtu_packer.specs.Progress.{Progress, FitsAlone, Over, start, close, all_bodies, run}
 use Rattle.mtu_packer.specs.Span.{span_places}
 use Rattle.ipb_base.proofs.AllLemmas.{AllByRecursion-append, all_of_each}
 use Rattle.mtu_packer.proofs.Steps.{run-payload}
@@ -24,7 +24,7 @@ use Rattle.mtu_packer.proofs.Pieces.{cut_fits, length-cut}
 use Rattle.mtu_packer.proofs.Readable.{all_readable, all_words}
 use Rattle.mtu_packer.proofs.Parts.{Holds, close_represents, close_whole, longest_reply_is_longest, run_holds}
 use Rattle.mtu_packer.proofs.Parts.{start_holds}
-use Rattle.mtu_packer.proofs.Whole.{Over, spans_places}
+use Rattle.mtu_packer.proofs.Whole.{spans_places}
 use Rattle.mtu_packer.specs.Packed.{deal}
 use Rattle.mtu_packer.proofs.Dealing.{map-deal, deal_joined, joined_deal}
 use Rattle.mtu_packer.proofs.PlaceLemmas.{pieces_stand, length-places_from}

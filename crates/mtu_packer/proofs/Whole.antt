@@ -1,6 +1,6 @@
 -- All operations packed, one after the other.
 use Rattle.std.proofs.Common.{◌≡◌, ℕ, ◌+◌, suc, ◌<◌, ◌≤◌, ◌++◌, List, [], ◌∷◌, length, map, take, drop, get_or, refl}
-use Rattle.std.proofs.Common.{sym, subst, ap, ◌∙◌, arith, length-append, append_assoc, append-nil, drop-cons}
+use Rattle.std.proofs.Common.{sym, subst, ap, ◌∙◌, arith, rules, length-append, append_assoc, append-nil, drop-cons}
 use Rattle.std.specs.List.{flat_map}
 use Rattle.std.proofs.lemmas.List.{drop-drop, drop_all}
 use Rattle.std.proofs.lemmas.List.Sums.{fold-append}
@@ -8,7 +8,7 @@ use Rattle.transaction_codec.specs.declared.request.Op.{Op}
 use Rattle.mtu_packer.specs.declared.packed.Piece.{Piece}
 use Rattle.mtu_packer.specs.declared.packed.Span.{Span}
 use Rattle.mtu_packer.specs.Cutting.{cut_pieces, piece_count}
-use Rattle.mtu_packer.specs.Progress.{Progress, IsWithin, start, step, run}
+use Rattle.mtu_packer.specs.Progress.{Progress, IsWithin, Over, start, step, run}
 use Rattle.mtu_packer.specs.Span.{span_places, AreWithin, spans_from}
 use Rattle.mtu_packer.proofs.Steps.{run-payload, run-places}
 use Rattle.mtu_packer.proofs.Pieces.{length-cut}
@@ -47,6 +47,18 @@ pub record Underway (ops : List Op) (payload done : ℕ) (progress : Progress) (
     pub spanned : spans ++ spans_from next (map (piece_count payload) (drop done ops))
         ≡ spans_from 0 (map (piece_count payload) ops)
     pub count : next + length (flat_map (cut_pieces payload) (drop done ops)) ≡ length (flat_map (cut_pieces payload) ops)
+
+pub underway_start : (ops : List Op) (payload : ℕ) (progress : Progress) → progress ≡ start payload → 16 ≤ payload
+    → payload ≤ 2243 → Underway ops payload 0 progress [] 0
+underway_start ops payload progress fresh low high =
+    subst (λ p. Underway ops payload 0 p [] 0) (sym fresh) (record {
+      taken = refl;
+      payload_same = refl;
+      within = search (rules, low, high);
+      places = refl;
+      spanned = refl;
+      count = omega arith;
+    })
 
 split_at : (ops : List Op) (done : ℕ) (op : Op) → done < length ops → op ≡ get_or ops done op → drop done ops
     ≡ op ∷ drop (done + 1) ops
@@ -103,12 +115,6 @@ underway_next ops payload done progress spans next op after is more here packed 
         length-cut payload op,
       );
     }
-
--- all are packed
-pub record Over (ops : List Op) (payload : ℕ) (progress : Progress) (spans : List Span) : Type 0 where
-  pub taken : progress ≡ run (start payload) (flat_map (cut_pieces payload) ops)
-  pub spanned : spans ≡ spans_from 0 (map (piece_count payload) ops)
-  pub places : length progress.places ≡ length (flat_map (cut_pieces payload) ops)
 
 pub underway_over : (ops : List Op) (payload done : ℕ) (progress : Progress) (spans : List Span) (next : ℕ)
     → Underway ops payload done progress spans next → length ops ≤ done → Over ops payload progress spans

@@ -1,7 +1,7 @@
 -- The packer at work, piece by piece. No public clause speaks of it.
 use Rattle.std.specs.Prelude.{◌≡◌, ℕ, ◌+◌, ◌*◌, ◌^◌, ◌≤◌, Bool, ◌&&◌, ◌==◌, nat_le, if◌then◌else◌, min, List, [], ◌∷◌}
-use Rattle.std.specs.Prelude.{◌++◌, length, fold}
-use Rattle.std.specs.List.{AllByRecursion}
+use Rattle.std.specs.Prelude.{◌++◌, length, fold, map}
+use Rattle.std.specs.List.{AllByRecursion, flat_map}
 use Rattle.ipb_base.specs.Word.{AreWords}
 use Rattle.transaction_codec.specs.declared.request.Op.{Op}
 use Rattle.transaction_codec.specs.Request.{request_words, op_count, op_words}
@@ -9,7 +9,10 @@ use Rattle.transaction_codec.specs.Answer.{values_done}
 use Rattle.transaction_codec.specs.declared.header_word.TheConstants.{MAX_COUNT}
 use Rattle.mtu_packer.specs.declared.cutting.TheConstants.{HEADERS}
 use Rattle.mtu_packer.specs.declared.packed.Piece.{Piece}
+use Rattle.mtu_packer.specs.declared.packed.Span.{Span}
 use Rattle.mtu_packer.specs.declared.packing.TheConstants.{MIN_PAYLOAD, MAX_PAYLOAD}
+use Rattle.mtu_packer.specs.Cutting.{cut_pieces, piece_count}
+use Rattle.mtu_packer.specs.Span.{spans_from}
 
 -- the bodies that are closed, the open one with the number of its requests and the words of its longest reply, and the
 -- places of all pieces so far
@@ -74,3 +77,9 @@ pub record IsWithin (progress : Progress) : Type 0 where
   pub pieces : length progress.bodies + min 1 progress.requests ≤ length progress.places
   pub few : length progress.places ≤ 2 ^ 31
   pub words : AllByRecursion AreWords progress.bodies
+
+-- All operations are packed, from the first piece on, and these are their places.
+pub record Over (ops : List Op) (payload : ℕ) (progress : Progress) (spans : List Span) : Type 0 where
+  pub taken : progress ≡ run (start payload) (flat_map (cut_pieces payload) ops)
+  pub spanned : spans ≡ spans_from 0 (map (piece_count payload) ops)
+  pub places : length progress.places ≡ length (flat_map (cut_pieces payload) ops)

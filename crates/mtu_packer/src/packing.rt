@@ -1,7 +1,8 @@
-ghost use Rattle.std.specs.Prelude.{◌≡◌, ◌≤◌, ◌^◌, All, IfOk, length};
+ghost use Rattle.std.specs.Prelude.{◌≡◌, ◌≤◌, ◌^◌, All, IfOk, OnOk, length};
 ghost use Rattle.std.specs.List.{AllByRecursion, flat_map};
 ghost use Rattle.mtu_packer.specs.Cutting.{CanBeCut, cut_pieces};
 ghost use Rattle.mtu_packer.specs.Packed.{FitsPackets, IsPacked};
+ghost use Rattle.mtu_packer.specs.Progress.{IsWithin, Over, start};
 
 use crate::packed::{Packed, Span};
 use crate::packer::Packer;
@@ -54,6 +55,20 @@ pub fn pack_into(
     ensures room { IfOk result (λ packed. AllByRecursion (FitsPackets payload) packed.bodies) }
 {
     let mut packer = Packer::new(alloc, payload, bodies);
+    let spans = push_ops(alloc, &mut packer, ops)?;
+    packer.finish(spans)
+}
+
+/// A packer that has taken no piece takes those of operations, and the places of each are told.
+fn push_ops(alloc: Global, packer: &mut Packer, ops: &[Op]) -> Result<SmallVec<Span, 4>, NoMemory>
+    requires fresh { packer.old ≡ start packer.old.payload }
+    requires payload_low { MIN_PAYLOAD ≤ packer.old.payload }
+    requires payload_high { packer.old.payload ≤ MAX_PAYLOAD }
+    requires sound { All CanBeCut ops.now }
+    requires few { length (flat_map (cut_pieces packer.old.payload) ops.now) ≤ 2 ^ 31 }
+    ensures within { OnOk result (IsWithin packer.new) }
+    ensures packed { IfOk result (λ spans. Over ops.now packer.old.payload packer.new spans.items) }
+{
     let mut spans = SmallVec::new(alloc);
     spans.reserve(ops.len())?;
     let mut start = 0;
@@ -62,5 +77,5 @@ pub fn pack_into(
         spans.push(Span { start, end })?;
         start = end;
     }
-    packer.finish(spans)
+    Ok(spans)
 }

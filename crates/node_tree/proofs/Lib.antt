@@ -29,3 +29,4 @@ pub mod Places
 pub mod Uniqueness
 pub mod SameLemmas
 pub mod FaultlessLemmas
+pub mod NameBytes

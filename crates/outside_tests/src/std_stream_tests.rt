@@ -104,23 +104,10 @@ const WRITES: [(Way<'static>, &[u8], Result<usize, Failed>); 5] = [
     (Way::TakesOne, b"ab", Ok(1)),
 ];
 
-/// Ways, and what a write of bytes to the last of them answers.
-const WHOLE_WRITES: [(Way<'static>, Result<(), Failed>); 3] = [
-    (Way::Fails, Err(Failed)),
-    (Way::TakesNone, Err(Failed)),
-    (Way::TakesOne, Ok(())),
-];
-
 /// Whether a sink of this way answers so, to one write and to the next one.
 fn answers(way: Way<'_>, bytes: &[u8], wanted: Result<usize, Failed>) -> bool {
     let mut sink = StdoutSink::new(way);
-    sink.write(bytes) == wanted && sink.write(bytes) == wanted
-}
-
-/// Whether a sink of this way answers so to a whole write.
-fn answers_whole(way: Way<'_>, wanted: Result<(), Failed>) -> bool {
-    let mut sink = StdoutSink::new(way);
-    let is_right = write_whole(&mut sink, b"hello") == wanted;
+    let is_right = sink.write(bytes) == wanted && sink.write(bytes) == wanted;
     sink.end();
     is_right
 }
@@ -129,13 +116,6 @@ fn answers_whole(way: Way<'_>, wanted: Result<(), Failed>) -> bool {
 fn writes_of_each_way(rt: HostRuntime) {
     for &(way, bytes, wanted) in &WRITES {
         assert!(rt; answers(way, bytes, wanted));
-    }
-}
-
-#[test]
-fn whole_writes_of_each_way(rt: HostRuntime) {
-    for &(way, wanted) in &WHOLE_WRITES {
-        assert!(rt; answers_whole(way, wanted));
     }
 }
 

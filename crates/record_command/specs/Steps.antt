@@ -1,18 +1,13 @@
 -- How the steps of the call work together: what its private functions promise one another. No public clause speaks of
 -- these.
-use Rattle.std.specs.Prelude.{◌≡◌, ℕ, ◌==◌, ◌&&◌, List, [], ◌∷◌, length, Result, Ok, Err, IfOk, Some}
+use Rattle.std.specs.Prelude.{◌≡◌, ℕ, ◌==◌, ◌&&◌, List, [], ◌∷◌, Result, Ok, Err, Some}
 use Rattle.std.specs.Global.{Vec}
-use Rattle.std.specs.List.{AllByRecursion}
 use Rattle.world_core.specs.Telling.{Telling}
 use Rattle.board_node.specs.declared.spec.BoardSpec.{BoardSpec}
-use Rattle.board_node.specs.declared.spec.LinkSpec.{LinkSpec}
-use Rattle.lane_history.specs.Links.{LinkReport, IsUntouched}
+use Rattle.lane_history.specs.Links.{LinkReport}
 use Rattle.lane_history.specs.Runs.{AreRunsOver}
 use Rattle.script_steps.specs.declared.operation.Step.{Step}
 use Rattle.script_lang.specs.declared.session.Session.{Session}
-use Rattle.session_run.specs.declared.session.RunFault.{RunFault}
-use Rattle.session_run.specs.declared.session.RunFault.TheVariants.{Rack}
-use Rattle.session_run.specs.Links.{AreLeft, AreMadeFor}
 use Rattle.script_plans.specs.declared.board_run.BoardRun.{BoardRun}
 use Rattle.transcript.specs.Lines.{all_good, transcript_of}
 use Rattle.command_terms.specs.Numbers.{told_status}
@@ -51,11 +46,3 @@ pub record Records (session : Session) (steps : List (List Step)) (links : List 
   pub telling : Telling
   pub tells : link.telling ≡ Some telling
   pub shows : ShowsTraffic board steps capture writes.proved telling
-
--- What a recording left: `made` and `makes` are the specs that the rack made links of before and after.
-pub record RecordLeaves (session : Session) (steps : List (List Step)) (made makes : List LinkSpec)
-    (result : Result Answer RunFault) (links : List LinkReport) : Type 0 where
-  pub left : AreLeft 0 session.boards steps links
-  pub links_made : AreMadeFor session.boards (length links) made makes
-  pub records : IfOk result (λ answer. Records session steps links answer.status answer.text.items)
-  pub untouched : result ≡ Err Rack → AllByRecursion IsUntouched links

@@ -12,6 +12,7 @@ ghost use Rattle.board_greeting.specs.Links.{CanBeReached, Keeps};
 ghost use Rattle.session_run.specs.Scripts.{CanBeRun};
 ghost use Rattle.session_run.specs.Links.{AreLeft};
 ghost use Rattle.session_run.specs.Faults.{IsRunFailure};
+ghost use Rattle.run_laws.specs.Leaving.{RunLeaves};
 ghost use Rattle.run_laws.specs.Steps.{MayRun};
 ghost use Rattle.ipb_outside.specs.Faults.{RisesExactlyIf};
 ghost use Rattle.command_terms.specs.Leaving.{Leaves};
@@ -19,7 +20,7 @@ ghost use Rattle.command_terms.specs.Numbers.{refused_status};
 ghost use Rattle.command_terms.specs.Outside.{NoneCame, no_pairs};
 ghost use Rattle.capture_reader.specs.CaptureText.{AreItems};
 ghost use Rattle.record_command.specs.Headline as spec;
-ghost use Rattle.record_command.specs.Steps.{RecordLeaves, WritesOf};
+ghost use Rattle.record_command.specs.Steps.{Records, WritesOf};
 ghost use Rattle.record_command.specs.Taps.{tap_ghosts};
 ghost use Rattle.record_command.specs.Terms.{record_terms};
 
@@ -96,7 +97,7 @@ fn recorded<R: Rack, T: Threads + Wait + Sync, G: Gate>(
     requires may { MayRun session.now steps.now }
     requires one { IsOneSimulated session.now.boards }
     ensures leaves { Keeps R.Rack R.L.Link rack.old rack.new
-        (RecordLeaves session.now steps.now (R.made rack.old) (R.made rack.new) result) }
+        (RunLeaves (Records session.now steps.now) session.now steps.now (R.made rack.old) (R.made rack.new) result) }
     ensures rack_faults { RisesExactlyIf (result ≡ Err RunFault.Rack) (R.faults rack.old) (R.faults rack.new) }
 {
     a_capture_of_a_lane_proves_what_was_executed();

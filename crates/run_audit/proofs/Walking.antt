@@ -1,14 +1,14 @@
 -- The walk over the operations of a client.
 use Rattle.std.proofs.Common.{◌≡◌, ℕ, zero, suc, ◌+◌, ◌<◌, ◌≤◌, ◌==◌, cond, length, get_or, take, drop, set, map}
 use Rattle.std.proofs.Common.{List, [], ◌∷◌, ◌++◌, Option, Some, None, refl, sym, ap, ◌∙◌, inl, inr, arith, add-one}
-use Rattle.std.proofs.Common.{zero-add, true, false, append_assoc, append-nil, drop-cons, length-append}
+use Rattle.std.proofs.Common.{zero-add, true, false, append_assoc, append-nil, length-append}
 use Rattle.std.specs.List.{slice_get}
 use Rattle.std.specs.Prelude.{slice_index}
 use Rattle.std.specs.Option.{is_some, option_map}
 use Rattle.std.proofs.lemmas.Bool.{cases_eq}
 use Rattle.std.proofs.lemmas.Bool.Decides.{nat_tests}
 use Rattle.std.proofs.lemmas.Grind.{get_or-set_at}
-use Rattle.std.proofs.lemmas.List.{drop_all, drop_more, take_all, take_more, take-append-drop, get_or-set_other}
+use Rattle.std.proofs.lemmas.List.{drop_all, drop_more, take_all, take-append-drop, get_or-set_other}
 use Rattle.std.proofs.lemmas.List.Elements.{filter_map-append}
 use Rattle.std.proofs.lemmas.Option.{slice_get-map, slice_get_read}
 use Rattle.script_plans.proofs.Covering.{count_by-append}
@@ -19,6 +19,7 @@ use Rattle.script_steps.specs.declared.operation.RegOp.{RegOp}
 use Rattle.script_steps.specs.declared.operation.Step.{Step}
 use Rattle.script_steps.specs.Rulings.{Asked, asked_in, asked_operations, allowed_operations}
 use Rattle.transcript.proofs.Allowed.{allowed-append}
+use Rattle.transcript.proofs.LineLemmas.{asked_left, asked_taken}
 use Rattle.transcript.specs.Lines.{Showing}
 use Rattle.transcript_reader.specs.Entries.{clients_from, operations_from}
 use Rattle.run_audit.specs.AskedLines.{AskedLine, asked_behind, shown_piece, with_places}
@@ -113,30 +114,19 @@ pub record IsWalked (client first : ℕ) (steps : List Step) (shows : List Showi
   pub counts' : (b : ℕ) → slice_index counts b ≡ count_on b (allowed_operations (asked_operations (take i steps)))
 
 module _ (steps : List Step) (i : ℕ) (step : Step) (within : i < length steps) (is : step ≡ get_or steps i step) where
-  taken : asked_operations (take (i + 1) steps) ≡ asked_operations (take i steps) ++ asked_operations (step ∷ [])
-  taken =
-      ap asked_operations (take_more steps i step within)
-      ∙ (filter_map-append asked_in (take i steps) (get_or steps i step ∷ [])
-      ∙ ap (λ s. asked_operations (take i steps) ++ asked_operations (s ∷ [])) (sym is))
-
-  left : asked_operations (drop i steps) ≡ asked_operations (step ∷ []) ++ asked_operations (drop (i + 1) steps)
-  left =
-      ap asked_operations (drop-cons steps i step within ∙ ap (λ s. s ∷ drop (suc i) steps) (sym is))
-      ∙ (filter_map-append asked_in (step ∷ []) (drop (suc i) steps) ∙ rw add-one)
-
   pub taken_none : asked_in step ≡ None → asked_operations (take (i + 1) steps) ≡ asked_operations (take i steps)
-  taken_none none = taken ∙ (rw none (append-nil _))
+  taken_none none = asked_taken steps i step within is ∙ (rw none (append-nil _))
 
   left_none : asked_in step ≡ None → asked_operations (drop i steps) ≡ asked_operations (drop (i + 1) steps)
-  left_none none = left ∙ rw none
+  left_none none = asked_left steps i step within is ∙ rw none
 
   pub taken_some : (ask : Asked) → asked_in step ≡ Some ask
       → asked_operations (take (i + 1) steps) ≡ asked_operations (take i steps) ++ ask ∷ []
-  taken_some ask some = taken ∙ rw some
+  taken_some ask some = asked_taken steps i step within is ∙ rw some
 
   pub left_some : (ask : Asked) → asked_in step ≡ Some ask
       → asked_operations (drop i steps) ≡ ask ∷ asked_operations (drop (i + 1) steps)
-  left_some ask some = left ∙ rw some
+  left_some ask some = asked_left steps i step within is ∙ rw some
 
 -- the operation of a step is one more than those before it
 pub asked_before : (steps : List Step) (i : ℕ) (step : Step) → i < length steps → step ≡ get_or steps i step

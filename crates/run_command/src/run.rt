@@ -9,8 +9,9 @@ ghost use Rattle.ipb_outside.specs.Faults.{RisesExactlyIf};
 ghost use Rattle.command_terms.specs.Leaving.{Leaves};
 ghost use Rattle.command_terms.specs.Numbers.{refused_status};
 ghost use Rattle.command_terms.specs.Outside.{NoneCame, no_pairs};
+ghost use Rattle.run_laws.specs.Leaving.{RunLeaves};
 ghost use Rattle.run_laws.specs.Steps.{MayRun};
-ghost use Rattle.run_command.specs.Steps.{RunLeaves};
+ghost use Rattle.run_command.specs.Steps.{Prints};
 ghost use Rattle.run_command.specs.Terms.{run_terms};
 
 use client_threads::Gate;
@@ -71,7 +72,7 @@ fn transcript<R: Rack, T: Threads + Wait + Sync, G: Gate>(
 ) -> Result<Answer, RunFault>
     requires { MayRun session.now steps.now }
     ensures leaves { Keeps R.Rack R.L.Link rack.old rack.new
-        (RunLeaves session.now steps.now (R.made rack.old) (R.made rack.new) result) }
+        (RunLeaves (Prints session.now steps.now) session.now steps.now (R.made rack.old) (R.made rack.new) result) }
     ensures rack_faults { RisesExactlyIf (result ≡ Err RunFault.Rack) (R.faults rack.old) (R.faults rack.new) }
 {
     let boards = session.boards.as_slice();

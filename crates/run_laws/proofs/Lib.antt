@@ -1,3 +1,4 @@
 pub mod Names
 pub mod Scripts
 pub mod Buses
+pub mod Leaving

@@ -26,3 +26,5 @@ pub mod StepsSoFar
 pub mod Registers
 pub mod Executable
 mod OnBoards
+pub mod BoardIds
+pub mod ValidTables

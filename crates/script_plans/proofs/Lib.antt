@@ -1,7 +1,7 @@
 pub mod Lookups
 mod Denials
 mod SpanLemmas
-mod PlanLemmas
+pub mod PlanLemmas
 mod DispatchLemmas
 mod Rising
 mod FewWords

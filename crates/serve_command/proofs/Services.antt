@@ -1,7 +1,7 @@
 -- What follows for boards that were served, put together.
 use Rattle.std.proofs.Common.{◌≡◌, ℕ, ◌+◌, List, [], ◌∷◌, length, map, IfOk, Option}
 use Rattle.std.proofs.Common.{Result, Ok, Err}
-use Rattle.std.proofs.Common.{sym, ap, ◌∙◌, subst}
+use Rattle.std.proofs.Common.{sym, ◌∙◌, subst}
 use Rattle.std.specs.List.{AllByRecursion}
 use Rattle.std.specs.Result.{IsErr, IsErrAnd}
 use Rattle.ipb_outside.specs.declared.sink.Sink.{Ghosts as SinkGhosts}
@@ -26,6 +26,7 @@ use Rattle.server_summary.specs.Text.{all_closed, serve_status, serve_text}
 use Rattle.command_terms.specs.declared.answer.Answer.{Answer}
 use Rattle.command_terms.specs.Numbers.{refused_status}
 use Rattle.command_terms.specs.Outside.{GivenBack}
+use Rattle.command_terms.proofs.Leaving.{same_Err}
 use Rattle.command_terms.proofs.Pairs.{Together}
 use Rattle.command_terms.proofs.Statuses.{done_is_no_refusal, told_is_done}
 use Rattle.serve_command.specs.Steps.{ServeLeaves}
@@ -46,24 +47,19 @@ module _ (settings : Limits)
 
 -- ---- what a server left
 
-failure : Result Answer ServeFault → ServeFault
-failure (Ok answer) = NoMemory
-failure (Err fault) = fault
-
 pub serve_failed : (session : Session) (count : ℕ) (made makes : List LinkSpec) (result : Result Answer ServeFault)
     (fault : ServeFault) (given : GivenBack) → AreLinksTo session.boards given.links
     → AreMadeFor session.boards (length given.links) made makes
     → AreBack given.came given.back → IsErr result → IsErrAnd result (λ why. why ≡ fault)
     → (fault ≡ Rack → AllByRecursion IsUntouched given.links)
     → ServeLeaves session count made makes result given
-unfolding failure
 serve_failed session count made makes (Ok answer) fault given linked links_made back fails is untouched = absurd cc
 serve_failed session count made makes (Err why) fault given linked links_made back fails is untouched = record {
   linked = linked;
   links_made = links_made;
   back = back;
   serves = tt;
-  untouched = λ rack. untouched (sym is ∙ ap failure rack);
+  untouched = λ rack. untouched (sym is ∙ same_Err why Rack rack);
 }
 
 -- what each connection exchanged tells that it was served

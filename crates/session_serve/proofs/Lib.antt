@@ -1,3 +1,4 @@
+mod Shares
 pub mod Lists
 pub mod Seating
 pub mod Finishing

@@ -11,6 +11,7 @@ use Rattle.ipb_base.specs.Lists.{IsProperPrefix}
 use Rattle.transaction_codec.specs.declared.refusal.Why.{Why}
 use Rattle.transaction_codec.specs.declared.refusal.Why.TheVariants.{Version, Kind, Code, Count, Short}
 use Rattle.transaction_codec.specs.Listing.{why_number, IsFirstRule, IsFirstFault}
+use Rattle.transaction_codec.proofs.Steps.{read_is, not_both}
 
 -- a rule by its number
 why_at : ℕ → Why
@@ -36,15 +37,6 @@ pub record IsFormat {Item : Type 0} (item_words : Item → List ℕ) (IsItem : I
 
 module _ {Item : Type 0} (item_words : Item → List ℕ) (IsItem : Item → Type 0) (Breaks : Why → ℕ → List ℕ → Type 0)
     (item_at : List ℕ → Result (Item × List ℕ) Why) (format : IsFormat item_words IsItem Breaks item_at) where
-  abbrev pub read : Item × List ℕ → Result (Item × List ℕ) Why
-  read x = Ok x
-
-  abbrev fault : Why → Result (Item × List ℕ) Why
-  fault why = Err why
-
-  read_is : (x y : Item × List ℕ) → read x ≡ read y → x ≡ y
-  read_is x y e = cc
-
   -- the same words have one first item
   pub same_first : (left right : Item) (x y : List ℕ) → IsItem left → IsItem right → item_words left ++ x
       ≡ item_words right ++ y → (left ≡ right) × (x ≡ y)
@@ -96,8 +88,7 @@ module _ {Item : Type 0} (item_words : Item → List ℕ) (IsItem : Item → Typ
       ap item_at (e ∙ ap (λ (ws : List ℕ). ws ++ more) (flat_map-cons item_words item items)
       ∙ append_assoc (item_words item) (flat_map item_words items) more)
       ∙ format.again item (flat_map item_words items ++ more) is_items.0 in
-      let clash : fault why ≡ read (item, flat_map item_words items ++ more) = sym bad ∙ reads in
-      absurd cc
+      absurd (not_both (item, flat_map item_words items ++ more) why (sym bad ∙ reads))
   longest (b ∷ bs) (item ∷ items) rest more why is_before is_items bad e =
       let spread_left : flat_map item_words (b ∷ bs) ++ rest ≡ item_words b ++ (flat_map item_words bs ++ rest) =
       ap (λ (ws : List ℕ). ws ++ rest) (flat_map-cons item_words b bs) ∙ append_assoc (item_words b)

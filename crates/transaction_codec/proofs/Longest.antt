@@ -18,7 +18,8 @@ use Rattle.transaction_codec.specs.Answer.{values_done, Fails, IsDone, IsFailed,
 use Rattle.transaction_codec.specs.Answer.{IsReplyTo, CanAnswer, IsLongestAnswer, room_first, room_from, reply_room}
 use Rattle.transaction_codec.proofs.Lists.{same_first}
 use Rattle.transaction_codec.proofs.Formats.{requests_format}
-use Rattle.transaction_codec.proofs.Requests.{request_again, request_found}
+use Rattle.transaction_codec.proofs.Transactions.{found}
+use Rattle.transaction_codec.proofs.Requests.{request_again, requests_read}
 use Rattle.ipb_base.proofs.WordLemmas.{AreWords-after, AreWords-zeros}
 
 -- ---- a reply that was done
@@ -296,7 +297,7 @@ room_at : (most : ℕ) (words : List ℕ) (read : Result (Request × List ℕ) W
     → ((rest : List ℕ) → AreWords rest → length rest ≤ most → IsLongestAnswer rest (room_from most rest))
     → IsLongestAnswer words (room_first read (room_from most))
 room_at most words (Ok (request, rest)) fits some short reads later =
-    let found = request_found words (request, rest) fits reads in
+    let found = found requests_read words (request, rest) fits reads in
     let rest_fits : AreWords rest = AreWords-after (request_words request) rest (subst AreWords found.1 fits) in
     let rest_short : length rest ≤ most =
     omega (arith, short, ap length found.1, length-append (request_words request) rest) in

@@ -1,25 +1,21 @@
 -- What is read as a reply is spelled so, and what is spelled so is read.
-use Rattle.std.proofs.Common.{◌≡◌, ℕ, zero, suc, ◌^◌, ◌<◌, ◌≤◌, Bool, true, false, cond, not, ◌&&◌, ◌||◌, List, [], ◌∷◌}
-use Rattle.std.proofs.Common.{◌++◌, length, take, drop, Result, Ok, Err, refl, sym, ap, subst, ◌∙◌, arith, eqb, ltb}
+use Rattle.std.proofs.Common.{◌≡◌, ℕ, zero, suc, ◌^◌, ◌<◌, ◌≤◌, Bool, true, false, cond, not, ◌&&◌, ◌||◌, List, ◌∷◌}
+use Rattle.std.proofs.Common.{◌++◌, length, take, drop, Ok, refl, ◌∙◌, arith, eqb, ltb}
 use Rattle.std.proofs.Common.{inl, inr, ◌⊎◌, eq-eqb}
-use Rattle.std.specs.Prelude.{IfOk, IfErr}
-use Rattle.std.proofs.lemmas.Bool.{eqb-true, ltb-false, ltb-true, le-ltb}
+use Rattle.std.proofs.lemmas.Bool.{eqb-true, ltb-false, le-ltb}
 use Rattle.std.proofs.lemmas.Bool.Decides.{nat_tests}
-use Rattle.std.proofs.lemmas.List.{take_at, drop_at, take-append-drop, length-append, length-take}
+use Rattle.std.proofs.lemmas.List.{take_at, drop_at, length-append, length-take}
 use Rattle.ipb_base.specs.Word.{AreWords}
 use Rattle.transaction_codec.specs.declared.reply.Reply.{Reply}
 use Rattle.transaction_codec.specs.declared.refusal.Why.{Why}
 use Rattle.transaction_codec.specs.declared.refusal.Why.TheVariants.{Version, Kind, Code, Count, Short}
-use Rattle.transaction_codec.specs.declared.first.FirstReply.{FirstReply}
-use Rattle.transaction_codec.specs.First.{reply_of, ReadsReply, IsFaultAtFront}
 use Rattle.transaction_codec.specs.Header.{header, version_of, tid_of, count_of, kind_of, code_of, is_rmw}
 use Rattle.transaction_codec.specs.Reply.{IsBusFault, Carries, HasForm, IsReply, is_reply_code, is_wrong_count}
 use Rattle.transaction_codec.specs.Reply.{values_after, BreaksReply, reply_words, reply_at}
-use Rattle.transaction_codec.specs.Listing.{IsFirstRule}
-use Rattle.transaction_codec.proofs.Fields.{header-fields, HasFields, fields-header}
+use Rattle.transaction_codec.proofs.Fields.{HasFields, fields-header}
 use Rattle.ipb_base.proofs.WordLemmas.{AreWords-take}
-use Rattle.transaction_codec.proofs.Steps.{test_of, Says, first_test, first_rule, no_test, passed, read, read_is}
-use Rattle.transaction_codec.proofs.Steps.{not-false}
+use Rattle.transaction_codec.proofs.Steps.{Says, says_less, says_differs, not-false}
+use Rattle.transaction_codec.proofs.Transactions.{Rules, is_broken, Passes, IsReadBy}
 
 -- the rules on a header's type, info code and words field, as tests
 abbrev is_wrong_kind : ℕ → ℕ → Bool
@@ -77,44 +73,47 @@ form_found kind code count kind_rule code_rule count_rule =
           inr (inr (is, kind_is, count_is, rw kind_is count_is))
     ]
 
-pub reply_found : (words : List ℕ) (x : Reply × List ℕ) → AreWords words → reply_at words ≡ Ok x → IsReply x.0
-    × (words ≡ reply_words x.0 ++ x.1)
-unfolding reply_at
-reply_found [] x fits e = absurd cc
-reply_found (word ∷ after) x fits e =
-    let n : ℕ = values_after (kind_of word) (count_of word) in
-    let made : Reply × List ℕ = (
-      record {
-        tid = tid_of word;
-        kind = kind_of word;
-        count = count_of word;
-        code =
-            code_of word;
-        values = take n after;
-      },
-      drop n after,
-    ) in
-    let version = passed (not (eqb (version_of word) 2)) Version _ x e in
-    let kind = passed (is_wrong_kind (kind_of word) (code_of word)) Kind _ x version.1 in
-    let code = passed (not (is_reply_code (code_of word))) Code _ x kind.1 in
-    let count = passed (is_wrong_count (kind_of word) (code_of word) (count_of word)) Count _ x code.1 in
-    let whole = passed (ltb (length after) n) Short (read made) x count.1 in
-    let version_is : version_of word ≡ 2 = eqb-true (version_of word) 2 (not-false _ version.0) in
-    let enough : n ≤ length after = ltb-false _ _ whole.0 in
-    let len : length (take n after) ≡ n = omega (arith, length-take n after) in
+-- the rules on a reply's header
+abbrev reply_rules : Rules Reply
+reply_rules = record {
+  wrong_kind = λ word. is_wrong_kind (kind_of word) (code_of word);
+  wrong_code = λ word. not (is_reply_code (code_of word));
+  wrong_count = λ word. is_wrong_count (kind_of word) (code_of word) (count_of word);
+  len = λ word. values_after (kind_of word) (count_of word);
+  item = λ word after. record {
+    tid = tid_of word;
+    kind = kind_of word;
+    count = count_of word;
+    code = code_of word;
+    values = take (values_after (kind_of word) (count_of word)) after;
+  };
+}
+
+says_reply : (word : ℕ) (after : List ℕ) (rule : Why) → Says (is_broken reply_rules word after rule)
+    (BreaksReply rule word after)
+says_reply word after Version = says_differs (version_of word) 2
+says_reply word after Short = says_less (length after) (values_after (kind_of word) (count_of word))
+says_reply word after other = record { yes = λ e. grind (arith, nat_tests); not_so = λ e h. grind (arith, nat_tests) }
+
+reply_ranges : (word : ℕ) (after : List ℕ) → Passes reply_rules word after → AreWords after
+    → IsReply (reply_rules.item word after)
+reply_ranges word after passes fits =
+    let n : ℕ = reply_rules.len word in
+    let len : length (take n after) ≡ n = omega (arith, length-take n after, ltb-false _ _ (passes Short)) in
     let form : HasForm (kind_of word) (code_of word) (count_of word) (length (take n after)) =
-    rw len (form_found (kind_of word) (code_of word) (count_of word) kind.0 (not-false _ code.0) count.0) in
-    let spelled : word ∷ after ≡ reply_words made.0 ++ made.1 =
-    rw (← header-fields word version_is) (ap (λ (ws : List ℕ). word ∷ ws) (sym (take-append-drop n after))) in
-    let ranges : IsReply made.0 = record {
-      tid = omega arith;
-      count = omega arith;
-      form = form;
-      values =
-          AreWords-take n after fits.1;
-    } in
-    subst (λ (y : Reply × List ℕ). IsReply y.0 × (word ∷ after ≡ reply_words y.0 ++ y.1)) (read_is made x whole.1)
-    (ranges, spelled)
+    rw len (form_found (kind_of word) (code_of word) (count_of word) (passes Kind) (not-false _ (passes Code))
+    (passes Count)) in
+    record { tid = omega arith; count = omega arith; form = form; values = AreWords-take n after fits }
+
+pub replies_read : IsReadBy reply_rules reply_words IsReply BreaksReply reply_at
+unfolding reply_at
+replies_read = record {
+  nothing = refl;
+  by_rules = λ word after. refl;
+  says = says_reply;
+  ranges = reply_ranges;
+  spelled = λ word after passes. refl;
+}
 
 -- ---- from the form to the rules
 
@@ -177,54 +176,3 @@ reply_again reply rest is =
     (omega (arith, length-append reply.values rest))
     ∙ rw (take_at reply.values rest (length reply.values) refl, drop_at reply.values rest (length reply.values) refl)
     refl
-
-says_reply : (word : ℕ) (after : List ℕ) (rule : Why) → Says
-    (test_of (not (eqb (version_of word) 2)) (is_wrong_kind (kind_of word) (code_of word))
-    (not (is_reply_code (code_of word)))
-    (is_wrong_count (kind_of word) (code_of word) (count_of word))
-    (ltb (length after) (values_after (kind_of word) (count_of word))) rule)
-    (BreaksReply rule word after)
-says_reply word after Version = record { yes = λ e. grind (arith, nat_tests); not_so = λ e. grind (arith, nat_tests) }
-says_reply word after Kind = record { yes = λ e. grind (arith, nat_tests); not_so = λ e h. grind (arith, nat_tests) }
-says_reply word after Code = record { yes = λ e. grind (arith, nat_tests); not_so = λ e h. grind (arith, nat_tests) }
-says_reply word after Count = record { yes = λ e. grind (arith, nat_tests); not_so = λ e h. grind (arith, nat_tests) }
-says_reply word after Short = record { yes = λ e. ltb-true _ _ e; not_so = λ e lt. omega (arith, ltb-false _ _ e, lt) }
-
-pub reply_refuses : (words : List ℕ) (why : Why) → 0 < length words → reply_at words ≡ Err why
-    → IsFirstRule BreaksReply words why
-unfolding reply_at
-reply_refuses [] why some e = absurd (omega arith)
-reply_refuses (word ∷ after) why some e =
-    first_rule BreaksReply word after _ _ _ _ _ why (says_reply word after) (first_test _ _ _ _ _ _ why e)
-
--- what is read breaks no rule
-pub reply_keeps_rules : (word : ℕ) (after : List ℕ) (x : Reply × List ℕ) (why : Why) → reply_at (word ∷ after) ≡ Ok x
-    → BreaksReply why word after → ⊥
-unfolding reply_at
-reply_keeps_rules word after x why e broken = (says_reply word after why).not_so (no_test _ _ _ _ _ _ x e why) broken
-
-pub is_found : (words : List ℕ) (r : Result FirstReply Why) → AreWords words
-    → ReadsReply r words
-    → IfOk r (λ first. IsReply (reply_of first) × (words ≡ reply_words (reply_of first) ++ first.rest.now))
-is_found words (Ok first) fits exact = reply_found words (reply_of first, first.rest.now) fits exact
-is_found words (Err why) fits exact = tt
-
-pub is_shorter : (words : List ℕ) (r : Result FirstReply Why) → AreWords words
-    → ReadsReply r words
-    → IfOk r (λ first. length first.rest.now < length words)
-is_shorter words (Ok first) fits exact =
-    let found = reply_found words (reply_of first, first.rest.now) fits exact in
-    omega (arith, ap length found.1, length-append (reply_words (reply_of first)) first.rest.now)
-is_shorter words (Err why) fits exact = tt
-
-fault_at_front : (words : List ℕ) (why : Why) → reply_at words ≡ Err why → IsFaultAtFront BreaksReply words why
-unfolding reply_at
-fault_at_front [] why e =
-    let same : Short ≡ why = cc in
-    inl (refl, sym same)
-fault_at_front (word ∷ after) why e = inr (reply_refuses (word ∷ after) why (omega arith) e)
-
-pub is_fault : (words : List ℕ) (r : Result FirstReply Why) → ReadsReply r words
-    → IfErr r (IsFaultAtFront BreaksReply words)
-is_fault words (Ok first) exact = tt
-is_fault words (Err why) exact = fault_at_front words why exact

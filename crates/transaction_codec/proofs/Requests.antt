@@ -1,10 +1,9 @@
 -- What is read as a request is spelled so, and what is spelled so is read.
 use Rattle.std.proofs.Common.{◌≡◌, ℕ, zero, suc, ◌^◌, ◌<◌, ◌≤◌, false, not, ◌&&◌, List, [], ◌∷◌, ◌++◌, length, take}
-use Rattle.std.proofs.Common.{drop, Result, Ok, Err, inl, inr, refl, sym, ap, subst, ◌∙◌, arith, eqb, ltb, lit<, lit≤}
-use Rattle.std.specs.Prelude.{IfOk, IfErr}
+use Rattle.std.proofs.Common.{drop, Ok, refl, sym, ◌∙◌, arith, eqb, ltb, lit<, lit≤}
 use Rattle.std.proofs.lemmas.Bool.Decides.{nat_tests}
-use Rattle.std.proofs.lemmas.Bool.{eqb-true, ltb-false, ltb-true, le-ltb}
-use Rattle.std.proofs.lemmas.List.{take_at, drop_at, take-append-drop, length-append, length-take}
+use Rattle.std.proofs.lemmas.Bool.{eqb-true, ltb-false, le-ltb}
+use Rattle.std.proofs.lemmas.List.{take_at, drop_at, length-append, length-take}
 use Rattle.ipb_base.specs.Word.{AreWords}
 use Rattle.transaction_codec.specs.declared.request.Op.{Op}
 use Rattle.transaction_codec.specs.declared.request.Op.TheVariants.{Read, ReadPort, Write, WritePort, RmwBits, RmwSum}
@@ -14,13 +13,10 @@ use Rattle.transaction_codec.specs.declared.refusal.Why.TheVariants.{Version, Ki
 use Rattle.transaction_codec.specs.Header.{header, version_of, tid_of, count_of, kind_of, code_of, is_rmw}
 use Rattle.transaction_codec.specs.Request.{op_kind, op_count, op_words, request_words, IsRequest, words_after}
 use Rattle.transaction_codec.specs.Request.{BreaksRequest, op_at, request_at}
-use Rattle.transaction_codec.specs.declared.first.FirstRequest.{FirstRequest}
-use Rattle.transaction_codec.specs.First.{request_of, ReadsRequest, IsFaultAtFront}
-use Rattle.transaction_codec.specs.Listing.{IsFirstRule}
-use Rattle.transaction_codec.proofs.Fields.{header-fields, HasFields, fields-header}
+use Rattle.transaction_codec.proofs.Fields.{HasFields, fields-header}
 use Rattle.ipb_base.proofs.WordLemmas.{AreWords-take}
-use Rattle.transaction_codec.proofs.Steps.{test_of, Says, first_test, first_rule, no_test, passed, read, read_is}
-use Rattle.transaction_codec.proofs.Steps.{not-false, take-front, drop-front}
+use Rattle.transaction_codec.proofs.Steps.{Says, says_less, says_differs, not-false, take-front, drop-front}
+use Rattle.transaction_codec.proofs.Transactions.{Rules, is_broken, Passes, IsReadBy}
 
 -- what a header asks has its type and words field, and the words after it
 record IsAsked (op : Op) (kind count : ℕ) (words : List ℕ) : Type 0 where
@@ -67,90 +63,56 @@ asked_is (suc (suc (suc (suc (suc zero))))) count (base ∷ addend ∷ after) kn
     record { kind_is = refl; count_is = sym (eqb-true count 1 (not-false _ one)); words_are = refl }
 asked_is (suc (suc (suc (suc (suc (suc kind)))))) count after known one whole = absurd (omega arith)
 
--- a record is the header of its fields, and its words stand before the rest
-pub request_found : (words : List ℕ) (x : Request × List ℕ) → AreWords words → request_at words ≡ Ok x → IsRequest x.0
-    × (words ≡ request_words x.0 ++ x.1)
-unfolding request_at
-request_found [] x fits e = absurd cc
-request_found (word ∷ after) x fits e =
-    let made : Request × List ℕ = (
-      record { tid = tid_of word; op = op_at (kind_of word) (count_of word) after },
-      drop (words_after (kind_of word) (count_of word)) after,
-    ) in
-    let version = passed (not (eqb (version_of word) 2)) Version _ x e in
-    let kind = passed (ltb 5 (kind_of word)) Kind _ x version.1 in
-    let code = passed (not (eqb (code_of word) 15)) Code _ x kind.1 in
-    let one = passed (is_rmw (kind_of word) && not (eqb (count_of word) 1)) Count _ x code.1 in
-    let whole = passed (ltb (length after) (words_after (kind_of word) (count_of word))) Short (read made) x one.1 in
-    let is = asked_is (kind_of word) (count_of word) after (ltb-false _ _ kind.0) one.0 (ltb-false _ _ whole.0) in
-    let version_is : version_of word ≡ 2 = eqb-true (version_of word) 2 (not-false _ version.0) in
-    let code_is : code_of word ≡ 15 = eqb-true (code_of word) 15 (not-false _ code.0) in
-    let word_is : header (tid_of word) (op_count made.0.op) (op_kind made.0.op) 15 ≡ word =
-    rw (is.count_is, is.kind_is, ← code_is) (sym (header-fields word version_is)) in
-    let spelled : word ∷ after ≡ request_words made.0 ++ made.1 =
-    rw (word_is, is.words_are) (ap (λ (ws : List ℕ). word ∷ ws)
-    (sym (take-append-drop (words_after (kind_of word) (count_of word)) after))) in
-    let count_lt : op_count made.0.op < 2 ^ 8 = rw is.count_is (omega arith) in
-    let words_fit : AreWords (op_words made.0.op) =
-    rw is.words_are (AreWords-take (words_after (kind_of word) (count_of word)) after fits.1) in
-    let ranges : IsRequest made.0 = record { tid = omega arith; count = count_lt; words = words_fit } in
-    subst (λ (y : Request × List ℕ). IsRequest y.0 × (word ∷ after ≡ request_words y.0 ++ y.1))
-    (read_is made x whole.1) (ranges, spelled)
-
-says_request : (word : ℕ) (after : List ℕ) (rule : Why) → Says
-    (test_of (not (eqb (version_of word) 2)) (ltb 5 (kind_of word)) (not (eqb (code_of word) 15))
-    (is_rmw (kind_of word) && not (eqb (count_of word) 1))
-    (ltb (length after) (words_after (kind_of word) (count_of word))) rule)
-    (BreaksRequest rule word after)
-says_request word after Version = record { yes = λ e. grind (arith, nat_tests); not_so = λ e. grind (arith, nat_tests) }
-says_request word after Kind = record { yes = λ e. grind (arith, nat_tests); not_so = λ e. grind (arith, nat_tests) }
-says_request word after Code = record { yes = λ e. grind (arith, nat_tests); not_so = λ e. grind (arith, nat_tests) }
-says_request word after Count = record { yes = λ e. grind (arith, nat_tests); not_so = λ e h. grind (arith, nat_tests) }
-says_request word after Short = record {
-  yes = λ e. ltb-true _ _ e;
-  not_so =
-      λ e lt. omega (arith, ltb-false _ _ e, lt);
+-- the rules on a request's header
+abbrev request_rules : Rules Request
+request_rules = record {
+  wrong_kind = λ word. ltb 5 (kind_of word);
+  wrong_code = λ word. not (eqb (code_of word) 15);
+  wrong_count = λ word. is_rmw (kind_of word) && not (eqb (count_of word) 1);
+  len = λ word. words_after (kind_of word) (count_of word);
+  item = λ word after. record { tid = tid_of word; op = op_at (kind_of word) (count_of word) after };
 }
 
-pub request_refuses : (words : List ℕ) (why : Why) → 0 < length words → request_at words ≡ Err why
-    → IsFirstRule BreaksRequest words why
+says_request : (word : ℕ) (after : List ℕ) (rule : Why) → Says (is_broken request_rules word after rule)
+    (BreaksRequest rule word after)
+says_request word after Version = says_differs (version_of word) 2
+says_request word after Kind = says_less 5 (kind_of word)
+says_request word after Code = says_differs (code_of word) 15
+says_request word after Count = record { yes = λ e. grind (arith, nat_tests); not_so = λ e h. grind (arith, nat_tests) }
+says_request word after Short = says_less (length after) (words_after (kind_of word) (count_of word))
+
+asked : (word : ℕ) (after : List ℕ) → Passes request_rules word after
+    → IsAsked (request_rules.item word after).op (kind_of word) (count_of word) (take (request_rules.len word) after)
+asked word after passes =
+    asked_is (kind_of word) (count_of word) after (ltb-false _ _ (passes Kind)) (passes Count)
+    (ltb-false _ _ (passes Short))
+
+request_ranges : (word : ℕ) (after : List ℕ) → Passes request_rules word after → AreWords after
+    → IsRequest (request_rules.item word after)
+request_ranges word after passes fits =
+    let is = asked word after passes in
+    let count_lt : op_count (request_rules.item word after).op < 2 ^ 8 = rw is.count_is (omega arith) in
+    let words_fit : AreWords (op_words (request_rules.item word after).op) =
+    rw is.words_are (AreWords-take (request_rules.len word) after fits) in
+    record { tid = omega arith; count = count_lt; words = words_fit }
+
+request_spelled : (word : ℕ) (after : List ℕ) → Passes request_rules word after
+    → request_words (request_rules.item word after)
+    ≡ header (tid_of word) (count_of word) (kind_of word) (code_of word) ∷ take (request_rules.len word) after
+request_spelled word after passes =
+    let is = asked word after passes in
+    let code_is : code_of word ≡ 15 = eqb-true (code_of word) 15 (not-false _ (passes Code)) in
+    rw (is.count_is, is.kind_is, is.words_are, code_is) refl
+
+pub requests_read : IsReadBy request_rules request_words IsRequest BreaksRequest request_at
 unfolding request_at
-request_refuses [] why some e = absurd (omega arith)
-request_refuses (word ∷ after) why some e =
-    first_rule BreaksRequest word after _ _ _ _ _ why (says_request word after) (first_test _ _ _ _ _ _ why e)
-
--- what is read breaks no rule
-pub request_keeps_rules : (word : ℕ) (after : List ℕ) (x : Request × List ℕ) (why : Why) → request_at (word ∷ after)
-    ≡ Ok x → BreaksRequest why word after → ⊥
-unfolding request_at
-request_keeps_rules word after x why e broken = (says_request word after why).not_so (no_test _ _ _ _ _ _ x e why)
-    broken
-
-pub is_found : (words : List ℕ) (r : Result FirstRequest Why) → AreWords words
-    → ReadsRequest r words
-    → IfOk r (λ first. IsRequest (request_of first) × (words ≡ request_words (request_of first) ++ first.rest.now))
-is_found words (Ok first) fits exact = request_found words (request_of first, first.rest.now) fits exact
-is_found words (Err why) fits exact = tt
-
-pub is_shorter : (words : List ℕ) (r : Result FirstRequest Why) → AreWords words
-    → ReadsRequest r words
-    → IfOk r (λ first. length first.rest.now < length words)
-is_shorter words (Ok first) fits exact =
-    let found = request_found words (request_of first, first.rest.now) fits exact in
-    omega (arith, ap length found.1, length-append (request_words (request_of first)) first.rest.now)
-is_shorter words (Err why) fits exact = tt
-
-fault_at_front : (words : List ℕ) (why : Why) → request_at words ≡ Err why → IsFaultAtFront BreaksRequest words why
-unfolding request_at
-fault_at_front [] why e =
-    let same : Short ≡ why = cc in
-    inl (refl, sym same)
-fault_at_front (word ∷ after) why e = inr (request_refuses (word ∷ after) why (omega arith) e)
-
-pub is_fault : (words : List ℕ) (r : Result FirstRequest Why) → ReadsRequest r words
-    → IfErr r (IsFaultAtFront BreaksRequest words)
-is_fault words (Ok first) exact = tt
-is_fault words (Err why) exact = fault_at_front words why exact
+requests_read = record {
+  nothing = refl;
+  by_rules = λ word after. refl;
+  says = says_request;
+  ranges = request_ranges;
+  spelled = request_spelled;
+}
 
 -- what a header with these fields and enough words after it is read as
 read_by_fields : (word kind count : ℕ) (tid : ℕ) (after : List ℕ) → HasFields word tid count kind 15 → kind ≤ 5

@@ -1,17 +1,13 @@
--- Readings by rules in their order: a rule that was passed, and what was read then.
+-- Readings by rules in their order: the first test that is true, and what is read where none is.
 use Rattle.std.proofs.Common.{◌<◌, subst, ◌≡◌, ℕ, Bool, true, false, cond, not, List, ◌∷◌, get_or, take, drop, Result}
-use Rattle.std.proofs.Common.{Ok, Err, refl, Fits, w32, arith, ◌+◌, add_comm, add-one}
+use Rattle.std.proofs.Common.{Ok, Err, refl, Fits, w32, arith, ◌+◌, add_comm, add-one, eqb, ltb, ◌≢◌}
+use Rattle.std.proofs.lemmas.Bool.{ltb-false, ltb-true}
+use Rattle.std.proofs.lemmas.Bool.Decides.{nat_tests}
 use Rattle.ipb_base.specs.Word.{AreWords}
 use Rattle.ipb_base.proofs.WordLemmas.{AreWords-at}
 use Rattle.transaction_codec.specs.declared.refusal.Why.{Why}
 use Rattle.transaction_codec.specs.declared.refusal.Why.TheVariants.{Version, Kind, Code, Count, Short}
 use Rattle.transaction_codec.specs.Listing.{why_number, IsFirstRule}
-
--- a rule that is not broken
-pub passed : {A : Type 0} (broken : Bool) (why : Why) (then : Result A Why) (x : A) → cond broken (Err why) then
-    ≡ Ok x → (broken ≡ false) × (then ≡ Ok x)
-passed true why then x e = absurd cc
-passed false why then x e = (refl, e)
 
 -- one of five tests
 abbrev pub test_of : Bool → Bool → Bool → Bool → Bool → Why → Bool
@@ -66,10 +62,19 @@ before_version a b c d e Code lt = absurd (omega arith)
 before_version a b c d e Count lt = absurd (omega arith)
 before_version a b c d e Short lt = absurd (omega arith)
 
-abbrev refused : (A : Type 0) → Why → Result A Why
+abbrev pub read : {A : Type 0} → A → Result A Why
+read x = Ok x
+
+pub read_is : {A : Type 0} (x y : A) → read x ≡ read y → x ≡ y
+read_is x y e = cc
+
+abbrev pub refused : (A : Type 0) → Why → Result A Why
 refused A why = Err why
 
-rule_is : (A : Type 0) (why other : Why) → refused A why ≡ refused A other → why ≡ other
+pub not_both : {A : Type 0} (x : A) (why : Why) → refused A why ≡ read x → ⊥
+not_both x why e = absurd cc
+
+pub rule_is : (A : Type 0) (why other : Why) → refused A why ≡ refused A other → why ≡ other
 rule_is A why other e = cc
 
 pub first_test : {A : Type 0} (a b c d e : Bool) (x : A) (why : Why) → by_tests a b c d e x ≡ Err why
@@ -100,22 +105,28 @@ no_test false false false false false x y h Code = refl
 no_test false false false false false x y h Count = refl
 no_test false false false false false x y h Short = refl
 
+-- and what is read is what stands behind the tests
+pub all_read : {A : Type 0} (a b c d e : Bool) (x y : A) → by_tests a b c d e x ≡ Ok y → x ≡ y
+all_read a b c d e x y h =
+    let none = no_test a b c d e x y h in
+    read_is x y (rw (none Version, none Kind, none Code, none Count, none Short) at h)
+
 -- each test says whether its rule is broken
 pub record Says (test : Bool) (Broken : Type 0) : Type 0 where
   pub yes : test ≡ true → Broken
   pub not_so : test ≡ false → Broken → ⊥
+
+pub says_less : (n m : ℕ) → Says (ltb n m) (n < m)
+says_less n m = record { yes = λ e. ltb-true _ _ e; not_so = λ e lt. omega (arith, ltb-false _ _ e, lt) }
+
+pub says_differs : (n m : ℕ) → Says (not (eqb n m)) (n ≢ m)
+says_differs n m = record { yes = λ e. grind (arith, nat_tests); not_so = λ e. grind (arith, nat_tests) }
 
 pub first_rule : (Breaks : Why → ℕ → List ℕ → Type 0) (word : ℕ) (after : List ℕ) (a b c d e : Bool) (why : Why)
     → ((rule : Why) → Says (test_of a b c d e rule) (Breaks rule word after))
     → IsFirstTest a b c d e why → IsFirstRule Breaks (word ∷ after) why
 first_rule Breaks word after a b c d e why says first =
     ((says why).yes first.broken, λ other lt. (says other).not_so (first.earlier other lt))
-
-abbrev pub read : {A : Type 0} → A → Result A Why
-read x = Ok x
-
-pub read_is : {A : Type 0} (x y : A) → read x ≡ read y → x ≡ y
-read_is x y e = cc
 
 pub not-false : (b : Bool) → not b ≡ false → b ≡ true
 not-false true e = refl

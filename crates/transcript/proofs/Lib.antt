@@ -1,14 +1,14 @@
 mod Hex
 pub mod Allowed
-mod LineLemmas
+pub mod LineLemmas
 mod Counts
 mod StatusLemmas
-mod Skipping
+pub mod Skipping
 mod Reading
 mod Rising
 mod Covering
 mod Denials
-mod Printed
+pub mod Printed
 mod PiecesSoFar
 mod LatePieces
 pub mod EndsInOrder

@@ -48,14 +48,16 @@ few_allowed (ask ∷ asks) = few_more ask.denied ask.op asks (length asks) (few_
 -- ---- one step more
 
 module _ (steps : List Step) (i : ℕ) (step : Step) (within : i < length steps) (is : step ≡ get_or steps i step) where
-  taken : asked_operations (take (i + 1) steps) ≡ asked_operations (take i steps) ++ asked_operations (step ∷ [])
-  taken =
+  pub asked_taken : asked_operations (take (i + 1) steps)
+      ≡ asked_operations (take i steps) ++ asked_operations (step ∷ [])
+  asked_taken =
       ap asked_operations (take_more steps i step within)
       ∙ (filter_map-append asked_in (take i steps) (get_or steps i step ∷ [])
       ∙ ap (λ s. asked_operations (take i steps) ++ asked_operations (s ∷ [])) (sym is))
 
-  left : asked_operations (drop i steps) ≡ asked_operations (step ∷ []) ++ asked_operations (drop (i + 1) steps)
-  left =
+  pub asked_left : asked_operations (drop i steps)
+      ≡ asked_operations (step ∷ []) ++ asked_operations (drop (i + 1) steps)
+  asked_left =
       ap asked_operations (drop-cons steps i step within ∙ ap (λ s. s ∷ drop (suc i) steps) (sym is))
       ∙ (filter_map-append asked_in (step ∷ []) (drop (suc i) steps) ∙ rw add-one)
 
@@ -91,9 +93,11 @@ module _ (runs : List BoardRun) (client : ℕ) (steps : List Step) (i : ℕ) (ma
     pub after_dispatch : step ≡ Dispatch → IsProgress runs client steps (i + 1) made number counts
     after_dispatch none =
         let before : asked_operations (take (i + 1) steps) ≡ asked_operations (take i steps) =
-        taken steps i step within is ∙ (ap (λ s. asked_operations (take i steps) ++ asked_operations (s ∷ [])) none ∙ append-nil _) in
+        asked_taken steps i step within is
+        ∙ (ap (λ s. asked_operations (take i steps) ++ asked_operations (s ∷ [])) none ∙ append-nil _) in
         let rest : asked_operations (drop i steps) ≡ asked_operations (drop (i + 1) steps) =
-        left steps i step within is ∙ ap (λ s. asked_operations (s ∷ []) ++ asked_operations (drop (i + 1) steps)) none in
+        asked_left steps i step within is
+        ∙ ap (λ s. asked_operations (s ∷ []) ++ asked_operations (drop (i + 1) steps)) none in
         record {
           lines = rw (before, ← rest) so_far.lines;
           operations' = rw before so_far.operations';
@@ -103,10 +107,14 @@ module _ (runs : List BoardRun) (client : ℕ) (steps : List Step) (i : ℕ) (ma
 
     module _ (ask : Asked) (asks : asked_operations (step ∷ []) ≡ ask ∷ []) where
       before : asked_operations (take (i + 1) steps) ≡ asked_operations (take i steps) ++ ask ∷ []
-      before = taken steps i step within is ∙ ap (λ (more : List Asked). asked_operations (take i steps) ++ more) asks
+      before =
+          asked_taken steps i step within is
+          ∙ ap (λ (more : List Asked). asked_operations (take i steps) ++ more) asks
 
       rest : asked_operations (drop i steps) ≡ ask ∷ asked_operations (drop (i + 1) steps)
-      rest = left steps i step within is ∙ ap (λ (more : List Asked). more ++ asked_operations (drop (i + 1) steps)) asks
+      rest =
+          asked_left steps i step within is
+          ∙ ap (λ (more : List Asked). more ++ asked_operations (drop (i + 1) steps)) asks
 
       one_more : number + 1 ≡ length (asked_operations (take (i + 1) steps))
       one_more = rw (before, length-append) (omega (arith, so_far.operations'))

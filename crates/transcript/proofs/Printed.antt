@@ -60,7 +60,7 @@ PlaceFits : Option ℕ → Type 0
 PlaceFits None = Unit {0}
 PlaceFits (Some place) = place < 2 ^ 64
 
-AnswerFits : Answer → Type 0
+unfoldable pub AnswerFits : Answer → Type 0
 AnswerFits (answer.Values words) = AreWords words
 AnswerFits answer.Done = Unit {0}
 AnswerFits (answer.Fault code after) = IsByte code × IsByte after
@@ -100,16 +100,18 @@ replies_fit : (replies : List Reply) → AreReplies replies → AllByRecursion A
 replies_fit [] are = tt
 replies_fit (reply ∷ replies) are = (answer_fits reply are.0, replies_fit replies are.1)
 
+pub joined_fit : (body words : List ℕ) (list : List Answer) → IsJoined body words list → AllByRecursion AnswerFits list
+unfolding AnswerFits
+joined_fit body words list joined =
+    subst (AllByRecursion AnswerFits) (sym joined.1)
+    (AllByRecursion-append AnswerFits (map answer_of joined.0.replies) _ (replies_fit joined.0.replies joined.0.items)
+    (AllByRecursion-replicate AnswerFits _ answer.Skipped tt))
+
 answers_fit : Joins → (body words : List ℕ) (found : Option (List Answer)) → AreWords body → AreWords words
     → answers body words ≡ found → IfSome found (AllByRecursion AnswerFits)
-unfolding AnswerFits
 answers_fit joins body words None fits fit is = tt
 answers_fit joins body words (Some list) fits fit is =
-    let joined : IsJoined body words list = (joins body words list fits fit).1 is in
-    subst (AllByRecursion AnswerFits) (sym joined.1) (
-    AllByRecursion-append AnswerFits (map answer_of joined.0.replies) _ (replies_fit joined.0.replies joined.0.items)
-    (AllByRecursion-replicate AnswerFits _ answer.Skipped tt)
-    )
+    joined_fit body words list ((joins body words list fits fit).1 is)
 
 told_by_fits : (found : Option (List Answer)) → IfSome found (AllByRecursion AnswerFits) → ToldFits (told_by found)
 unfolding ToldFits
@@ -241,7 +243,7 @@ shown_fits WriteBlock mask words fits = tt
 shown_fits RmwBits mask words fits = before_fits words fits
 shown_fits RmwSum mask words fits = before_fits words fits
 
-values_fit : (r : OpResult) → IsPrinted r → AreWords (values_in r)
+pub values_fit : (r : OpResult) → IsPrinted r → AreWords (values_in r)
 values_fit (Value words) fits = fits
 values_fit Done fits = tt
 values_fit (Was word) fits = (fits, tt)

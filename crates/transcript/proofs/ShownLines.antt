@@ -254,7 +254,7 @@ module _ (Q : List OpLine → Type 0) (runs : List BoardRun) where
 -- ---- boards
 
 -- where two lists read as one, so does the element that the other has at a position
-matched : {A B C : Type 0} (f : A → C) (g : B → C) (xs : List A) (ys : List B) (k : ℕ) (x : A) → map f xs ≡ map g ys
+pub matched : {A B C : Type 0} (f : A → C) (g : B → C) (xs : List A) (ys : List B) (k : ℕ) (x : A) → map f xs ≡ map g ys
     → slice_get xs k ≡ Some x → (y : B) × (slice_get ys k ≡ Some y) × (f x ≡ g y)
 matched f g [] ys k x same at = absurd cc
 matched f g (z ∷ xs) [] k x same at = absurd cc

@@ -34,22 +34,39 @@ struct Ranking<'a> {
 
 /// Ranks of all tables, where all modules are tables.
 pub(super) fn ranks_of(alloc: Global, tables: &Tables) -> Result<NameMap<u64>, NoMemory> {
+    let mut steps = first_steps(alloc, tables)?;
     let mut ranking = Ranking {
         ranks: NameMap::new(alloc),
         entered: 0,
         next: u64::MAX - 1,
         pending: Vec::new(alloc),
     };
+    rank_all(alloc, tables, &mut ranking, &mut steps)?;
+    Ok(ranking.ranks)
+}
+
+/// Puts off all tables.
+fn first_steps<'a>(alloc: Global, tables: &'a Tables) -> Result<Vec<Step<'a>>, NoMemory> {
     let mut steps = Vec::new(alloc);
     for (name, _table) in tables.entries() {
         steps.push(Step::Enter(name.as_str()))?;
     }
-    'entering: while let Some(name) = next_table(alloc, tables, &mut ranking, &mut steps)? {
-        enter(alloc, &mut ranking, name)?;
+    Ok(steps)
+}
+
+/// Does what is left to do, until all tables that it comes to have ranks.
+fn rank_all<'a>(
+    alloc: Global,
+    tables: &'a Tables,
+    ranking: &mut Ranking<'a>,
+    steps: &mut Vec<Step<'a>>,
+) -> Result<(), NoMemory> {
+    'entering: while let Some(name) = next_table(alloc, tables, ranking, steps)? {
+        enter(alloc, ranking, name)?;
         steps.push(Step::Leave(name))?;
-        push_modules(&mut steps, nodes_of(tables, name))?;
+        push_modules(steps, nodes_of(tables, name))?;
     }
-    Ok(ranking.ranks)
+    Ok(())
 }
 
 /// Leaves tables up to the next one to be entered.

@@ -13,7 +13,7 @@ returns-clause-ended g c =
     let long : length lanes ≡ length old.lanes.items = omega (arith, c.run_client-ran.auto.lanes, given) in
     let len : old.lanes.len ≡ length old.lanes.items = old.lanes.ok.0 in
     let back = written_back old.lanes.items lanes old.lanes.len long len in
-    ended c.args.hub.now.turns old _ c.requires refl c.run_client-ran.ensures.seat
+    ended c.args.context.now.hub.now.turns old _ c.requires refl c.run_client-ran.ensures.seat
     (ap length back ∙ long) c.run_client-ran.ensures.no_plan
     (λ e. subst (λ l. AtEach c.run_client-ran.new.seat.knows l
     (λ on. HasRun p.client (sum (counts_on on p)) (counts_on on p))) (sym back)

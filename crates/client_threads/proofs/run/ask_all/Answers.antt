@@ -6,7 +6,7 @@ use Rattle.client_threads.proofs.Each.{still_can_ask, take_whole}
 use Rattle.client_threads.proofs.run.ask_all.Goals as goal
 
 pub ask_on-requires-clause-lane : goal.ask_on-requires-clause-lane
-ask_on-requires-clause-lane g c κs within = lane_low 0 (length c.args.hub.now.turns) c.args.asks.now
+ask_on-requires-clause-lane g c κs within = lane_low 0 (length c.args.context.now.hub.now.turns) c.args.asks.now
     c.loop-ask.ask-index (0, 0) c.requires.lanes (omega arith)
 
 pub ask_on-requires-clause-planned : goal.ask_on-requires-clause-planned

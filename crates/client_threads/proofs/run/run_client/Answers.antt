@@ -12,7 +12,7 @@ do_dispatch-requires-clause-asks g c κs within =
     let list = c.as_slice-dispatch-items.ensures in
     let low : i < length all = subst (λ (l : _). i < length l) list c.loop-dispatch-test.true in
     let is : d ≡ get_or all i d = c.dispatch-item.is ∙ ap (λ l. get_or l i d) list in
-    all_at (λ (e : Dispatch). AreRisingFrom 0 (length c.args.hub.now.turns) e.asks) all i d c.requires.plan low is
+    all_at (λ (e : Dispatch). AreRisingFrom 0 (length c.args.context.now.hub.now.turns) e.asks) all i d c.requires.plan low is
 
 pub do_dispatch-requires-clause-planned : goal.do_dispatch-requires-clause-planned
 do_dispatch-requires-clause-planned g c κs within =

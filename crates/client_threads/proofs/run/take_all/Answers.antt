@@ -6,7 +6,7 @@ use Rattle.client_threads.proofs.Each.{still_can_take, take_whole}
 use Rattle.client_threads.proofs.run.take_all.Goals as goal
 
 pub take_into-requires-clause-lane : goal.take_into-requires-clause-lane
-take_into-requires-clause-lane g c κs within = lane_low 0 (length c.args.hub.now.turns) c.args.asks.now
+take_into-requires-clause-lane g c κs within = lane_low 0 (length c.args.context.now.hub.now.turns) c.args.asks.now
     c.loop-ask.ask-index (0, 0) c.requires.asks (omega arith)
 
 pub take_into-requires-clause-asked : goal.take_into-requires-clause-asked

@@ -1,14 +1,12 @@
-use Rattle.std.proofs.Common.{◌<◌, ◌^◌, length, rules, arith}
-use Rattle.session_run.specs.declared.session.RunFault.TheVariants.{NoMemory, Rack}
-use Rattle.session_run.specs.Faults.{IsRunFailure}
+use Rattle.std.proofs.Common.{◌<◌, ◌^◌, length, map, rules, arith}
 use Rattle.board_greeting.specs.Reports.{shown_by}
-use Rattle.command_terms.specs.Outside.{NoneCame}
-use Rattle.command_terms.proofs.Leaving.{error_left, failure_left, none_came}
 use Rattle.run_laws.specs.Steps.{MayRun}
+use Rattle.run_laws.proofs.Leaving.{kept_unless_refused, no_memory_handed_on, no_memory_left}
 use Rattle.config_input.specs.Deserved.{BreaksInApply}
 use Rattle.config_input.specs.Work.{apply_command}
+use Rattle.config_commands.specs.Steps.{Writes}
 use Rattle.config_commands.specs.Terms.{apply_terms}
-use Rattle.config_commands.proofs.Leaving.{kept_unless_refused, refused_left}
+use Rattle.config_commands.proofs.Leaving.{is_done, refused_by_command}
 use Rattle.config_commands.proofs.Owed.{apply_leaves}
 use Rattle.config_commands.proofs.commands.apply_document.Goals as goal
 
@@ -27,9 +25,8 @@ write_configuration-requires-clause-runs g c κs within =
 pub returns-in_err-refused-in-Err-Refused-clause-leaves :
     goal.returns-in_err-refused-in-Err-Refused-clause-leaves
 returns-in_err-refused-in-Err-Refused-clause-leaves g c =
-    let shown = shown_by g.R.L.Link in
-    failure_left NoneCame none_came IsRunFailure Rack shown _ apply_terms c.args.bytes.now _
-    c.from_residual.result NoMemory c.from_residual.ensures.0 c.from_residual.ensures.1 (λ failed. failed)
+    no_memory_handed_on (shown_by g.R.L.Link) _ apply_terms c.args.bytes.now _ c.from_residual.result
+    c.from_residual.ensures.0 c.from_residual.ensures.1
 
 pub returns-in-Ok-clause-leaves : goal.returns-in-Ok-clause-leaves
 returns-in-Ok-clause-leaves g c =
@@ -47,18 +44,18 @@ returns-in-Ok-clause-leaves g c =
 
 pub returns-in-Ok-clause-refused : goal.returns-in-Ok-clause-refused
 returns-in-Ok-clause-refused g c =
-    kept_unless_refused _ c.in-Ok.read.session c.deref.result.now _ c.write_configuration.result
-    c.write_configuration.ensures.leaves.2.writes
+    let links = map (shown_by g.R.L.Link) c.write_configuration.ensures.leaves.0 in
+    kept_unless_refused _ (Writes c.in-Ok.read.session c.deref.result.now links)
+    (is_done c.in-Ok.read.session c.deref.result.now links) c.write_configuration.result
+    c.write_configuration.ensures.leaves.2.tells
 
 pub returns-in_ok-refused-in-Err-Refused-clause-leaves :
     goal.returns-in_ok-refused-in-Err-Refused-clause-leaves
 returns-in_ok-refused-in-Err-Refused-clause-leaves g c =
     let deserved : BreaksInApply c.args.bytes.now c.in-Err-Refused.refusal = search rules in
-    refused_left (shown_by g.R.L.Link) _ apply_command apply_terms c.args.bytes.now _
+    refused_by_command (shown_by g.R.L.Link) _ apply_command apply_terms c.args.bytes.now _
     c.in_ok-refused-in-Err-Refused.field-0 c.in-Err-Refused.refusal (λ line refused. refused) deserved
     c.in_ok-refused-in-Err-Refused.ensures.text c.in_ok-refused-in-Err-Refused.ensures.status
 
 pub returns-in-Err-NoMemory-clause-leaves : goal.returns-in-Err-NoMemory-clause-leaves
-returns-in-Err-NoMemory-clause-leaves g c =
-    let shown = shown_by g.R.L.Link in
-    error_left NoneCame none_came IsRunFailure Rack shown _ apply_terms c.args.bytes.now _ NoMemory (λ failed. failed)
+returns-in-Err-NoMemory-clause-leaves g c = no_memory_left (shown_by g.R.L.Link) _ apply_terms c.args.bytes.now _

@@ -7,6 +7,7 @@ use Rattle.hub_lane.specs.Greeting.{IsSaid}
 use Rattle.hub_lane.proofs.Listened.{got_end, quiet_end}
 use Rattle.hub_lane.proofs.Requests.{receive_asks_none}
 use Rattle.hub_lane.proofs.Greetings.{fresh_on, got_told, handed_quiet, quiet_told, TellsAll}
+use Rattle.std.proofs.lemmas.Result.{IfOk-from_err}
 use Rattle.hub_lane.proofs.greeting.hear_once.Goals as goal
 
 pub returns-in_err-receive-clause-fresh : goal.returns-in_err-receive-clause-fresh
@@ -101,3 +102,43 @@ returns-in-Got-clause-asked g c =
     receive_asks_none c.receive.result c.receive.new.into.items (g.L.Link.held c.args.link.now)
     (g.L.Link.held c.receive.new.self) (g.L.Link.telling c.args.link.now) (g.L.Link.telling c.receive.new.self)
     c.receive.ensures.received
+
+pub returns-in_err-receive-clause-receives : goal.returns-in_err-receive-clause-receives
+returns-in_err-receive-clause-receives g c =
+    IfOk-from_err c.from_residual.result _ c.from_residual.ensures.0
+
+pub returns-in_err-receive-clause-told : goal.returns-in_err-receive-clause-told
+returns-in_err-receive-clause-told g c =
+    IfOk-from_err c.from_residual.result _ c.from_residual.ensures.0
+
+pub returns-in_err-receive-clause-counted : goal.returns-in_err-receive-clause-counted
+returns-in_err-receive-clause-counted g c =
+    IfOk-from_err c.from_residual.result _ c.from_residual.ensures.0
+
+pub returns-in_err-receive-clause-handed : goal.returns-in_err-receive-clause-handed
+returns-in_err-receive-clause-handed g c =
+    IfOk-from_err c.from_residual.result _ c.from_residual.ensures.0
+
+pub returns-in_err-receive-clause-faults : goal.returns-in_err-receive-clause-faults
+returns-in_err-receive-clause-faults g c =
+    c.receive.ensures.faults
+
+pub returns-in-Quiet-clause-faults : goal.returns-in-Quiet-clause-faults
+returns-in-Quiet-clause-faults g c =
+    c.receive.ensures.faults
+
+pub returns-in-Got-clause-faults : goal.returns-in-Got-clause-faults
+returns-in-Got-clause-faults g c =
+    c.receive.ensures.faults
+
+pub returns-in_err-receive-clause-held : goal.returns-in_err-receive-clause-held
+returns-in_err-receive-clause-held g c =
+    c.receive.ensures.held
+
+pub returns-in-Quiet-clause-held : goal.returns-in-Quiet-clause-held
+returns-in-Quiet-clause-held g c =
+    c.receive.ensures.held
+
+pub returns-in-Got-clause-held : goal.returns-in-Got-clause-held
+returns-in-Got-clause-held g c =
+    c.receive.ensures.held

@@ -1,11 +1,16 @@
 use Rattle.std.proofs.Common.{string_bytes, Some, Ok, Err, ◌∙◌, ◌≡◌, ◌≤◌, ℕ, List, inl, map, length, ap}
 use Rattle.std.proofs.Common.{sym, subst, arith, rules, refl}
 use Rattle.ipb_outside.specs.Told.{TakesCount}
+use Rattle.ipb_outside.specs.Doors.{Listens}
+use Rattle.ipb_outside.specs.Pairs.{GivesBack}
+use Rattle.board_greeting.specs.Links.{Keeps}
 use Rattle.board_greeting.specs.Reports.{shown_by}
+use Rattle.session_serve.specs.Executed.{CameInFrames}
 use Rattle.command_words.specs.declared.command.Command.{Command}
 use Rattle.command_words.specs.declared.command.Command.TheVariants.{Serve}
-use Rattle.command_terms.specs.Numbers.{no_memory_status, rack_fault_status, read_fault_status, refused_status}
-use Rattle.command_terms.specs.Numbers.{door_fault_status, usage_status}
+use Rattle.command_terms.specs.Numbers.{IsDoneStatus, no_memory_status, rack_fault_status, read_fault_status}
+use Rattle.command_terms.specs.Numbers.{door_fault_status, refused_status, usage_status}
+use Rattle.command_terms.specs.Outside.{GivenBack}
 use Rattle.command_terms.specs.Terms.{most_bytes}
 use Rattle.command_terms.proofs.Pairs.{therefore}
 use Rattle.ipbus_program.specs.Commands.{terms_of}
@@ -19,7 +24,8 @@ use Rattle.ipbus_program.proofs.Causes.{status_is}
 use Rattle.ipbus_program.proofs.Deserved.{accepted_whole, deserved_refused, no_failure, one_command, reads_of}
 use Rattle.ipbus_program.proofs.Deserved.{taken_of_long, used_undeserved}
 use Rattle.ipbus_program.proofs.Ending.{delivered, delivered_stays, listened, listened_at_most, outside, output_rises}
-use Rattle.ipbus_program.proofs.Ending.{shut, small_answer, unmade, unread_ended, usage_ended, written_with}
+use Rattle.ipbus_program.proofs.Ending.{shut, small_answer, status_of, textless_of, unmade, unread_ended}
+use Rattle.ipbus_program.proofs.Ending.{usage_ended, written_with}
 use Rattle.ipbus_program.proofs.program.control.Given.{Over}
 use Rattle.ipbus_program.proofs.program.control.Goals.{After-answer_command, In-Ok}
 use Rattle.ipbus_program.proofs.program.control.Goals as goal
@@ -82,6 +88,43 @@ small_status g c =
     (g.S.Source.left c.args.input.now) (g.S.Source.left c.answer_command.new.input) _ c.in-Ok.answer.status
     c.in-Ok.answer.text.items c.in-Ok.ensures.leaves.2.4.owed
 
+-- so it is of the links and the pairs that were given back
+abbrev Gave : (g : Over) (c : After-answer_command g) → (GivenBack → Type 0) → Type 0
+Gave g c holds =
+    Keeps g.R.Rack g.R.L.Link c.args.rack.now c.answer_command.new.rack
+    (λ links. GivesBack g.D.Door g.D.Incoming.Source g.D.Outgoing.Sink c.args.door.now c.answer_command.new.door
+    (λ came back. holds (record { links = links; came = came; back = back })))
+
+-- a call with no answer ends with the status of the reason
+ended_without : (g : Over) (c : After-answer_command g) (why : NoAnswer) → c.answer_command.result ≡ Err why
+    → Gave g c (λ given. Ended c.args.words.now (outside c.args.words.now c.in-Ok-Some.command
+    (c.terms_are_terms.ensures c.in-Ok-Some.command) (are_command g c) (g.S.Source.left c.args.input.now)
+    (g.S.Source.left c.answer_command.new.input) (g.R.Rack.made c.args.rack.now)
+    (g.R.Rack.made c.answer_command.new.rack) (g.O.Sink.written c.args.out.now) (g.O.Sink.written c.args.out.now)
+    given) (status_of why))
+ended_without g c why is =
+    unanswered (shown_by g.R.L.Link) g.D.Incoming.Source g.D.Outgoing.Sink _ _ _ _ _ _ c.args.words.now
+    c.in-Ok-Some.command (c.terms_are_terms.ensures c.in-Ok-Some.command) (are_command g c)
+    (g.S.Source.left c.args.input.now) (g.S.Source.left c.answer_command.new.input) (g.R.Rack.made c.args.rack.now)
+    (g.R.Rack.made c.answer_command.new.rack) (g.O.Sink.written c.args.out.now) c.answer_command.result why is
+    c.answer_command.ensures.leaves
+
+-- and its door listens as one does that was not done
+listens_without : (g : Over) (c : After-answer_command g) (why : NoAnswer) (port count : ℕ)
+    → AreCommand c.args.words.now (Serve port count)
+    → Listens port (IsDoneStatus (status_of why)) (g.D.Door.ports c.args.door.now)
+    (g.D.Door.ports c.answer_command.new.door)
+listens_without g c why port count asked =
+    let textless = textless_of why in
+    listened_at_most _ (status_of why) port (g.D.Door.ports c.args.door.now)
+    (g.D.Door.ports c.answer_command.new.door) (omega (arith, textless))
+    (c.answer_command.ensures.listens port count (served g c port count asked))
+
+-- no board executed what was in no frame
+in_frames : (g : Over) (c : After-answer_command g) (port count : ℕ) → AreCommand c.args.words.now (Serve port count)
+    → Gave g c (λ given. CameInFrames given.links given.came given.back)
+in_frames g c port count asked = c.answer_command.ensures.in_frames port count (served g c port count asked)
+
 -- ---- the clauses
 
 pub returns-in-Ok-None-clause-ended : goal.returns-in-Ok-None-clause-ended
@@ -126,39 +169,23 @@ returns-in-Ok-clause-ended g c =
 
 pub returns-in-Err-ReadFault-clause-ended : goal.returns-in-Err-ReadFault-clause-ended
 returns-in-Err-ReadFault-clause-ended g c =
-    unanswered (shown_by g.R.L.Link) g.D.Incoming.Source g.D.Outgoing.Sink _ _ _ _ _ _ c.args.words.now
-    c.in-Ok-Some.command (c.terms_are_terms.ensures c.in-Ok-Some.command)
-    (are_command g (goal.at.returns-in-Err-ReadFault-clause-ended g c).After-answer_command)
-    (g.S.Source.left c.args.input.now) (g.S.Source.left c.answer_command.new.input) (g.R.Rack.made c.args.rack.now)
-    (g.R.Rack.made c.answer_command.new.rack) (g.O.Sink.written c.args.out.now) c.in-Err-ReadFault.field-0 ReadFault
-    c.in-Err-ReadFault.field-0-is c.in-Err-ReadFault.ensures.leaves
+    ended_without g (goal.at.returns-in-Err-ReadFault-clause-ended g c).After-answer_command ReadFault
+    (c.in-Err-ReadFault.is ∙ ap Err c.in-Err-ReadFault.field-0-is)
 
 pub returns-in-Err-RackFault-clause-ended : goal.returns-in-Err-RackFault-clause-ended
 returns-in-Err-RackFault-clause-ended g c =
-    unanswered (shown_by g.R.L.Link) g.D.Incoming.Source g.D.Outgoing.Sink _ _ _ _ _ _ c.args.words.now
-    c.in-Ok-Some.command (c.terms_are_terms.ensures c.in-Ok-Some.command)
-    (are_command g (goal.at.returns-in-Err-RackFault-clause-ended g c).After-answer_command)
-    (g.S.Source.left c.args.input.now) (g.S.Source.left c.answer_command.new.input) (g.R.Rack.made c.args.rack.now)
-    (g.R.Rack.made c.answer_command.new.rack) (g.O.Sink.written c.args.out.now) c.in-Err-RackFault.field-0 RackFault
-    c.in-Err-RackFault.field-0-is c.in-Err-RackFault.ensures.leaves
+    ended_without g (goal.at.returns-in-Err-RackFault-clause-ended g c).After-answer_command RackFault
+    (c.in-Err-RackFault.is ∙ ap Err c.in-Err-RackFault.field-0-is)
 
 pub returns-in-Err-DoorFault-clause-ended : goal.returns-in-Err-DoorFault-clause-ended
 returns-in-Err-DoorFault-clause-ended g c =
-    unanswered (shown_by g.R.L.Link) g.D.Incoming.Source g.D.Outgoing.Sink _ _ _ _ _ _ c.args.words.now
-    c.in-Ok-Some.command (c.terms_are_terms.ensures c.in-Ok-Some.command)
-    (are_command g (goal.at.returns-in-Err-DoorFault-clause-ended g c).After-answer_command)
-    (g.S.Source.left c.args.input.now) (g.S.Source.left c.answer_command.new.input) (g.R.Rack.made c.args.rack.now)
-    (g.R.Rack.made c.answer_command.new.rack) (g.O.Sink.written c.args.out.now) c.in-Err-DoorFault.field-0 DoorFault
-    c.in-Err-DoorFault.field-0-is c.in-Err-DoorFault.ensures.leaves
+    ended_without g (goal.at.returns-in-Err-DoorFault-clause-ended g c).After-answer_command DoorFault
+    (c.in-Err-DoorFault.is ∙ ap Err c.in-Err-DoorFault.field-0-is)
 
 pub returns-clause-ended : goal.returns-clause-ended
 returns-clause-ended g c =
-    unanswered (shown_by g.R.L.Link) g.D.Incoming.Source g.D.Outgoing.Sink _ _ _ _ _ _ c.args.words.now
-    c.in-Ok-Some.command (c.terms_are_terms.ensures c.in-Ok-Some.command)
-    (are_command g (goal.at.returns-clause-ended g c).After-answer_command) (g.S.Source.left c.args.input.now)
-    (g.S.Source.left c.answer_command.new.input) (g.R.Rack.made c.args.rack.now)
-    (g.R.Rack.made c.answer_command.new.rack) (g.O.Sink.written c.args.out.now) c.in-Err-NoMemory.field-0 NoMemory
-    c.in-Err-NoMemory.field-0-is c.in-Err-NoMemory.ensures.leaves
+    ended_without g (goal.at.returns-clause-ended g c).After-answer_command NoMemory
+    (c.in-Err-NoMemory.is ∙ ap Err c.in-Err-NoMemory.field-0-is)
 
 pub returns-in-Ok-clause-input_faults : goal.returns-in-Ok-clause-input_faults
 returns-in-Ok-clause-input_faults g c =
@@ -353,31 +380,20 @@ returns-in-Ok-clause-listens g c port count asked =
     (served g (goal.at.returns-in-Ok-clause-listens g c).After-answer_command port count asked))
 
 pub returns-in-Err-ReadFault-clause-listens : goal.returns-in-Err-ReadFault-clause-listens
-returns-in-Err-ReadFault-clause-listens g c port count asked =
-    listened_at_most _ read_fault_status port (g.D.Door.ports c.args.door.now)
-    (g.D.Door.ports c.answer_command.new.door)
-    (omega arith) (c.in-Err-ReadFault.ensures.listens port count
-    (served g (goal.at.returns-in-Err-ReadFault-clause-listens g c).After-answer_command port count asked))
+returns-in-Err-ReadFault-clause-listens g c =
+    listens_without g (goal.at.returns-in-Err-ReadFault-clause-listens g c).After-answer_command ReadFault
 
 pub returns-in-Err-RackFault-clause-listens : goal.returns-in-Err-RackFault-clause-listens
-returns-in-Err-RackFault-clause-listens g c port count asked =
-    listened_at_most _ rack_fault_status port (g.D.Door.ports c.args.door.now)
-    (g.D.Door.ports c.answer_command.new.door)
-    (omega arith) (c.in-Err-RackFault.ensures.listens port count
-    (served g (goal.at.returns-in-Err-RackFault-clause-listens g c).After-answer_command port count asked))
+returns-in-Err-RackFault-clause-listens g c =
+    listens_without g (goal.at.returns-in-Err-RackFault-clause-listens g c).After-answer_command RackFault
 
 pub returns-in-Err-DoorFault-clause-listens : goal.returns-in-Err-DoorFault-clause-listens
-returns-in-Err-DoorFault-clause-listens g c port count asked =
-    listened_at_most _ door_fault_status port (g.D.Door.ports c.args.door.now)
-    (g.D.Door.ports c.answer_command.new.door)
-    (omega arith) (c.in-Err-DoorFault.ensures.listens port count
-    (served g (goal.at.returns-in-Err-DoorFault-clause-listens g c).After-answer_command port count asked))
+returns-in-Err-DoorFault-clause-listens g c =
+    listens_without g (goal.at.returns-in-Err-DoorFault-clause-listens g c).After-answer_command DoorFault
 
 pub returns-clause-listens : goal.returns-clause-listens
-returns-clause-listens g c port count asked =
-    listened_at_most _ no_memory_status port (g.D.Door.ports c.args.door.now) (g.D.Door.ports c.answer_command.new.door)
-    (omega arith) (c.in-Err-NoMemory.ensures.listens port count
-    (served g (goal.at.returns-clause-listens g c).After-answer_command port count asked))
+returns-clause-listens g c =
+    listens_without g (goal.at.returns-clause-listens g c).After-answer_command NoMemory
 
 pub returns-in-Ok-None-clause-in_frames : goal.returns-in-Ok-None-clause-in_frames
 returns-in-Ok-None-clause-in_frames g c port count asked =
@@ -389,26 +405,19 @@ returns-in-Err-clause-in_frames g c port count asked =
     none_in_frames (shown_by g.R.L.Link) g.D.Incoming.Source g.D.Outgoing.Sink _ _ _
 
 pub returns-in-Ok-clause-in_frames : goal.returns-in-Ok-clause-in_frames
-returns-in-Ok-clause-in_frames g c port count asked =
-    c.answer_command.ensures.in_frames port count
-    (served g (goal.at.returns-in-Ok-clause-in_frames g c).After-answer_command port count asked)
+returns-in-Ok-clause-in_frames g c = in_frames g (goal.at.returns-in-Ok-clause-in_frames g c).After-answer_command
 
 pub returns-in-Err-ReadFault-clause-in_frames : goal.returns-in-Err-ReadFault-clause-in_frames
-returns-in-Err-ReadFault-clause-in_frames g c port count asked =
-    c.answer_command.ensures.in_frames port count
-    (served g (goal.at.returns-in-Err-ReadFault-clause-in_frames g c).After-answer_command port count asked)
+returns-in-Err-ReadFault-clause-in_frames g c =
+    in_frames g (goal.at.returns-in-Err-ReadFault-clause-in_frames g c).After-answer_command
 
 pub returns-in-Err-RackFault-clause-in_frames : goal.returns-in-Err-RackFault-clause-in_frames
-returns-in-Err-RackFault-clause-in_frames g c port count asked =
-    c.answer_command.ensures.in_frames port count
-    (served g (goal.at.returns-in-Err-RackFault-clause-in_frames g c).After-answer_command port count asked)
+returns-in-Err-RackFault-clause-in_frames g c =
+    in_frames g (goal.at.returns-in-Err-RackFault-clause-in_frames g c).After-answer_command
 
 pub returns-in-Err-DoorFault-clause-in_frames : goal.returns-in-Err-DoorFault-clause-in_frames
-returns-in-Err-DoorFault-clause-in_frames g c port count asked =
-    c.answer_command.ensures.in_frames port count
-    (served g (goal.at.returns-in-Err-DoorFault-clause-in_frames g c).After-answer_command port count asked)
+returns-in-Err-DoorFault-clause-in_frames g c =
+    in_frames g (goal.at.returns-in-Err-DoorFault-clause-in_frames g c).After-answer_command
 
 pub returns-clause-in_frames : goal.returns-clause-in_frames
-returns-clause-in_frames g c port count asked =
-    c.answer_command.ensures.in_frames port count
-    (served g (goal.at.returns-clause-in_frames g c).After-answer_command port count asked)
+returns-clause-in_frames g c = in_frames g (goal.at.returns-clause-in_frames g c).After-answer_command

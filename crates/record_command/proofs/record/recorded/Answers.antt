@@ -11,7 +11,9 @@ use Rattle.session_run.specs.Links.{AreLeft, CanBeReached}
 use Rattle.session_run.proofs.Faults.{no_memory_is_no_rack}
 use Rattle.command_terms.proofs.Leaving.{same_Err}
 use Rattle.record_command.specs.Taps.{tap_ghosts}
-use Rattle.record_command.proofs.Leaving.{record_failed, record_written, rises_by}
+use Rattle.run_laws.proofs.Leaving.{run_answered, run_failed}
+use Rattle.record_command.specs.Steps.{Records}
+use Rattle.record_command.proofs.Leaving.{rises_by}
 use Rattle.record_command.proofs.Tapped.{at_first, one_board, one_is_one, ran_for, records_of}
 use Rattle.record_command.proofs.record.recorded.Goals as goal
 
@@ -20,8 +22,9 @@ returns-in_err-taps-clause-leaves g c =
     let made = g.R.Rack.made c.args.rack.now in (
       [],
       sym (append-nil (g.R.Rack.kept c.args.rack.now)),
-      record_failed c.args.session.now c.args.steps.now made made c.from_residual.result NoMemory [] tt
-          (none_made c.args.session.now.boards made) c.from_residual.ensures.0 c.from_residual.ensures.1 (λ rack. tt),
+      run_failed (Records c.args.session.now c.args.steps.now) c.args.session.now c.args.steps.now made made
+          c.from_residual.result NoMemory [] tt (none_made c.args.session.now.boards made) c.from_residual.ensures.0
+          c.from_residual.ensures.1 (λ rack. tt),
     )
 
 pub returns-in_err-greeted-clause-leaves : goal.returns-in_err-greeted-clause-leaves
@@ -31,8 +34,8 @@ returns-in_err-greeted-clause-leaves g c =
     let makes = g.R.Rack.made c.greet_tapped.new.rack in (
       [],
       c.greet_tapped.ensures.kept ∙ sym (append-nil (g.R.Rack.kept c.args.rack.now)),
-      record_failed c.args.session.now c.args.steps.now made makes c.from_residual-in_err-greeted.result
-          (run_fault c.in_err-greeted.field-0.0) [] tt
+      run_failed (Records c.args.session.now c.args.steps.now) c.args.session.now c.args.steps.now made makes
+          c.from_residual-in_err-greeted.result (run_fault c.in_err-greeted.field-0.0) [] tt
           (made_still boards 0 0 made made makes (none_made boards made) refl c.in_err-greeted.ensures.made)
           c.from_residual-in_err-greeted.ensures.0 c.from_residual-in_err-greeted.ensures.1 (λ rack. tt),
     )
@@ -58,9 +61,9 @@ returns-in_err-room-clause-leaves g c =
     let made = g.R.Rack.made c.args.rack.now in (
       [],
       sym (append-nil (g.R.Rack.kept c.args.rack.now)),
-      record_failed c.args.session.now c.args.steps.now made made c.from_residual-in_err-room.result NoMemory [] tt
-          (none_made c.args.session.now.boards made) c.from_residual-in_err-room.ensures.0
-          c.from_residual-in_err-room.ensures.1 (λ rack. tt),
+      run_failed (Records c.args.session.now c.args.steps.now) c.args.session.now c.args.steps.now made made
+          c.from_residual-in_err-room.result NoMemory [] tt (none_made c.args.session.now.boards made)
+          c.from_residual-in_err-room.ensures.0 c.from_residual-in_err-room.ensures.1 (λ rack. tt),
     )
 
 pub greet_tapped-requires-clause-reached : goal.greet_tapped-requires-clause-reached
@@ -89,7 +92,7 @@ returns-in_err-written-clause-leaves g c =
     (c.keep.ensures.made ∙ c.in_ok-greeted.ensures.made) in (
       link ∷ [],
       c.keep.ensures.kept ∙ ap (λ (l : List _). l ++ link ∷ []) c.greet_tapped.ensures.kept,
-      record_failed session steps made makes c.from_residual-in_err-written.result
+      run_failed (Records session steps) session steps made makes c.from_residual-in_err-written.result
           NoMemory (shows link ∷ [])
           (subst (λ (specs : List BoardSpec). AreLeft 0 specs steps (shows link ∷ [])) boards
           (subst (λ link. AreLeft 0 c.as_slice-boards.result.now steps (shows link ∷ [])) (sym c.into_parts-link.ensures.link)
@@ -118,7 +121,8 @@ returns-clause-leaves g c =
     (c.keep.ensures.made ∙ c.in_ok-greeted.ensures.made) in (
       link ∷ [],
       c.keep.ensures.kept ∙ ap (λ (l : List _). l ++ link ∷ []) c.greet_tapped.ensures.kept,
-      record_written session steps made makes c.in_ok-written.field-0 (shows link ∷ []) left links_made
+      run_answered (Records session steps) session steps made makes c.in_ok-written.field-0 (shows link ∷ []) left
+          links_made
           (records_of laws.sent laws.executed laws.proved c.a_lane_sends_a_merge_at_any_moment.ensures.first session
           steps board c.run_tapped-tap.result.1 c.into_parts-link.result.1 c.in_ok-written.field-0 (shows link)
           (one_board session.boards board c.requires.one there)

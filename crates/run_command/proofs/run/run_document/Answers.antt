@@ -1,15 +1,12 @@
 use Rattle.std.proofs.Common.{map, rules, subst}
 use Rattle.session_input.specs.Deserved.{BreaksInRun, Deserves}
-use Rattle.session_run.specs.declared.session.RunFault.TheVariants.{NoMemory, Rack}
-use Rattle.session_run.specs.Faults.{IsRunFailure}
 use Rattle.board_greeting.specs.Reports.{shown_by}
-use Rattle.command_terms.specs.Documents.{IsRefusedDocument}
-use Rattle.command_terms.specs.Outside.{NoneCame}
-use Rattle.command_terms.proofs.Leaving.{error_left, failure_left, none_came, refusal_left}
+use Rattle.run_laws.specs.Leaving.{RunLeaves}
 use Rattle.run_laws.specs.Steps.{MayRun}
-use Rattle.run_command.specs.Steps.{RunLeaves}
+use Rattle.run_laws.proofs.Leaving.{kept_unless_refused, no_memory_handed_on, no_memory_left, refused_document_left}
+use Rattle.run_command.specs.Steps.{Prints}
 use Rattle.run_command.specs.Terms.{run_terms}
-use Rattle.run_command.proofs.Leaving.{kept_unless_refused, run_leaves}
+use Rattle.run_command.proofs.Leaving.{is_done, run_leaves}
 use Rattle.run_command.proofs.run.run_document.Goals as goal
 
 pub transcript-requires-after_bounds : goal.transcript-requires-after_bounds
@@ -26,48 +23,39 @@ transcript-requires-after_bounds g c κs within =
 pub returns-in_err-refused-in-Err-Refused-clause-leaves :
     goal.returns-in_err-refused-in-Err-Refused-clause-leaves
 returns-in_err-refused-in-Err-Refused-clause-leaves g c =
-    let shown = shown_by g.R.L.Link in
-    failure_left NoneCame none_came IsRunFailure Rack shown _ run_terms c.args.bytes.now _
-    c.from_residual.result NoMemory c.from_residual.ensures.0 c.from_residual.ensures.1 (λ failed. failed)
+    no_memory_handed_on (shown_by g.R.L.Link) _ run_terms c.args.bytes.now _ c.from_residual.result
+    c.from_residual.ensures.0 c.from_residual.ensures.1
 
 pub returns-in-Ok-clause-leaves : goal.returns-in-Ok-clause-leaves
 returns-in-Ok-clause-leaves g c =
     let left = c.transcript.ensures.leaves in
-    let shown = shown_by g.R.L.Link in
     let made = g.R.Rack.made c.args.rack.now in
     let makes = g.R.Rack.made c.transcript.new.rack in
     let session = c.in-Ok.read.session in
-    let steps = c.in-Ok.read.steps.items in (
+    let steps = c.in-Ok.read.steps.items in
+    let links = map (shown_by g.R.L.Link) left.0 in (
       left.0,
       left.1,
       run_leaves c.runs_over_links_are_runs_of_a_session.ensures c.args.bytes.now session steps made makes
-          c.transcript.result (map shown left.0) c.in-Ok.ensures.runnable
+          c.transcript.result links c.in-Ok.ensures.runnable
           (c.a_document_can_run_its_steps.ensures c.args.bytes.now session steps c.in-Ok.ensures.runnable)
-          (subst (λ steps. RunLeaves session steps made makes c.transcript.result (map shown left.0))
+          (subst (λ steps. RunLeaves (Prints session steps) session steps made makes c.transcript.result links)
           c.deref.ensures.value left.2),
     )
 
 pub returns-in-Ok-clause-refused : goal.returns-in-Ok-clause-refused
 returns-in-Ok-clause-refused g c =
-    kept_unless_refused _ c.in-Ok.read.session c.deref.result.now _ c.transcript.result
-    c.transcript.ensures.leaves.2.prints
+    let links = map (shown_by g.R.L.Link) c.transcript.ensures.leaves.0 in
+    kept_unless_refused _ (Prints c.in-Ok.read.session c.deref.result.now links)
+    (is_done c.in-Ok.read.session c.deref.result.now links) c.transcript.result c.transcript.ensures.leaves.2.tells
 
 pub returns-in_ok-refused-in-Err-Refused-clause-leaves :
     goal.returns-in_ok-refused-in-Err-Refused-clause-leaves
 returns-in_ok-refused-in-Err-Refused-clause-leaves g c =
-    let shown = shown_by g.R.L.Link in
     let deserved : Deserves BreaksInRun c.args.bytes.now c.in-Err-Refused.refusal = search rules in
-    let answer = c.in_ok-refused-in-Err-Refused.field-0 in
-    let refused : IsRefusedDocument BreaksInRun c.args.bytes.now answer.text.items =
-    record {
-      refusal = c.in-Err-Refused.refusal;
-      deserved = deserved;
-      spelled = c.in_ok-refused-in-Err-Refused.ensures.text;
-    } in
-    refusal_left NoneCame none_came IsRunFailure Rack shown _ run_terms c.args.bytes.now _ answer refused
-    c.in_ok-refused-in-Err-Refused.ensures.status
+    refused_document_left (shown_by g.R.L.Link) _ run_terms c.args.bytes.now _ BreaksInRun (λ line refused. refused)
+    c.in_ok-refused-in-Err-Refused.field-0 c.in-Err-Refused.refusal deserved
+    c.in_ok-refused-in-Err-Refused.ensures.text c.in_ok-refused-in-Err-Refused.ensures.status
 
 pub returns-in-Err-NoMemory-clause-leaves : goal.returns-in-Err-NoMemory-clause-leaves
-returns-in-Err-NoMemory-clause-leaves g c =
-    let shown = shown_by g.R.L.Link in
-    error_left NoneCame none_came IsRunFailure Rack shown _ run_terms c.args.bytes.now _ NoMemory (λ failed. failed)
+returns-in-Err-NoMemory-clause-leaves g c = no_memory_left (shown_by g.R.L.Link) _ run_terms c.args.bytes.now _

@@ -1,45 +1,29 @@
-use Rattle.std.proofs.Common.{inl, refl, ◌≡◌, ◌++◌, ◌<◌, [], length, ap, sym, ◌∙◌, arith, length-append}
-use Rattle.std.proofs.lemmas.List.{append-nil, nil_from_length}
+use Rattle.std.proofs.Common.{inl, ◌∙◌, arith}
+use Rattle.std.proofs.lemmas.List.{nil_from_length}
 use Rattle.std.proofs.lemmas.Bool.Decides.{nat_tests}
-use Rattle.transaction_codec.specs.Request.{request_words, IsRequest, BreaksRequest, request_at, requests_words}
-use Rattle.transaction_codec.proofs.Lists.{first_fault, one_fault, fault_is_no_list, one_list}
 use Rattle.transaction_codec.proofs.Formats.{requests_format}
+use Rattle.transaction_codec.proofs.ReadSoFar.{read_more, only_list, fault_here, no_list, no_other_fault}
 use Rattle.transaction_codec.proofs.reading.read_requests.Goals as goal
 
--- what stands at the front of the rest is the first fault
 pub returns-in-Err-clause-refused : goal.returns-in-Err-clause-refused
 returns-in-Err-clause-refused c =
-    let some : 0 < length c.loop-rest.rest.now = grind (arith, nat_tests) in
-    let whole = c.loop-rest.invariant.parts in
-    rw c.fault_at.ensures (first_fault request_words IsRequest BreaksRequest request_at requests_format
-    c.args.words.now c.loop-rest.requests.items c.loop-rest.rest.now c.in-Err.why _
-    c.loop-rest.invariant.ranges whole some c.in-Err.ensures.exact
-    (omega (
-      arith,
-      ap length whole,
-      length-append (requests_words c.loop-rest.requests.items)
-          c.loop-rest.rest.now,
-    )))
+    rw c.fault_at.ensures (fault_here requests_format c.loop-rest.invariant c.in-Err.why (grind (arith, nat_tests))
+    c.in-Err.ensures.exact)
 
 pub returns-in-Err-clause-only : goal.returns-in-Err-clause-only
 returns-in-Err-clause-only c list ranges e =
-    let fault = rw c.fault_at.ensures at (returns-in-Err-clause-refused c) in
-    absurd (fault_is_no_list request_words IsRequest BreaksRequest request_at requests_format c.args.words.now _
-    c.in-Err.why fault list ranges e)
+    absurd (no_list requests_format c.loop-rest.invariant c.in-Err.why (grind (arith, nat_tests)) c.in-Err.ensures.exact
+    list ranges e)
 
--- nothing is left, so the words are this list and no other
 pub returns-clause-only : goal.returns-clause-only
-returns-clause-only c list ranges e =
-    let none : c.loop-rest.rest.now ≡ [] = nil_from_length _ (grind (arith, nat_tests)) in
-    let whole = c.loop-rest.invariant.parts ∙ ap (λ rest. requests_words c.loop-rest.requests.items ++ rest) none
-    ∙ append-nil (requests_words c.loop-rest.requests.items) in
-    one_list request_words IsRequest BreaksRequest request_at requests_format c.loop-rest.requests.items list
-    c.loop-rest.invariant.ranges ranges (sym whole ∙ e)
+returns-clause-only c = only_list requests_format c.loop-rest.invariant (nil_from_length _ (grind (arith, nat_tests)))
 
--- the fault that was found is the only one
 pub returns-in-Err-clause-faulty : goal.returns-in-Err-clause-faulty
 returns-in-Err-clause-faulty c place why fault =
-    let found = rw c.fault_at.ensures at (returns-in-Err-clause-refused c) in
-    let same = one_fault request_words IsRequest BreaksRequest request_at requests_format c.args.words.now _ place
-    c.in-Err.why why found fault in
-    inl (rw (c.fault_at.ensures, same.0, same.1) refl)
+    inl (c.fault_at.ensures ∙ no_other_fault requests_format c.loop-rest.invariant c.in-Err.why
+    (grind (arith, nat_tests)) c.in-Err.ensures.exact place why fault)
+
+pub loop-rest-preserved : goal.loop-rest-preserved
+loop-rest-preserved c =
+    read_more c.loop-rest.invariant c.in_ok-push-in-Ok.ensures.items c.in_ok-to_request-in-Ok.ensures
+    c.in-Ok.ensures.found

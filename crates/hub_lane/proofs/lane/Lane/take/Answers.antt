@@ -48,8 +48,8 @@ returns-in_default-of_ask-clause-taken g c =
       same = refl;
     }
 
-pub take-requires-clause-asked : goal.take-requires-clause-asked
-take-requires-clause-asked g c =
+pub take-taken-requires-clause-asked : goal.take-taken-requires-clause-asked
+take-taken-requires-clause-asked g c =
     let was = subst (λ (v : LaneState _). WasAsked v.items c.args.client c.args.seq) (sym c.self.view_is)
     c.requires.asked in
     subst (λ (xs : List Item). c.args.seq < asked_count c.args.client xs) (sym c.in_ok-reserve.ensures.items)
@@ -61,16 +61,16 @@ invariant_of-self-2 g c =
     let status : BoardStatus = record { mtu = l.mtu; buffers = l.buffers; next = l.first } in
     let items = l.book.items in
     let outcomes = l.outcomes.items in
-    let kept_is = c.in_ok-kept.kept in
+    let kept_is = c.in_ok-answer.answer in
     let x = took_of c.args.client c.args.seq kept_is l.give_ups in
     let ask = c.in-Some.ask in
     let at = c.in-Some.ensures.some in
     let was = subst (λ (v : LaneState _). WasAsked v.items c.args.client c.args.seq) (sym c.self.view_is)
     c.requires.asked in
     let became : slice_get outcomes ask ≡ Some (Some kept_is) = c.of_ask.ensures ∙ ap (λ (o : Option Outcome). Some o)
-    (c.in-Some-of_ask.is ∙ ap (λ (o : Outcome). Some o) (sym c.in_ok-kept.ensures)) in
-    let entry : c.take.new.self.items ≡ items ++ x ∷ [] =
-    c.take.ensures ∙ ap (λ (xs : List Item). xs ++ x ∷ []) c.in_ok-reserve.ensures.items in (
+    (c.in-Some-of_ask.is ∙ ap (λ (o : Outcome). Some o) (sym c.in_ok-answer.ensures)) in
+    let entry : c.take-taken.new.self.items ≡ items ++ x ∷ [] =
+    c.take-taken.ensures.items ∙ ap (λ (xs : List Item). xs ++ x ∷ []) c.in_ok-reserve.ensures.items in (
       subst (λ (xs : List Item). IsLane l.settings status l.engine xs outcomes l.outcomes.lates l.give_ups l.down
           l.spent
           (g.L.Link.telling l.link) (g.L.Link.faults l.link) (g.L.Link.quiets l.link)) (sym entry)
@@ -92,25 +92,25 @@ returns-clause-taken g c =
     let status : BoardStatus = record { mtu = l.mtu; buffers = l.buffers; next = l.first } in
     let items = l.book.items in
     let outcomes = l.outcomes.items in
-    let answer = c.in_ok-answer.answer in
+    let answer = c.take-taken.result in
+    let same : answer ≡ c.in_ok-answer.answer = c.take-taken.ensures.outcome in
     let x = took_of c.args.client c.args.seq answer l.give_ups in
     let ask = c.in-Some.ask in
     let at = c.in-Some.ensures.some in
     let was = subst (λ (v : LaneState _). WasAsked v.items c.args.client c.args.seq) (sym c.self.view_is)
     c.requires.asked in
     let became : slice_get outcomes ask ≡ Some (Some answer) = c.of_ask.ensures ∙ ap (λ (o : Option Outcome). Some o)
-    (c.in-Some-of_ask.is ∙ ap (λ (o : Outcome). Some o) (sym c.in_ok-answer.ensures)) in
-    let same : c.in_ok-kept.kept ≡ answer = c.in_ok-kept.ensures ∙ sym c.in_ok-answer.ensures in
-    let entry : c.take.new.self.items ≡ items ++ x ∷ [] =
-    c.take.ensures ∙ (ap (λ (o : Outcome). c.reserve.new.self.items ++ took_of c.args.client c.args.seq o l.give_ups ∷
+    (c.in-Some-of_ask.is ∙ ap (λ (o : Outcome). Some o) (sym (same ∙ c.in_ok-answer.ensures))) in
+    let entry : c.take-taken.new.self.items ≡ items ++ x ∷ [] =
+    c.take-taken.ensures.items ∙ (ap (λ (o : Outcome). c.reserve.new.self.items ++ took_of c.args.client c.args.seq o l.give_ups ∷
     [])
-    same ∙ ap (λ (xs : List Item). xs ++ x ∷ []) c.in_ok-reserve.ensures.items) in
+    (sym same) ∙ ap (λ (xs : List Item). xs ++ x ∷ []) c.in_ok-reserve.ensures.items) in
     subst (λ (v : LaneState _). Takes v c.args.client c.args.seq (record {
       link = l.link;
       settings = l.settings;
       status = status;
       hub = l.engine;
-      items = c.take.new.self.items;
+      items = c.take-taken.new.self.items;
       outcomes = outcomes;
       lates = l.outcomes.lates;
       give_ups = l.give_ups;

@@ -9,4 +9,4 @@ invariant_of-self-2 c =
     let r = c.self.inside in
     subst (λ (bodies : List PlannedBody). IsFirstUntaken bodies r.asked r.taken)
     (sym (c.in_ok-push.ensures.items ∙ ap (λ (b : PlannedBody). r.bodies.items ++ b ∷ []) c.new.ensures))
-    (first_planned r.bodies.items r.asked r.taken c.args.place c.self.invariant)
+    (first_planned r.bodies.items r.asked r.taken c.args.body c.self.invariant)

@@ -12,8 +12,8 @@ invariant_of-self-2 g c =
     let bytes = c.args.bytes.now in
     let more : c.push_reserved.new.self.items ≡ i.caught.items ++ sent_item bytes ∷ [] =
     c.push_reserved.ensures.items
-    ∙ (ap (λ (l : List Caught). l ++ c.in_ok-sent.sent ∷ []) c.take_room.ensures.same
-    ∙ ap (λ (one : Caught). i.caught.items ++ one ∷ []) c.in_ok-sent.ensures) in (
+    ∙ (ap (λ (l : List Caught). l ++ c.in_ok-item.item ∷ []) c.sent.ensures.same
+    ∙ ap (λ (one : Caught). i.caught.items ++ one ∷ []) c.in_ok-item.ensures.item) in (
       caught_sent bytes (link.held i.link) (link.held c.send.new.self) (link.telling i.link)
           (link.telling c.send.new.self) i.caught.items c.push_reserved.new.self.items c.self.invariant.0
           c.in_ok-send.ensures.sent (bytes_fit bytes (λ k. omega (arith, c.type_inv.bytes k))) c.requires more,

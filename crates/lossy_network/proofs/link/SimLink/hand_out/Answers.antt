@@ -1,4 +1,4 @@
-use Rattle.std.proofs.Common.{◌≡◌, ◌≤◌, ◌∙◌, ◌++◌, sym, ap, subst, List, ℕ, length}
+use Rattle.std.proofs.Common.{◌≤◌, ◌∙◌, sym, ap, subst, List, ℕ, length}
 use Rattle.world_core.specs.declared.link.TheConstants.{MAX_DATAGRAM}
 use Rattle.lossy_network.specs.Network.{Network, front}
 use Rattle.lossy_network.specs.Inside.{IsShort, network_of, stands}
@@ -19,7 +19,4 @@ returns-clause-short c =
     let i = c.self.inside in
     let there = c.in-Some-for_hub.ensures.some in
     let short = all_at IsShort i.air.air c.in-Some.place _ c.self.invariant.short there.there in
-    let bytes : c.extend_from_slice.new.self.items ≡ c.in-Some-for_hub.bytes.now =
-    (c.in_ok-extend_from_slice.ensures.items
-    ∙ ap (λ (front : List ℕ). front ++ c.in-Some-for_hub.bytes.now) c.requires.empty) in
-    subst (λ (xs : List ℕ). length xs ≤ MAX_DATAGRAM) (sym bytes) short
+    subst (λ (xs : List ℕ). length xs ≤ MAX_DATAGRAM) (sym c.in_ok-hand_over.ensures.bytes) short

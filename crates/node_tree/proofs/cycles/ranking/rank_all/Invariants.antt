@@ -1,6 +1,6 @@
 use Rattle.std.specs.FinMap.{entries}
 use Rattle.node_tree.specs.CycleSearch.{missing}
-use Rattle.node_tree.proofs.cycles.ranking.ranks_of.Given as goal
+use Rattle.node_tree.proofs.cycles.ranking.rank_all.Given as goal
 
 -- the tables that were not entered yet
 abbrev pub decreases-entering : goal.decreases-entering

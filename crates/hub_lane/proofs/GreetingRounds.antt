@@ -1,0 +1,299 @@
+-- Lemmas on a round of a greeting with its request, and on all rounds.
+use Rattle.std.proofs.Common.{◌≡◌, ℕ, ◌+◌, ◌*◌, ◌<◌, ◌≤◌, List, [], ◌∷◌, Option, Some, None, sym, ap, ◌∙◌, subst, arith}
+use Rattle.std.specs.Prelude.{Result, Ok, Err, IfOk, IfSome}
+use Rattle.std.proofs.lemmas.List.Sums.{sum_by-append}
+use Rattle.status_packet.specs.declared.status.Status.{Status}
+use Rattle.world_model.specs.declared.datagram.Direction.TheVariants as goes
+use Rattle.world_model.specs.Links.{Told, birth_of}
+use Rattle.world_model.specs.Settings.{Limits}
+use Rattle.world_core.specs.declared.link.Link.{Ghosts}
+use Rattle.world_core.specs.declared.link.LinkFault.{LinkFault}
+use Rattle.world_core.specs.Receives.{first_status}
+use Rattle.world_core.specs.Telling.{IfTelling, IsSent, Telling}
+use Rattle.hub_lane.specs.Heard.{EndWith}
+use Rattle.hub_lane.specs.Greeting.{CanBegin, CountsRound, EndsAskingWith, EndsGreetingWith, EndsRound}
+use Rattle.hub_lane.specs.Greeting.{EndsRoundWith, HandedOutNone, HasAskedAtMost, HasAskedNothing, IsUnused}
+use Rattle.hub_lane.specs.Greeting.{IsWithinRounds}
+use Rattle.hub_lane.specs.Greeting.{StaysFresh, requests_in}
+use Rattle.hub_lane.proofs.Greetings.{round_asked}
+use Rattle.hub_lane.proofs.Listening.{IsSameTelling, both_calls, same_first, same_fresh, same_handed}
+use Rattle.hub_lane.proofs.Requests.{for_board, if_both, one_for_board}
+
+pub fresh_then : (settings : Limits) (a b c : Option Telling) → IfTelling a b (StaysFresh settings)
+    → IfTelling b c (StaysFresh settings) → IfTelling a c (StaysFresh settings)
+fresh_then settings a b c is js =
+    both_calls (StaysFresh settings) (StaysFresh settings) (StaysFresh settings) a b c
+    (λ s t u first then. record { begins = then.begins; same_board = then.same_board ∙ first.same_board }) is js
+
+-- ---- a request
+
+sent_asks : (bytes : List ℕ) (before now : ℕ) (old new : Telling) → IsSent bytes before now old new
+    → HasAskedAtMost 1 old new
+sent_asks bytes before now old new is =
+    let told = ap (λ (t : Told). for_board t.air) is.told in
+    let more = sum_by-append one_for_board old.told.air (record {
+      direction = goes.ToBoard;
+      bytes = bytes;
+      birth = birth_of old.told bytes;
+    } ∷ []) in
+    omega (arith, told, more)
+
+-- a request joined the air, and then the hub listened
+pub request_asks : (bytes : List ℕ) (before now : ℕ) (a b c : Option Telling)
+    → IfTelling a b (IsSent bytes before now) → IfTelling b c HasAskedNothing → IfTelling a c (HasAskedAtMost 1)
+request_asks bytes before now a b c sent none =
+    both_calls (IsSent bytes before now) HasAskedNothing (HasAskedAtMost 1) a b c
+    (λ s t u is same. let most = sent_asks bytes before now s t is in omega (arith, most, same)) sent none
+
+-- a link that refused a send tells the same
+pub refused_same : (a b : Option Telling) → b ≡ a → IfTelling a b IsSameTelling
+refused_same a b e = subst (λ (x : Option Telling). IfTelling a x IsSameTelling) (sym e) (same_first a)
+
+pub same_asks : (most : ℕ) (a b : Option Telling) → IfTelling a b IsSameTelling → IfTelling a b (HasAskedAtMost most)
+same_asks most a b same = if_both IsSameTelling (HasAskedAtMost most) a b
+    (λ s t e. let asks = ap requests_in e in omega (arith, asks)) same
+
+-- ---- a round with its request
+
+pub asking_told : (settings : Limits) (q q1 q' h h1 h' : ℕ) (bytes : List ℕ)
+    (result : Result (Option Status) LinkFault) (a b c : Option Telling) → q1 ≡ q → h ≤ h1 → h1 ≤ h'
+    → IfTelling a b (IsSent bytes h h1)
+    → IfOk result (λ found. IfTelling b c (EndsRoundWith settings q1 q' h1 h' found))
+    → IfOk result (λ found. IfTelling a c (EndsAskingWith settings q q' h h' found))
+asking_told settings q q1 q' h h1 h' bytes (Ok found) a b c same le more sent ends =
+    both_calls (IsSent bytes h h1) (EndsRoundWith settings q1 q' h1 h' found)
+    (EndsAskingWith settings q q' h h' found) a b c
+    (λ s t u. round_asked settings q q1 q' h h1 h' bytes found s t u same le more) sent ends
+asking_told settings q q1 q' h h1 h' bytes (Err fault) a b c same le more sent ends = tt
+
+pub asking_ends : {L : Type 0} (seen : Ghosts L) (bytes : List ℕ) (before now : ℕ)
+    (result : Result (Option Status) LinkFault) (old mid new : L) → seen.quiets mid ≡ seen.quiets old
+    → seen.gots mid ≡ seen.gots old → IfTelling (seen.telling old) (seen.telling mid) (IsSent bytes before now)
+    → IfOk result (λ found. EndsRound seen found mid new) → IfOk result (λ found. EndsRound seen found old new)
+asking_ends seen bytes before now (Ok (Some status)) old mid new quiets gots sent is = record {
+  receives = is.receives;
+  heard = (let more = is.heard in omega (arith, gots, more));
+  counted = tt;
+  handed = tt;
+}
+asking_ends seen bytes before now (Ok None) old mid new quiets gots sent is = record {
+  receives = is.receives;
+  heard = tt;
+  counted = (let more = is.counted in omega (arith, quiets, gots, more));
+  handed = both_calls (IsSent bytes before now) HandedOutNone HandedOutNone (seen.telling old) (seen.telling mid)
+      (seen.telling new) (λ s t u first then. then ∙ first.handed) sent is.handed;
+}
+asking_ends seen bytes before now (Err fault) old mid new quiets gots sent is = tt
+
+pub counts_sent : {L : Type 0} (seen : Ghosts L) (old new : L) → seen.faults old ≤ seen.faults new
+    → seen.quiets new ≡ seen.quiets old → seen.gots new ≡ seen.gots old → seen.held old ≤ seen.held new
+    → CountsRound seen old new
+counts_sent seen old new faults quiets gots held = record {
+  faults = faults;
+  quiets = omega (arith, quiets);
+  most_quiets = omega (arith, quiets);
+  gots = omega (arith, gots);
+  most_gots = omega (arith, gots);
+  held = held;
+}
+
+pub counts_asked : {L : Type 0} (seen : Ghosts L) (old mid new : L) → seen.faults old ≤ seen.faults mid
+    → seen.quiets mid ≡ seen.quiets old → seen.gots mid ≡ seen.gots old → seen.held old ≤ seen.held mid
+    → CountsRound seen mid new → CountsRound seen old new
+counts_asked seen old mid new faults quiets gots held counts = record {
+  faults = (let more = counts.faults in omega (arith, faults, more));
+  quiets = (let more = counts.quiets in omega (arith, quiets, more));
+  most_quiets = (let most = counts.most_quiets in omega (arith, quiets, most));
+  gots = (let more = counts.gots in omega (arith, gots, more));
+  most_gots = (let most = counts.most_gots in omega (arith, gots, most));
+  held = (let more = counts.held in omega (arith, held, more));
+}
+
+-- ---- all rounds
+
+-- over a link that tells each round so far had a quiet receive and held a datagram
+abbrev pub HasPaid : ℕ → ℕ → ℕ → Telling → Type 0
+HasPaid rounds quiets held t = (rounds ≤ quiets) × (rounds ≤ held)
+
+-- no round so far had a status
+pub record IsAsking {L : Type 0} (seen : Ghosts L) (settings : Limits) (rounds : ℕ) (old now : L) : Type 0 where
+  pub fresh : IfTelling (seen.telling old) (seen.telling now) (StaysFresh settings)
+  pub handed : IfTelling (seen.telling old) (seen.telling now) HandedOutNone
+  pub asked : IfTelling (seen.telling old) (seen.telling now) (HasAskedAtMost rounds)
+  pub paid : IfSome (seen.telling now) (HasPaid rounds (seen.quiets now) (seen.held now))
+  pub few_quiets : seen.quiets now ≤ rounds
+  pub few_gots : seen.gots now ≤ 64 * rounds
+  pub counted : 64 * rounds ≤ 64 * seen.quiets now + seen.gots now
+  pub untold : first_status (seen.receives now) ≡ None
+  pub fault : seen.faults old ≤ seen.faults now
+
+none_paid : (quiets held : ℕ) (a : Option Telling) → IfSome a (HasPaid 0 quiets held)
+none_paid quiets held None = tt
+none_paid quiets held (Some t) = (omega arith, omega arith)
+
+pub asking_first : {L : Type 0} (seen : Ghosts L) (settings : Limits) (link : L) → IsUnused seen link
+    → IfSome (seen.telling link) (CanBegin settings) → IsAsking seen settings 0 link link
+asking_first seen settings link unused begins =
+    let a = seen.telling link in
+    let same = same_first a in
+    let no_quiets = unused.no_quiets in
+    let no_gots = unused.no_gots in
+    record {
+      fresh = same_fresh settings a a begins same;
+      handed = same_handed a a same;
+      asked = same_asks 0 a a same;
+      paid = none_paid (seen.quiets link) (seen.held link) a;
+      few_quiets = omega (arith, no_quiets);
+      few_gots = omega (arith, no_gots);
+      counted = omega arith;
+      untold = ap first_status unused.none_received;
+      fault = omega arith;
+    }
+
+pays_on : (settings : Limits) (rounds q q' h h' : ℕ) (b c : Option Telling) → rounds < 255
+    → IfSome b (HasPaid rounds q h) → IfTelling b c (EndsAskingWith settings q q' h h' None)
+    → IfSome c (HasPaid (rounds + 1) q' h')
+pays_on settings rounds q q' h h' None None few paid told = tt
+pays_on settings rounds q q' h h' None (Some u) few paid told = absurd told
+pays_on settings rounds q q' h h' (Some t) None few paid told = absurd told
+pays_on settings rounds q q' h h' (Some t) (Some u) few paid told =
+    let quiets = paid.0 in
+    let held = paid.1 in
+    let quiet = told.0 in
+    let rose = told.1 in
+    (omega (arith, quiets, quiet), omega (arith, held, rose, few))
+
+pub few_quiets_so_far : {L : Type 0} (seen : Ghosts L) (settings : Limits) (rounds : ℕ) (old now : L)
+    → settings.rounds ≤ 255 → rounds < settings.rounds → IsAsking seen settings rounds old now
+    → seen.quiets now ≤ 255
+few_quiets_so_far seen settings rounds old now most few so_far =
+    let few_quiets = so_far.few_quiets in omega (arith, few_quiets)
+
+pub few_gots_so_far : {L : Type 0} (seen : Ghosts L) (settings : Limits) (rounds : ℕ) (old now : L)
+    → settings.rounds ≤ 255 → rounds < settings.rounds → IsAsking seen settings rounds old now
+    → seen.gots now ≤ 64 * 255
+few_gots_so_far seen settings rounds old now most few so_far =
+    let few_gots = so_far.few_gots in omega (arith, few_gots)
+
+-- one more round without a status
+asked_in_vain : {L : Type 0} (seen : Ghosts L) (settings : Limits) (rounds : ℕ) (old now new : L) → rounds < 255
+    → IsAsking seen settings rounds old now
+    → IfTelling (seen.telling now) (seen.telling new) (StaysFresh settings)
+    → IfTelling (seen.telling now) (seen.telling new) (HasAskedAtMost 1)
+    → IfTelling (seen.telling now) (seen.telling new)
+    (EndsAskingWith settings (seen.quiets now) (seen.quiets new) (seen.held now) (seen.held new) None)
+    → EndsRound seen None now new → CountsRound seen now new → IsAsking seen settings (rounds + 1) old new
+asked_in_vain seen settings rounds old now new few so_far fresh asked told ended counts =
+    let a = seen.telling old in
+    let b = seen.telling now in
+    let c = seen.telling new in
+    let few_quiets = so_far.few_quiets in
+    let few_gots = so_far.few_gots in
+    let counted = so_far.counted in
+    let fault = so_far.fault in
+    let faults = counts.faults in
+    let most_quiets = counts.most_quiets in
+    let most_gots = counts.most_gots in
+    let more = ended.counted in
+    record {
+      fresh = fresh_then settings a b c so_far.fresh fresh;
+      handed = both_calls HandedOutNone HandedOutNone HandedOutNone a b c (λ s t u first then. then ∙ first)
+          so_far.handed ended.handed;
+      asked = both_calls (HasAskedAtMost rounds) (HasAskedAtMost 1) (HasAskedAtMost (rounds + 1)) a b c
+          (λ s t u first then. omega (arith, first, then)) so_far.asked asked;
+      paid = pays_on settings rounds (seen.quiets now) (seen.quiets new) (seen.held now) (seen.held new) b c few
+          so_far.paid told;
+      few_quiets = omega (arith, few_quiets, most_quiets);
+      few_gots = omega (arith, few_gots, most_gots);
+      counted = omega (arith, counted, more);
+      untold = ended.receives;
+      fault = omega (arith, fault, faults);
+    }
+
+pub asking_on : {L : Type 0} (seen : Ghosts L) (settings : Limits) (rounds : ℕ) (found : Option Status)
+    (old now new : L) → found ≡ None → settings.rounds ≤ 255 → rounds < settings.rounds
+    → IsAsking seen settings rounds old now
+    → IfTelling (seen.telling now) (seen.telling new) (StaysFresh settings)
+    → IfTelling (seen.telling now) (seen.telling new) (HasAskedAtMost 1)
+    → IfTelling (seen.telling now) (seen.telling new)
+    (EndsAskingWith settings (seen.quiets now) (seen.quiets new) (seen.held now) (seen.held new) found)
+    → EndsRound seen found now new → CountsRound seen now new → IsAsking seen settings (rounds + 1) old new
+asking_on seen settings rounds None old now new e most few so_far fresh asked told ended counts =
+    asked_in_vain seen settings rounds old now new (omega arith) so_far fresh asked told ended counts
+asking_on seen settings rounds (Some status) old now new e most few so_far fresh asked told ended counts = absurd cc
+
+-- ---- how a greeting ends
+
+-- the board was asked once for each quiet receive, and once more
+pub asked_at_most : (rounds q q' h : ℕ) (a b c : Option Telling) → q ≤ q' → IfTelling a b (HasAskedAtMost rounds)
+    → IfSome b (HasPaid rounds q h) → IfTelling b c (HasAskedAtMost 1) → IfTelling a c (HasAskedAtMost (q' + 1))
+asked_at_most rounds q q' h None None None more asked paid once = tt
+asked_at_most rounds q q' h None None (Some u) more asked paid once = absurd once
+asked_at_most rounds q q' h None (Some t) c more asked paid once = absurd asked
+asked_at_most rounds q q' h (Some s) None c more asked paid once = absurd asked
+asked_at_most rounds q q' h (Some s) (Some t) None more asked paid once = absurd once
+asked_at_most rounds q q' h (Some s) (Some t) (Some u) more asked paid once =
+    let least = paid.0 in omega (arith, asked, least, once, more)
+
+pub asked_so_far : (rounds q h : ℕ) (a b : Option Telling) → IfTelling a b (HasAskedAtMost rounds)
+    → IfSome b (HasPaid rounds q h) → IfTelling a b (HasAskedAtMost (q + 1))
+asked_so_far rounds q h None None asked paid = tt
+asked_so_far rounds q h None (Some t) asked paid = absurd asked
+asked_so_far rounds q h (Some s) None asked paid = absurd asked
+asked_so_far rounds q h (Some s) (Some t) asked paid = let least = paid.0 in omega (arith, asked, least)
+
+pub within_after : {L : Type 0} (seen : Ghosts L) (settings : Limits) (rounds most : ℕ) (old now new : L)
+    → rounds < most → IsAsking seen settings rounds old now → CountsRound seen now new → IsWithinRounds seen most new
+within_after seen settings rounds most old now new few so_far counts =
+    let few_quiets = so_far.few_quiets in
+    let few_gots = so_far.few_gots in
+    let most_quiets = counts.most_quiets in
+    let most_gots = counts.most_gots in
+    record {
+      quiets = omega (arith, few, few_quiets, most_quiets);
+      gots = omega (arith, few, few_gots, most_gots);
+    }
+
+pub within_so_far : {L : Type 0} (seen : Ghosts L) (settings : Limits) (rounds most : ℕ) (old now : L) → rounds ≤ most
+    → IsAsking seen settings rounds old now → IsWithinRounds seen most now
+within_so_far seen settings rounds most old now few so_far =
+    let few_quiets = so_far.few_quiets in
+    let few_gots = so_far.few_gots in
+    record { quiets = omega (arith, few, few_quiets); gots = omega (arith, few, few_gots) }
+
+pub faults_after : (faults now after : ℕ) → faults ≤ now → now ≤ after → faults ≤ after
+faults_after faults now after le more = omega (arith, le, more)
+
+greeting_told : (settings : Limits) (q q' h h' : ℕ) (status : Status) (b c : Option Telling)
+    → IfTelling b c (EndsAskingWith settings q q' h h' (Some status))
+    → IfSome c (EndsGreetingWith settings q' h' (Some status))
+greeting_told settings q q' h h' status None None is = tt
+greeting_told settings q q' h h' status None (Some u) is = absurd is
+greeting_told settings q q' h h' status (Some t) None is = tt
+greeting_told settings q q' h h' status (Some t) (Some u) is = is
+
+pub greeting_found : (settings : Limits) (q q' h h' : ℕ) (found : Option Status) (status : Status)
+    (b c : Option Telling) → found ≡ Some status → IfTelling b c (EndsAskingWith settings q q' h h' found)
+    → IfSome c (EndsGreetingWith settings q' h' (Some status))
+greeting_found settings q q' h h' found status b c e is =
+    greeting_told settings q q' h h' status b c
+    (subst (λ (x : Option Status). IfTelling b c (EndsAskingWith settings q q' h h' x)) e is)
+
+pub found_heard : {L : Type 0} (seen : Ghosts L) (found : Option Status) (status : Status) (old new : L)
+    → found ≡ Some status → EndsRound seen found old new
+    → (1 ≤ seen.gots new) × EndWith (Some status) (seen.receives new)
+found_heard seen found status old new e is =
+    let ends = subst (λ (x : Option Status). EndsRound seen x old new) e is in
+    let more = ends.heard in
+    (omega (arith, more), ends.receives)
+
+pub greeting_in_vain : (settings : Limits) (rounds q h : ℕ) (a : Option Telling) → settings.rounds ≤ rounds
+    → IfSome a (HasPaid rounds q h) → IfSome a (EndsGreetingWith settings q h None)
+greeting_in_vain settings rounds q h None most paid = tt
+greeting_in_vain settings rounds q h (Some t) most paid =
+    let quiets = paid.0 in
+    let held = paid.1 in
+    (omega (arith, most, quiets), omega (arith, most, held))
+
+pub waited_long : (most rounds q g : ℕ) → most ≤ rounds → 64 * rounds ≤ 64 * q + g → 64 * most ≤ 64 * q + g
+waited_long most rounds q g few counted = omega (arith, few, counted)
