@@ -15,7 +15,7 @@ use Rattle.hub_lane.specs.Greeting.{CanBegin, CountsRound, EndsAskingWith, EndsG
 use Rattle.hub_lane.specs.Greeting.{EndsRoundWith, HandedOutNone, HasAskedAtMost, HasAskedNothing, IsUnused}
 use Rattle.hub_lane.specs.Greeting.{IsWithinRounds}
 use Rattle.hub_lane.specs.Greeting.{StaysFresh, requests_in}
-use Rattle.hub_lane.proofs.Greetings.{round_asked}
+use Rattle.hub_lane.proofs.Greetings.{fresh_begins, round_asked}
 use Rattle.hub_lane.proofs.Listening.{IsSameTelling, both_calls, same_first, same_fresh, same_handed}
 use Rattle.hub_lane.proofs.Requests.{for_board, if_both, one_for_board}
 
@@ -131,9 +131,9 @@ none_paid : (quiets held : ℕ) (a : Option Telling) → IfSome a (HasPaid 0 qui
 none_paid quiets held None = tt
 none_paid quiets held (Some t) = (omega arith, omega arith)
 
-pub asking_first : {L : Type 0} (seen : Ghosts L) (settings : Limits) (link : L) → IsUnused seen link
+pub asking_first : {L : Type 0} {seen : Ghosts L} {settings : Limits} {link : L} → IsUnused seen link
     → IfSome (seen.telling link) (CanBegin settings) → IsAsking seen settings 0 link link
-asking_first seen settings link unused begins =
+asking_first {seen} {settings} {link} unused begins =
     let a = seen.telling link in
     let same = same_first a in
     let no_quiets = unused.no_quiets in
@@ -150,6 +150,61 @@ asking_first seen settings link unused begins =
       fault = omega arith;
     }
 
+asked_no_more : (rounds q h : ℕ) (a b : Option Telling) → IfTelling a b (HasAskedAtMost rounds)
+    → IfSome b (HasPaid rounds q h) → IfTelling a b (HasAskedAtMost (q + 1))
+asked_no_more rounds q h None None asked paid = tt
+asked_no_more rounds q h None (Some t) asked paid = absurd asked
+asked_no_more rounds q h (Some s) None asked paid = absurd asked
+asked_no_more rounds q h (Some s) (Some t) asked paid = let least = paid.0 in omega (arith, asked, least)
+
+paid_all : (settings : Limits) (rounds q h : ℕ) (a : Option Telling) → settings.rounds ≤ rounds
+    → IfSome a (HasPaid rounds q h) → IfSome a (EndsGreetingWith settings q h None)
+paid_all settings rounds q h None most paid = tt
+paid_all settings rounds q h (Some t) most paid =
+    let quiets = paid.0 in
+    let held = paid.1 in
+    (omega (arith, most, quiets), omega (arith, most, held))
+
+-- what the rounds so far leave; `end` is how many the settings say
+module _ {L : Type 0} {seen : Ghosts L} {settings : Limits} {rounds : ℕ} {old now : L}
+    (so_far : IsAsking seen settings rounds old now) where
+  pub begins_so_far : IfSome (seen.telling now) (CanBegin settings)
+  begins_so_far = fresh_begins settings (seen.telling old) (seen.telling now) so_far.fresh
+
+  pub few_quiets_so_far : rounds < 255 → seen.quiets now ≤ 255
+  few_quiets_so_far few = let few_quiets = so_far.few_quiets in omega (arith, few, few_quiets)
+
+  pub few_gots_so_far : rounds < 255 → seen.gots now ≤ 64 * 255
+  few_gots_so_far few = let few_gots = so_far.few_gots in omega (arith, few, few_gots)
+
+  pub asked_so_far : IfTelling (seen.telling old) (seen.telling now) (HasAskedAtMost (seen.quiets now + 1))
+  asked_so_far =
+      asked_no_more rounds (seen.quiets now) (seen.held now) (seen.telling old) (seen.telling now) so_far.asked
+      so_far.paid
+
+  pub within_so_far : {end most : ℕ} → end ≡ most → rounds ≤ end → IsWithinRounds seen most now
+  within_so_far ends few =
+      let few_quiets = so_far.few_quiets in
+      let few_gots = so_far.few_gots in
+      record { quiets = omega (arith, ends, few, few_quiets); gots = omega (arith, ends, few, few_gots) }
+
+  pub asked_in_vain : {end : ℕ} → end ≡ settings.rounds → end ≤ rounds
+      → IfSome (seen.telling now) (EndsGreetingWith settings (seen.quiets now) (seen.held now) None)
+  asked_in_vain ends all =
+      paid_all settings rounds (seen.quiets now) (seen.held now) (seen.telling now) (omega (arith, ends, all))
+      so_far.paid
+
+  pub waited_long : {end : ℕ} → end ≡ settings.rounds → end ≤ rounds
+      → 64 * settings.rounds ≤ 64 * seen.quiets now + seen.gots now
+  waited_long ends all = let counted = so_far.counted in omega (arith, ends, all, counted)
+
+  pub fresh_after : (new : L) → IfTelling (seen.telling now) (seen.telling new) (StaysFresh settings)
+      → IfTelling (seen.telling old) (seen.telling new) (StaysFresh settings)
+  fresh_after new fresh =
+      fresh_then settings (seen.telling old) (seen.telling now) (seen.telling new) so_far.fresh fresh
+
+-- ---- one more round
+
 pays_on : (settings : Limits) (rounds q q' h h' : ℕ) (b c : Option Telling) → rounds < 255
     → IfSome b (HasPaid rounds q h) → IfTelling b c (EndsAskingWith settings q q' h h' None)
     → IfSome c (HasPaid (rounds + 1) q' h')
@@ -163,106 +218,86 @@ pays_on settings rounds q q' h h' (Some t) (Some u) few paid told =
     let rose = told.1 in
     (omega (arith, quiets, quiet), omega (arith, held, rose, few))
 
-pub few_quiets_so_far : {L : Type 0} (seen : Ghosts L) (settings : Limits) (rounds : ℕ) (old now : L)
-    → settings.rounds ≤ 255 → rounds < settings.rounds → IsAsking seen settings rounds old now
-    → seen.quiets now ≤ 255
-few_quiets_so_far seen settings rounds old now most few so_far =
-    let few_quiets = so_far.few_quiets in omega (arith, few_quiets)
+asked_once_more : (rounds q q' h : ℕ) (a b c : Option Telling) → q ≤ q' → IfTelling a b (HasAskedAtMost rounds)
+    → IfSome b (HasPaid rounds q h) → IfTelling b c (HasAskedAtMost 1) → IfTelling a c (HasAskedAtMost (q' + 1))
+asked_once_more rounds q q' h None None None more asked paid once = tt
+asked_once_more rounds q q' h None None (Some u) more asked paid once = absurd once
+asked_once_more rounds q q' h None (Some t) c more asked paid once = absurd asked
+asked_once_more rounds q q' h (Some s) None c more asked paid once = absurd asked
+asked_once_more rounds q q' h (Some s) (Some t) None more asked paid once = absurd once
+asked_once_more rounds q q' h (Some s) (Some t) (Some u) more asked paid once =
+    let least = paid.0 in omega (arith, asked, least, once, more)
 
-pub few_gots_so_far : {L : Type 0} (seen : Ghosts L) (settings : Limits) (rounds : ℕ) (old now : L)
-    → settings.rounds ≤ 255 → rounds < settings.rounds → IsAsking seen settings rounds old now
-    → seen.gots now ≤ 64 * 255
-few_gots_so_far seen settings rounds old now most few so_far =
-    let few_gots = so_far.few_gots in omega (arith, few_gots)
+-- what one more round leaves, behind those so far
+module _ {L : Type 0} {seen : Ghosts L} {settings : Limits} {rounds : ℕ} {old now new : L}
+    (so_far : IsAsking seen settings rounds old now) (counts : CountsRound seen now new) where
+  -- the board was asked once for each quiet receive, and once more
+  pub asked_after : IfTelling (seen.telling now) (seen.telling new) (HasAskedAtMost 1)
+      → IfTelling (seen.telling old) (seen.telling new) (HasAskedAtMost (seen.quiets new + 1))
+  asked_after asked =
+      asked_once_more rounds (seen.quiets now) (seen.quiets new) (seen.held now) (seen.telling old) (seen.telling now)
+      (seen.telling new) counts.quiets so_far.asked so_far.paid asked
 
--- one more round without a status
-asked_in_vain : {L : Type 0} (seen : Ghosts L) (settings : Limits) (rounds : ℕ) (old now new : L) → rounds < 255
-    → IsAsking seen settings rounds old now
-    → IfTelling (seen.telling now) (seen.telling new) (StaysFresh settings)
-    → IfTelling (seen.telling now) (seen.telling new) (HasAskedAtMost 1)
-    → IfTelling (seen.telling now) (seen.telling new)
-    (EndsAskingWith settings (seen.quiets now) (seen.quiets new) (seen.held now) (seen.held new) None)
-    → EndsRound seen None now new → CountsRound seen now new → IsAsking seen settings (rounds + 1) old new
-asked_in_vain seen settings rounds old now new few so_far fresh asked told ended counts =
-    let a = seen.telling old in
-    let b = seen.telling now in
-    let c = seen.telling new in
-    let few_quiets = so_far.few_quiets in
-    let few_gots = so_far.few_gots in
-    let counted = so_far.counted in
-    let fault = so_far.fault in
-    let faults = counts.faults in
-    let most_quiets = counts.most_quiets in
-    let most_gots = counts.most_gots in
-    let more = ended.counted in
-    record {
-      fresh = fresh_then settings a b c so_far.fresh fresh;
-      handed = both_calls HandedOutNone HandedOutNone HandedOutNone a b c (λ s t u first then. then ∙ first)
-          so_far.handed ended.handed;
-      asked = both_calls (HasAskedAtMost rounds) (HasAskedAtMost 1) (HasAskedAtMost (rounds + 1)) a b c
-          (λ s t u first then. omega (arith, first, then)) so_far.asked asked;
-      paid = pays_on settings rounds (seen.quiets now) (seen.quiets new) (seen.held now) (seen.held new) b c few
-          so_far.paid told;
-      few_quiets = omega (arith, few_quiets, most_quiets);
-      few_gots = omega (arith, few_gots, most_gots);
-      counted = omega (arith, counted, more);
-      untold = ended.receives;
-      fault = omega (arith, fault, faults);
-    }
+  pub within_after : {end most : ℕ} → end ≡ most → rounds < end → IsWithinRounds seen most new
+  within_after ends few =
+      let few_quiets = so_far.few_quiets in
+      let few_gots = so_far.few_gots in
+      let most_quiets = counts.most_quiets in
+      let most_gots = counts.most_gots in
+      record {
+        quiets = omega (arith, ends, few, few_quiets, most_quiets);
+        gots = omega (arith, ends, few, few_gots, most_gots);
+      }
 
-pub asking_on : {L : Type 0} (seen : Ghosts L) (settings : Limits) (rounds : ℕ) (found : Option Status)
-    (old now new : L) → found ≡ None → settings.rounds ≤ 255 → rounds < settings.rounds
-    → IsAsking seen settings rounds old now
-    → IfTelling (seen.telling now) (seen.telling new) (StaysFresh settings)
+  pub faults_after : seen.faults old ≤ seen.faults new
+  faults_after =
+      let fault = so_far.fault in
+      let faults = counts.faults in
+      omega (arith, fault, faults)
+
+  -- it had no status either
+  none_again : rounds < 255 → IfTelling (seen.telling now) (seen.telling new) (StaysFresh settings)
+      → IfTelling (seen.telling now) (seen.telling new) (HasAskedAtMost 1)
+      → IfTelling (seen.telling now) (seen.telling new)
+      (EndsAskingWith settings (seen.quiets now) (seen.quiets new) (seen.held now) (seen.held new) None)
+      → EndsRound seen None now new → IsAsking seen settings (rounds + 1) old new
+  none_again few fresh asked told ended =
+      let a = seen.telling old in
+      let b = seen.telling now in
+      let c = seen.telling new in
+      let few_quiets = so_far.few_quiets in
+      let few_gots = so_far.few_gots in
+      let counted = so_far.counted in
+      let most_quiets = counts.most_quiets in
+      let most_gots = counts.most_gots in
+      let more = ended.counted in
+      record {
+        fresh = fresh_after so_far new fresh;
+        handed = both_calls HandedOutNone HandedOutNone HandedOutNone a b c (λ s t u first then. then ∙ first)
+            so_far.handed ended.handed;
+        asked = both_calls (HasAskedAtMost rounds) (HasAskedAtMost 1) (HasAskedAtMost (rounds + 1)) a b c
+            (λ s t u first then. omega (arith, first, then)) so_far.asked asked;
+        paid = pays_on settings rounds (seen.quiets now) (seen.quiets new) (seen.held now) (seen.held new) b c few
+            so_far.paid told;
+        few_quiets = omega (arith, few_quiets, most_quiets);
+        few_gots = omega (arith, few_gots, most_gots);
+        counted = omega (arith, counted, more);
+        untold = ended.receives;
+        fault = faults_after;
+      }
+
+pub asking_on : {L : Type 0} {seen : Ghosts L} {settings : Limits} {rounds : ℕ} {found : Option Status}
+    {old now new : L} → IsAsking seen settings rounds old now → CountsRound seen now new → rounds < 255
+    → found ≡ None → IfTelling (seen.telling now) (seen.telling new) (StaysFresh settings)
     → IfTelling (seen.telling now) (seen.telling new) (HasAskedAtMost 1)
     → IfTelling (seen.telling now) (seen.telling new)
     (EndsAskingWith settings (seen.quiets now) (seen.quiets new) (seen.held now) (seen.held new) found)
-    → EndsRound seen found now new → CountsRound seen now new → IsAsking seen settings (rounds + 1) old new
-asking_on seen settings rounds None old now new e most few so_far fresh asked told ended counts =
-    asked_in_vain seen settings rounds old now new (omega arith) so_far fresh asked told ended counts
-asking_on seen settings rounds (Some status) old now new e most few so_far fresh asked told ended counts = absurd cc
+    → EndsRound seen found now new → IsAsking seen settings (rounds + 1) old new
+asking_on {found = None} so_far counts few e fresh asked told ended =
+    none_again so_far counts few fresh asked told ended
+asking_on {found = Some status} so_far counts few e fresh asked told ended = absurd cc
 
--- ---- how a greeting ends
-
--- the board was asked once for each quiet receive, and once more
-pub asked_at_most : (rounds q q' h : ℕ) (a b c : Option Telling) → q ≤ q' → IfTelling a b (HasAskedAtMost rounds)
-    → IfSome b (HasPaid rounds q h) → IfTelling b c (HasAskedAtMost 1) → IfTelling a c (HasAskedAtMost (q' + 1))
-asked_at_most rounds q q' h None None None more asked paid once = tt
-asked_at_most rounds q q' h None None (Some u) more asked paid once = absurd once
-asked_at_most rounds q q' h None (Some t) c more asked paid once = absurd asked
-asked_at_most rounds q q' h (Some s) None c more asked paid once = absurd asked
-asked_at_most rounds q q' h (Some s) (Some t) None more asked paid once = absurd once
-asked_at_most rounds q q' h (Some s) (Some t) (Some u) more asked paid once =
-    let least = paid.0 in omega (arith, asked, least, once, more)
-
-pub asked_so_far : (rounds q h : ℕ) (a b : Option Telling) → IfTelling a b (HasAskedAtMost rounds)
-    → IfSome b (HasPaid rounds q h) → IfTelling a b (HasAskedAtMost (q + 1))
-asked_so_far rounds q h None None asked paid = tt
-asked_so_far rounds q h None (Some t) asked paid = absurd asked
-asked_so_far rounds q h (Some s) None asked paid = absurd asked
-asked_so_far rounds q h (Some s) (Some t) asked paid = let least = paid.0 in omega (arith, asked, least)
-
-pub within_after : {L : Type 0} (seen : Ghosts L) (settings : Limits) (rounds most : ℕ) (old now new : L)
-    → rounds < most → IsAsking seen settings rounds old now → CountsRound seen now new → IsWithinRounds seen most new
-within_after seen settings rounds most old now new few so_far counts =
-    let few_quiets = so_far.few_quiets in
-    let few_gots = so_far.few_gots in
-    let most_quiets = counts.most_quiets in
-    let most_gots = counts.most_gots in
-    record {
-      quiets = omega (arith, few, few_quiets, most_quiets);
-      gots = omega (arith, few, few_gots, most_gots);
-    }
-
-pub within_so_far : {L : Type 0} (seen : Ghosts L) (settings : Limits) (rounds most : ℕ) (old now : L) → rounds ≤ most
-    → IsAsking seen settings rounds old now → IsWithinRounds seen most now
-within_so_far seen settings rounds most old now few so_far =
-    let few_quiets = so_far.few_quiets in
-    let few_gots = so_far.few_gots in
-    record { quiets = omega (arith, few, few_quiets); gots = omega (arith, few, few_gots) }
-
-pub faults_after : (faults now after : ℕ) → faults ≤ now → now ≤ after → faults ≤ after
-faults_after faults now after le more = omega (arith, le, more)
+-- ---- a status was told
 
 greeting_told : (settings : Limits) (q q' h h' : ℕ) (status : Status) (b c : Option Telling)
     → IfTelling b c (EndsAskingWith settings q q' h h' (Some status))
@@ -272,28 +307,25 @@ greeting_told settings q q' h h' status None (Some u) is = absurd is
 greeting_told settings q q' h h' status (Some t) None is = tt
 greeting_told settings q q' h h' status (Some t) (Some u) is = is
 
-pub greeting_found : (settings : Limits) (q q' h h' : ℕ) (found : Option Status) (status : Status)
-    (b c : Option Telling) → found ≡ Some status → IfTelling b c (EndsAskingWith settings q q' h h' found)
-    → IfSome c (EndsGreetingWith settings q' h' (Some status))
-greeting_found settings q q' h h' found status b c e is =
+pub greeting_found : {L : Type 0} (seen : Ghosts L) (settings : Limits) {found : Option Status} {status : Status}
+    (old new : L) → found ≡ Some status
+    → IfTelling (seen.telling old) (seen.telling new)
+    (EndsAskingWith settings (seen.quiets old) (seen.quiets new) (seen.held old) (seen.held new) found)
+    → IfSome (seen.telling new) (EndsGreetingWith settings (seen.quiets new) (seen.held new) (Some status))
+greeting_found seen settings {status} old new e is =
+    let b = seen.telling old in
+    let c = seen.telling new in
+    let q = seen.quiets old in
+    let q' = seen.quiets new in
+    let h = seen.held old in
+    let h' = seen.held new in
     greeting_told settings q q' h h' status b c
     (subst (λ (x : Option Status). IfTelling b c (EndsAskingWith settings q q' h h' x)) e is)
 
-pub found_heard : {L : Type 0} (seen : Ghosts L) (found : Option Status) (status : Status) (old new : L)
+pub found_heard : {L : Type 0} {seen : Ghosts L} {found : Option Status} {status : Status} {old new : L}
     → found ≡ Some status → EndsRound seen found old new
     → (1 ≤ seen.gots new) × EndWith (Some status) (seen.receives new)
-found_heard seen found status old new e is =
+found_heard {seen} {old} {new} e is =
     let ends = subst (λ (x : Option Status). EndsRound seen x old new) e is in
     let more = ends.heard in
     (omega (arith, more), ends.receives)
-
-pub greeting_in_vain : (settings : Limits) (rounds q h : ℕ) (a : Option Telling) → settings.rounds ≤ rounds
-    → IfSome a (HasPaid rounds q h) → IfSome a (EndsGreetingWith settings q h None)
-greeting_in_vain settings rounds q h None most paid = tt
-greeting_in_vain settings rounds q h (Some t) most paid =
-    let quiets = paid.0 in
-    let held = paid.1 in
-    (omega (arith, most, quiets), omega (arith, most, held))
-
-pub waited_long : (most rounds q g : ℕ) → most ≤ rounds → 64 * rounds ≤ 64 * q + g → 64 * most ≤ 64 * q + g
-waited_long most rounds q g few counted = omega (arith, few, counted)

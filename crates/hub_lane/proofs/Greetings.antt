@@ -22,6 +22,7 @@ use Rattle.world_model.specs.Facts.{IsGreeting, IsGreetingOf, IsStart}
 use Rattle.world_model.specs.Links.{Told, IsHeard, birth_of, first_sends, heard_on, hears_all, sent_on}
 use Rattle.world_model.proofs.Lists.{all_get, get_seam, get_within}
 use Rattle.world_model.specs.Settings.{Limits}
+use Rattle.world_core.specs.declared.link.Link.{Ghosts}
 use Rattle.world_core.specs.declared.link.LinkFault.{LinkFault}
 use Rattle.world_core.specs.declared.link.LinkFault.TheVariants as fault
 use Rattle.world_core.specs.declared.link.Received.{Received}
@@ -114,12 +115,18 @@ receives_fresh law grows settings (Err fault.NoMemory) bytes before now old new 
     received_fresh law settings [] before now old new begins
     (unheard_in_air grows before now old new is begins.in_air) is
 
-pub fresh_on : HeardGoesOn → AirGrows → (settings : Limits) (result : Result Received LinkFault) (bytes : List ℕ)
-    (before now : ℕ) (old new : Option Telling) → IfSome old (CanBegin settings)
-    → IfTelling old new (Receives result bytes before now) → IfTelling old new (StaysFresh settings)
-fresh_on law grows settings result bytes before now old new begins is =
-    on_telling (CanBegin settings) (Receives result bytes before now) (StaysFresh settings) old new
-    (receives_fresh law grows settings result bytes before now) begins is
+-- a receive that came to this, over any link
+abbrev CameTo : {L : Type 0} → Ghosts L → List ℕ → L → L → Result Received LinkFault → Type 0
+CameTo seen bytes old new result =
+    IfTelling (seen.telling old) (seen.telling new) (Receives result bytes (seen.held old) (seen.held new))
+
+pub fresh_on : {L : Type 0} (seen : Ghosts L) → HeardGoesOn → AirGrows → (settings : Limits)
+    (result : Result Received LinkFault) (bytes : List ℕ) (old new : L) → IfSome (seen.telling old) (CanBegin settings)
+    → CameTo seen bytes old new result → IfTelling (seen.telling old) (seen.telling new) (StaysFresh settings)
+fresh_on seen law grows settings result bytes old new begins is =
+    on_telling (CanBegin settings) (Receives result bytes (seen.held old) (seen.held new)) (StaysFresh settings)
+    (seen.telling old) (seen.telling new)
+    (receives_fresh law grows settings result bytes (seen.held old) (seen.held new)) begins is
 
 -- the answer to what the board heard is neither still to be heard nor handed out
 answer_rose : AirGrows → (before now : ℕ) (old new : Telling) → IsQuiet before now old new
@@ -169,14 +176,18 @@ quiet_on_telling : HeardGoesOn → AirGrows → (settings : Limits) (before now 
 quiet_on_telling law grows settings before now old new begins is = quiet_held law grows settings before now old new
     begins is
 
-pub quiet_told : HeardGoesOn → AirGrows → (settings : Limits) (bytes : List ℕ) (before now : ℕ)
-    (old new : Option Telling) → IfSome old (CanBegin settings)
-    → IfTelling old new (Receives (Ok came.Quiet) bytes before now)
-    → IfTelling old new (IsHeardFrom settings before now answer.Nothing)
-quiet_told law grows settings bytes before now old new begins is =
+pub quiet_told : {L : Type 0} (seen : Ghosts L) → HeardGoesOn → AirGrows → (settings : Limits) {received : Received}
+    (bytes : List ℕ) (old new : L) → received ≡ came.Quiet → IfSome (seen.telling old) (CanBegin settings)
+    → CameTo seen bytes old new (Ok received)
+    → IfTelling (seen.telling old) (seen.telling new)
+    (IsHeardFrom settings (seen.held old) (seen.held new) answer.Nothing)
+quiet_told seen law grows settings bytes old new e begins is =
+    let before = seen.held old in
+    let now = seen.held new in
     on_telling (CanBegin settings) (Receives (Ok came.Quiet) bytes before now)
-    (IsHeardFrom settings before now answer.Nothing) old new
-    (quiet_on_telling law grows settings before now) begins is
+    (IsHeardFrom settings before now answer.Nothing) (seen.telling old) (seen.telling new)
+    (quiet_on_telling law grows settings before now) begins
+    (subst (λ (r : Received). CameTo seen bytes old new (Ok r)) e is)
 
 -- a datagram of a greeting tells the status of the board
 abbrev pub TellsAll : List ℕ → Answer → Type 0
@@ -212,22 +223,27 @@ got_greeted law grows tells settings bytes told all before now old new begins is
     (subst (λ (bs : List ℕ). IsStatusReply bs board.mtu board.buffers board.first) (sym greeting.bytes)
     (tells board.mtu board.buffers board.first)))
 
-pub got_told : HeardGoesOn → AirGrows → ReplyTells → (settings : Limits) (bytes : List ℕ) (told : Answer)
-    → TellsAll bytes told
-    → (before now : ℕ) (old new : Option Telling) → IfSome old (CanBegin settings)
-    → IfTelling old new (Receives (Ok came.Got) bytes before now)
-    → IfTelling old new (IsHeardFrom settings before now told)
-got_told law grows tells settings bytes told all before now old new begins is =
+pub got_told : {L : Type 0} (seen : Ghosts L) → HeardGoesOn → AirGrows → ReplyTells → (settings : Limits)
+    {received : Received} (bytes : List ℕ) (told : Answer) (old new : L) → TellsAll bytes told → received ≡ came.Got
+    → IfSome (seen.telling old) (CanBegin settings) → CameTo seen bytes old new (Ok received)
+    → IfTelling (seen.telling old) (seen.telling new) (IsHeardFrom settings (seen.held old) (seen.held new) told)
+got_told seen law grows tells settings bytes told old new all e begins is =
+    let before = seen.held old in
+    let now = seen.held new in
     on_telling (CanBegin settings) (Receives (Ok came.Got) bytes before now)
-    (IsHeardFrom settings before now told) old new (got_greeted law grows tells settings bytes told all before now)
-    begins is
+    (IsHeardFrom settings before now told) (seen.telling old) (seen.telling new)
+    (got_greeted law grows tells settings bytes told all before now) begins
+    (subst (λ (r : Received). CameTo seen bytes old new (Ok r)) e is)
 
 -- ---- what was handed out
 
-pub handed_quiet : (bytes : List ℕ) (before now : ℕ) (a b : Option Telling)
-    → IfTelling a b (Receives (Ok came.Quiet) bytes before now) → IfTelling a b HandedOutNone
-handed_quiet bytes before now a b is = if_both (Receives (Ok came.Quiet) bytes before now) HandedOutNone a b
-    (λ s t quiet. quiet.received.handed ∙ append-nil s.handed) is
+pub handed_quiet : {L : Type 0} (seen : Ghosts L) {received : Received} (bytes : List ℕ) (old new : L)
+    → received ≡ came.Quiet → CameTo seen bytes old new (Ok received)
+    → IfTelling (seen.telling old) (seen.telling new) HandedOutNone
+handed_quiet seen bytes old new e is =
+    if_both (Receives (Ok came.Quiet) bytes (seen.held old) (seen.held new)) HandedOutNone (seen.telling old)
+    (seen.telling new) (λ s t quiet. quiet.received.handed ∙ append-nil s.handed)
+    (subst (λ (r : Received). CameTo seen bytes old new (Ok r)) e is)
 
 -- ---- a round with its request
 

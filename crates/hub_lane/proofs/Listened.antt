@@ -6,7 +6,7 @@ use Rattle.std.proofs.lemmas.List.{append-nil}
 use Rattle.std.proofs.lemmas.List.Elements.{Contains-append_left, Contains-append_right}
 use Rattle.std.proofs.lemmas.List.Sums.{sum_by_push, sum_by-append}
 use Rattle.ipb_base.specs.Lists.{IsPrefix}
-use Rattle.std.specs.Prelude.{get_or, is_none}
+use Rattle.std.specs.Prelude.{Ok, get_or, is_none}
 use Rattle.packet_codec.specs.Packet.{AreBytes}
 use Rattle.packet_ids.specs.Identifier.{identifier_at}
 use Rattle.world_model.specs.declared.offered.Fate.{Fate}
@@ -15,7 +15,9 @@ use Rattle.world_model.specs.Messages.{ToHub, Reply, StatusReply, to_hub}
 use Rattle.world_model.specs.declared.offered.Offered.{Offered}
 use Rattle.world_model.specs.Hub.{Hub, IsDrained, after_handing_out, give_up, hear_quiet, is_waiting, offer, take_message}
 use Rattle.world_model.proofs.Flushing.{quiet_cases}
-use Rattle.world_core.specs.Receives.{IsReplyAmong, first_status, quiets_in, since_status, tells_status}
+use Rattle.world_core.specs.declared.link.Received.{Received}
+use Rattle.world_core.specs.declared.link.Received.TheVariants.{Got, Quiet}
+use Rattle.world_core.specs.Receives.{IsReplyAmong, first_status, quiets_in, receives_after, since_status, tells_status}
 use Rattle.lane_record.specs.declared.outcome.Outcome.{Outcome}
 use Rattle.lane_record.specs.declared.outcome.Outcome.TheVariants as became
 use Rattle.lane_record.specs.Lates.{late_in, put_lates}
@@ -66,23 +68,33 @@ since_behind (Some bytes ∷ xs) ys e = by (since_behind xs ys) (tells_status (t
     by later false is e = later e
 
 -- a greeting goes on, or ends with the status that was told
-pub got_end : (bytes : List ℕ) (told : Answer) (before now : List (Option (List ℕ))) → first_status before ≡ None
+told_end : (bytes : List ℕ) (told : Answer) (before now : List (Option (List ℕ))) → first_status before ≡ None
     → IsSaid (to_hub bytes) told → now ≡ before ++ Some bytes ∷ [] → EndWith (status_in told) now
-got_end bytes (answer.Told status) before now none said are =
+told_end bytes (answer.Told status) before now none said are =
     subst (EndsWithStatus (status_of status)) (sym are) (record {
       told = first_behind before (Some bytes ∷ []) none
           ∙ ap (λ (m : Option ToHub). cond (tells_status m) m None) said;
       last = since_behind before (Some bytes ∷ []) none
           ∙ ap (λ (m : Option ToHub). cond {A = List (Option (List ℕ))} (tells_status m) [] []) said;
     })
-got_end bytes answer.Nothing before now none said are = absurd said
-got_end bytes answer.Other before now none said are =
+told_end bytes answer.Nothing before now none said are = absurd said
+told_end bytes answer.Other before now none said are =
     subst (λ (xs : List (Option (List ℕ))). first_status xs ≡ None) (sym are)
     (first_behind before (Some bytes ∷ []) none ∙ ap (λ (b : Bool). cond b (to_hub bytes) None) said)
 
-pub quiet_end : (before now : List (Option (List ℕ))) → first_status before ≡ None → now ≡ before ++ None ∷ []
-    → first_status now ≡ None
-quiet_end before now none are = subst (λ (xs : List (Option (List ℕ))). first_status xs ≡ None) (sym are)
+pub got_end : {received : Received} (bytes : List ℕ) (told : Answer) (before : List (Option (List ℕ)))
+    {now : List (Option (List ℕ))} → received ≡ Got → first_status before ≡ None → IsSaid (to_hub bytes) told
+    → now ≡ receives_after (Ok received) bytes before → EndWith (status_in told) now
+got_end bytes told before {now} e none said are =
+    told_end bytes told before now none said
+    (subst (λ (r : Received). now ≡ receives_after (Ok r) bytes before) e are)
+
+pub quiet_end : {received : Received} (bytes : List ℕ) (before : List (Option (List ℕ)))
+    {now : List (Option (List ℕ))} → received ≡ Quiet → first_status before ≡ None
+    → now ≡ receives_after (Ok received) bytes before → first_status now ≡ None
+quiet_end bytes before {now} e none are =
+    subst (λ (xs : List (Option (List ℕ))). first_status xs ≡ None)
+    (sym (subst (λ (r : Received). now ≡ receives_after (Ok r) bytes before) e are))
     (first_behind before (None ∷ []) none)
 
 -- bytes that are no status reply tell no status

@@ -15,7 +15,7 @@ use Rattle.hub_lane.specs.Greeting.{CanBegin, CountsAnswer, CountsNoAnswer, Coun
 use Rattle.hub_lane.specs.Greeting.{EndsRound, EndsRoundWith, HandedOutNone, HasAskedNothing}
 use Rattle.hub_lane.specs.Greeting.{IfNothing, IsExpecting, IsHeardFrom}
 use Rattle.hub_lane.specs.Greeting.{StaysFresh, gots_of_answer, quiets_of_answer, requests_in, status_in}
-use Rattle.hub_lane.proofs.Greetings.{on_telling}
+use Rattle.hub_lane.proofs.Greetings.{fresh_begins, on_telling}
 use Rattle.hub_lane.proofs.Requests.{if_both}
 
 -- what two calls do, one after the other
@@ -51,9 +51,9 @@ none_first : (held : ℕ) (a : Option Telling) → IfSome a (λ _. ◌≡◌ {A 
 none_first held None = tt
 none_first held (Some t) = (refl, refl)
 
-pub listening_first : {L : Type 0} (seen : Ghosts L) (link : L) → first_status (seen.receives link) ≡ None
+pub listening_first : {L : Type 0} {seen : Ghosts L} {link : L} → first_status (seen.receives link) ≡ None
     → IsListening seen 0 link link
-listening_first seen link untold = record {
+listening_first {seen} {link} untold = record {
   same = same_first (seen.telling link);
   first = none_first (seen.held link) (seen.telling link);
   quiet = refl;
@@ -95,66 +95,7 @@ no_other (Some s) None c P same is = absurd same
 no_other (Some s) (Some t) None P same is = absurd is
 no_other (Some s) (Some t) (Some u) P same is = absurd is
 
-other_came : {L : Type 0} (seen : Ghosts L) (settings : Limits) (other : ℕ) (old now new : L)
-    → seen.gots now ≤ 2 ^ 20 → IsListening seen other old now → first_status (seen.receives new) ≡ None
-    → IfTelling (seen.telling now) (seen.telling new)
-    (IsHeardFrom settings (seen.held now) (seen.held new) answer.Other)
-    → CountsAnswer seen answer.Other now new → seen.faults now ≤ seen.faults new → seen.held now ≤ seen.held new
-    → IsListening seen (other + 1) old new
-other_came seen settings other old now new few so_far untold told counts faults held =
-    let gone = no_other (seen.telling old) (seen.telling now) (seen.telling new)
-    ((other + 1 ≡ 0) × (seen.held new ≡ seen.held old)) so_far.same told in
-    let got = so_far.got in
-    let gots = counts.gots in
-    let fault = so_far.fault in
-    let hold = so_far.hold in
-    record {
-      same = gone.0;
-      first = gone.1;
-      quiet = counts.quiets ∙ so_far.quiet;
-      got = omega (arith, got, gots, few);
-      untold = untold;
-      fault = omega (arith, fault, faults);
-      hold = omega (arith, hold, held);
-    }
-
-pub others_came : {L : Type 0} (seen : Ghosts L) (settings : Limits) (other : ℕ) (heard : Answer) (old now new : L)
-    → heard ≡ answer.Other → seen.gots old ≤ 64 * 255 → other < 64 → IsListening seen other old now
-    → EndWith (status_in heard) (seen.receives new)
-    → IfTelling (seen.telling now) (seen.telling new) (IsHeardFrom settings (seen.held now) (seen.held new) heard)
-    → CountsAnswer seen heard now new → seen.faults now ≤ seen.faults new → seen.held now ≤ seen.held new
-    → IsListening seen (other + 1) old new
-others_came seen settings other (answer.Told status) old now new e few more so_far ends told counts faults held =
-    absurd cc
-others_came seen settings other answer.Nothing old now new e few more so_far ends told counts faults held = absurd cc
-others_came seen settings other answer.Other old now new e few more so_far ends told counts faults held =
-    let got = so_far.got in
-    other_came seen settings other old now new (omega (arith, got, few, more)) so_far ends told counts faults held
-
--- ---- what a round counts
-
--- a last step behind what was counted so far
-counts_on : {L : Type 0} (seen : Ghosts L) (other : ℕ) (old now new : L) → IsListening seen other old now
-    → seen.faults now ≤ seen.faults new → seen.held now ≤ seen.held new
-    → (seen.quiets now ≤ seen.quiets new) × (seen.quiets new ≤ seen.quiets now + 1)
-    → (seen.gots now ≤ seen.gots new) × (seen.gots new + other ≤ seen.gots now + 64) → CountsRound seen old new
-counts_on seen other old now new so_far faults held quiets gots =
-    let fault = so_far.fault in
-    let quiet = so_far.quiet in
-    let got = so_far.got in
-    let hold = so_far.hold in
-    let least_quiets = quiets.0 in
-    let most_quiets = quiets.1 in
-    let least_gots = gots.0 in
-    let most_gots = gots.1 in
-    record {
-      faults = omega (arith, fault, faults);
-      quiets = omega (arith, quiet, least_quiets);
-      most_quiets = omega (arith, quiet, most_quiets);
-      gots = omega (arith, got, least_gots);
-      most_gots = omega (arith, got, most_gots);
-      held = omega (arith, hold, held);
-    }
+-- ---- what answers count
 
 quiets_rise : (heard : Answer) (quiets now : ℕ) → quiets ≤ 255 → now ≡ quiets_of_answer heard quiets
     → (quiets ≤ now) × (now ≤ quiets + 1)
@@ -168,35 +109,12 @@ gots_rise (answer.Told status) gots now few is = (omega (arith, is, few), omega 
 gots_rise answer.Nothing gots now few is = (omega (arith, is), omega (arith, is))
 gots_rise answer.Other gots now few is = (omega (arith, is, few), omega (arith, is, few))
 
-pub counts_heard : {L : Type 0} (seen : Ghosts L) (other : ℕ) (heard : Answer) (old now new : L)
-    → seen.quiets old ≤ 255 → seen.gots old ≤ 64 * 255 → other < 64 → IsListening seen other old now
-    → CountsAnswer seen heard now new → seen.faults now ≤ seen.faults new → seen.held now ≤ seen.held new
-    → CountsRound seen old new
-counts_heard seen other heard old now new few_quiets few_gots more so_far counts faults held =
-    let quiet = so_far.quiet in
-    let got = so_far.got in
-    let rise = gots_rise heard (seen.gots now) (seen.gots new) (omega (arith, got, few_gots, more)) counts.gots in
-    let most = rise.1 in
-    counts_on seen other old now new so_far faults held
-    (quiets_rise heard (seen.quiets now) (seen.quiets new) (omega (arith, quiet, few_quiets)) counts.quiets)
-    (rise.0, omega (arith, most, more))
+quiet_more : (heard : Answer) (quiets now after : ℕ) → heard ≡ answer.Nothing → quiets ≤ 255 → now ≡ quiets
+    → after ≡ quiets_of_answer heard now → quiets + 1 ≤ after
+quiet_more heard quiets now after e few same is =
+    let rose = subst (λ (a : Answer). after ≡ quiets_of_answer a now) e is in omega (arith, rose, same, few)
 
-pub counts_unheard : {L : Type 0} (seen : Ghosts L) (other : ℕ) (old now new : L) → other < 64
-    → IsListening seen other old now → CountsNoAnswer seen now new → seen.faults now ≤ seen.faults new
-    → seen.held now ≤ seen.held new → CountsRound seen old new
-counts_unheard seen other old now new more so_far counts faults held =
-    let quiets = counts.quiets in
-    let gots = counts.gots in
-    counts_on seen other old now new so_far faults held (omega (arith, quiets), omega (arith, quiets))
-    (omega (arith, gots), omega (arith, gots, more))
-
-pub counts_others : {L : Type 0} (seen : Ghosts L) (other : ℕ) (old now : L) → other ≤ 64
-    → IsListening seen other old now → CountsRound seen old now
-counts_others seen other old now most so_far =
-    counts_on seen other old now now so_far (omega arith) (omega arith) (omega arith, omega arith)
-    (omega arith, omega (arith, most))
-
--- ---- how a round ends
+-- ---- how a round ends over a link that tells
 
 nothing_round : (settings : Limits) (q q' h h' now : ℕ) (a b c : Option Telling) → q + 1 ≤ q'
     → IfSome a (λ _. now ≡ h) → IfTelling a b IsSameTelling
@@ -209,83 +127,197 @@ nothing_round settings q q' h h' now (Some s) (Some t) None more first same is =
 nothing_round settings q q' h h' now (Some s) (Some t) (Some u) more first same is =
     (more, λ expecting. subst (λ (n : ℕ). Rose n h') first (is (subst IsExpecting (sym same) expecting)))
 
-pub round_nothing : (settings : Limits) (q q' h h' now : ℕ) (told : Answer) (a b c : Option Telling)
-    → told ≡ answer.Nothing → q + 1 ≤ q' → IfSome a (λ _. now ≡ h) → IfTelling a b IsSameTelling
-    → IfTelling b c (IsHeardFrom settings now h' told) → IfTelling a c (EndsRoundWith settings q q' h h' None)
-round_nothing settings q q' h h' now told a b c e more first same is =
-    nothing_round settings q q' h h' now a b c more first same
-    (subst (λ (x : Answer). IfTelling b c (IsHeardFrom settings now h' x)) e is)
-
-pub round_told : (settings : Limits) (q q' h h' now : ℕ) (told : Answer) (status : Status) (a b c : Option Telling)
-    → told ≡ answer.Told status → IfTelling a b IsSameTelling
-    → IfTelling b c (IsHeardFrom settings now h' told)
-    → IfTelling a c (EndsRoundWith settings q q' h h' (Some status))
-round_told settings q q' h h' now told status a b c e same is =
-    same_then (EndsRoundWith settings q q' h h' (Some status)) a b c same
-    (subst (λ (x : Answer). IfTelling b c (IsHeardFrom settings now h' x)) e is)
-
-pub held_first : (other held now : ℕ) (a : Option Telling) → IfSome a (λ _. (other ≡ 0) × (now ≡ held))
+held_first : (other held now : ℕ) (a : Option Telling) → IfSome a (λ _. (other ≡ 0) × (now ≡ held))
     → IfSome a (λ _. now ≡ held)
 held_first other held now None is = tt
 held_first other held now (Some s) is = is.1
 
 -- after 64 others the link tells nothing
-pub no_more : (settings : Limits) (q q' h h' other now : ℕ) (a b : Option Telling) → 64 ≤ other
+others_round : (settings : Limits) (q q' h h' other now : ℕ) (a b : Option Telling) → 64 ≤ other
     → IfSome a (λ _. (other ≡ 0) × (now ≡ h)) → IfTelling a b IsSameTelling
     → IfTelling a b (EndsRoundWith settings q q' h h' None)
-no_more settings q q' h h' other now None None some first same = tt
-no_more settings q q' h h' other now None (Some t) some first same = absurd same
-no_more settings q q' h h' other now (Some s) b some first same = absurd (let e = first.0 in omega (arith, e, some))
+others_round settings q q' h h' other now None None some first same = tt
+others_round settings q q' h h' other now None (Some t) some first same = absurd same
+others_round settings q q' h h' other now (Some s) b some first same =
+    absurd (let e = first.0 in omega (arith, e, some))
 
-pub ends_told : {L : Type 0} (seen : Ghosts L) (other : ℕ) (heard : Answer) (status : Status) (old now new : L)
-    → heard ≡ answer.Told status → seen.gots old ≤ 64 * 255 → other < 64 → IsListening seen other old now
-    → EndWith (status_in heard) (seen.receives new) → CountsAnswer seen heard now new
-    → EndsRound seen (Some status) old new
-ends_told seen other heard status old now new e few more so_far ends counts =
-    let gots = subst (λ (a : Answer). seen.gots new ≡ gots_of_answer a (seen.gots now)) e counts.gots in
-    let got = so_far.got in
-    record {
-      receives = subst (λ (a : Answer). EndWith (status_in a) (seen.receives new)) e ends;
-      heard = omega (arith, gots, got, few, more);
-      counted = tt;
-      handed = tt;
-    }
+-- ---- a round in which other datagrams came so far
 
-pub quiet_more : (heard : Answer) (quiets now after : ℕ) → heard ≡ answer.Nothing → quiets ≤ 255 → now ≡ quiets
-    → after ≡ quiets_of_answer heard now → quiets + 1 ≤ after
-quiet_more heard quiets now after e few same is =
-    let rose = subst (λ (a : Answer). after ≡ quiets_of_answer a now) e is in omega (arith, rose, same, few)
+module _ {L : Type 0} {seen : Ghosts L} {other : ℕ} {old now : L} (so_far : IsListening seen other old now) where
+  pub same_later : (R : Telling → Telling → Type 0) (new : L) → IfTelling (seen.telling now) (seen.telling new) R
+      → IfTelling (seen.telling old) (seen.telling new) R
+  same_later R new is = same_then R (seen.telling old) (seen.telling now) (seen.telling new) so_far.same is
 
-pub ends_quiet : {L : Type 0} (seen : Ghosts L) (other : ℕ) (heard : Answer) (old now new : L)
-    → heard ≡ answer.Nothing → seen.quiets old ≤ 255 → IsListening seen other old now
-    → EndWith (status_in heard) (seen.receives new) → CountsAnswer seen heard now new
-    → IfNothing heard (IfTelling (seen.telling now) (seen.telling new) HandedOutNone)
-    → EndsRound seen None old new
-ends_quiet seen other heard old now new e few so_far ends counts handed =
-    let gots = subst (λ (a : Answer). seen.gots new ≡ gots_of_answer a (seen.gots now)) e counts.gots in
-    let more = quiet_more heard (seen.quiets old) (seen.quiets now) (seen.quiets new) e few so_far.quiet
-    counts.quiets in
-    let got = so_far.got in
-    record {
-      receives = subst (λ (a : Answer). EndWith (status_in a) (seen.receives new)) e ends;
-      heard = tt;
-      counted = omega (arith, gots, got, more);
-      handed = same_then HandedOutNone (seen.telling old) (seen.telling now) (seen.telling new) so_far.same
-          (subst (λ (a : Answer). IfNothing a (IfTelling (seen.telling now) (seen.telling new) HandedOutNone)) e
-          handed);
-    }
+  pub fresh_so_far : (settings : Limits) → IfSome (seen.telling old) (CanBegin settings)
+      → IfTelling (seen.telling old) (seen.telling now) (StaysFresh settings)
+  fresh_so_far settings begins = same_fresh settings (seen.telling old) (seen.telling now) begins so_far.same
 
-pub ends_unheard : {L : Type 0} (seen : Ghosts L) (other : ℕ) (old now : L) → 64 ≤ other
-    → IsListening seen other old now → EndsRound seen None old now
-ends_unheard seen other old now most so_far =
-    let quiet = so_far.quiet in
-    let got = so_far.got in
-    record {
-      receives = so_far.untold;
-      heard = tt;
-      counted = omega (arith, quiet, got, most);
-      handed = same_handed (seen.telling old) (seen.telling now) so_far.same;
-    }
+  pub begins_so_far : (settings : Limits) → IfSome (seen.telling old) (CanBegin settings)
+      → IfSome (seen.telling now) (CanBegin settings)
+  begins_so_far settings begins =
+      fresh_begins settings (seen.telling old) (seen.telling now) (fresh_so_far settings begins)
+
+  pub none_asked : IfTelling (seen.telling old) (seen.telling now) HasAskedNothing
+  none_asked = same_asked (seen.telling old) (seen.telling now) so_far.same
+
+  -- another one came
+  other_came : (settings : Limits) {new : L} → seen.gots now ≤ 2 ^ 20 → first_status (seen.receives new) ≡ None
+      → IfTelling (seen.telling now) (seen.telling new)
+      (IsHeardFrom settings (seen.held now) (seen.held new) answer.Other)
+      → CountsAnswer seen answer.Other now new → seen.faults now ≤ seen.faults new → seen.held now ≤ seen.held new
+      → IsListening seen (other + 1) old new
+  other_came settings {new} few untold told counts faults held =
+      let gone = no_other (seen.telling old) (seen.telling now) (seen.telling new)
+      ((other + 1 ≡ 0) × (seen.held new ≡ seen.held old)) so_far.same told in
+      let got = so_far.got in
+      let gots = counts.gots in
+      let fault = so_far.fault in
+      let hold = so_far.hold in
+      record {
+        same = gone.0;
+        first = gone.1;
+        quiet = counts.quiets ∙ so_far.quiet;
+        got = omega (arith, got, gots, few);
+        untold = untold;
+        fault = omega (arith, fault, faults);
+        hold = omega (arith, hold, held);
+      }
+
+  pub others_came : (settings : Limits) {heard : Answer} {new : L} → heard ≡ answer.Other
+      → seen.gots old ≤ 64 * 255 → other < 64 → EndWith (status_in heard) (seen.receives new)
+      → IfTelling (seen.telling now) (seen.telling new) (IsHeardFrom settings (seen.held now) (seen.held new) heard)
+      → CountsAnswer seen heard now new → seen.faults now ≤ seen.faults new → seen.held now ≤ seen.held new
+      → IsListening seen (other + 1) old new
+  others_came settings {heard = answer.Told status} e few more ends told counts faults held = absurd cc
+  others_came settings {heard = answer.Nothing} e few more ends told counts faults held = absurd cc
+  others_came settings {heard = answer.Other} e few more ends told counts faults held =
+      let got = so_far.got in other_came settings (omega (arith, got, few, more)) ends told counts faults held
+
+  -- a last step behind what was counted so far
+  counts_on : (new : L) → seen.faults now ≤ seen.faults new → seen.held now ≤ seen.held new
+      → (seen.quiets now ≤ seen.quiets new) × (seen.quiets new ≤ seen.quiets now + 1)
+      → (seen.gots now ≤ seen.gots new) × (seen.gots new + other ≤ seen.gots now + 64) → CountsRound seen old new
+  counts_on new faults held quiets gots =
+      let fault = so_far.fault in
+      let quiet = so_far.quiet in
+      let got = so_far.got in
+      let hold = so_far.hold in
+      let least_quiets = quiets.0 in
+      let most_quiets = quiets.1 in
+      let least_gots = gots.0 in
+      let most_gots = gots.1 in
+      record {
+        faults = omega (arith, fault, faults);
+        quiets = omega (arith, quiet, least_quiets);
+        most_quiets = omega (arith, quiet, most_quiets);
+        gots = omega (arith, got, least_gots);
+        most_gots = omega (arith, got, most_gots);
+        held = omega (arith, hold, held);
+      }
+
+  pub counts_heard : {heard : Answer} {new : L} → seen.quiets old ≤ 255 → seen.gots old ≤ 64 * 255 → other < 64
+      → CountsAnswer seen heard now new → seen.faults now ≤ seen.faults new → seen.held now ≤ seen.held new
+      → CountsRound seen old new
+  counts_heard {heard} {new} few_quiets few_gots more counts faults held =
+      let quiet = so_far.quiet in
+      let got = so_far.got in
+      let rise = gots_rise heard (seen.gots now) (seen.gots new) (omega (arith, got, few_gots, more)) counts.gots in
+      let most = rise.1 in
+      counts_on new faults held
+      (quiets_rise heard (seen.quiets now) (seen.quiets new) (omega (arith, quiet, few_quiets)) counts.quiets)
+      (rise.0, omega (arith, most, more))
+
+  pub counts_unheard : {new : L} → other < 64 → CountsNoAnswer seen now new → seen.faults now ≤ seen.faults new
+      → seen.held now ≤ seen.held new → CountsRound seen old new
+  counts_unheard {new} more counts faults held =
+      let quiets = counts.quiets in
+      let gots = counts.gots in
+      counts_on new faults held (omega (arith, quiets), omega (arith, quiets))
+      (omega (arith, gots), omega (arith, gots, more))
+
+  pub counts_others : other ≤ 64 → CountsRound seen old now
+  counts_others most =
+      counts_on now (omega arith) (omega arith) (omega arith, omega arith) (omega arith, omega (arith, most))
+
+  -- the board told its status
+  pub round_told : (settings : Limits) {heard : Answer} {status : Status} (new : L) → heard ≡ answer.Told status
+      → IfTelling (seen.telling now) (seen.telling new) (IsHeardFrom settings (seen.held now) (seen.held new) heard)
+      → IfTelling (seen.telling old) (seen.telling new)
+      (EndsRoundWith settings (seen.quiets old) (seen.quiets new) (seen.held old) (seen.held new) (Some status))
+  round_told settings {status} new e is =
+      same_later
+      (EndsRoundWith settings (seen.quiets old) (seen.quiets new) (seen.held old) (seen.held new) (Some status)) new
+      (subst (λ (x : Answer). IfTelling (seen.telling now) (seen.telling new)
+      (IsHeardFrom settings (seen.held now) (seen.held new) x)) e is)
+
+  pub ends_told : {heard : Answer} {status : Status} {new : L} → heard ≡ answer.Told status
+      → seen.gots old ≤ 64 * 255 → other < 64 → EndWith (status_in heard) (seen.receives new)
+      → CountsAnswer seen heard now new → EndsRound seen (Some status) old new
+  ends_told {new} e few more ends counts =
+      let gots = subst (λ (a : Answer). seen.gots new ≡ gots_of_answer a (seen.gots now)) e counts.gots in
+      let got = so_far.got in
+      record {
+        receives = subst (λ (a : Answer). EndWith (status_in a) (seen.receives new)) e ends;
+        heard = omega (arith, gots, got, few, more);
+        counted = tt;
+        handed = tt;
+      }
+
+  -- a receive was quiet
+  more_quiet : {heard : Answer} {new : L} → heard ≡ answer.Nothing → seen.quiets old ≤ 255
+      → CountsAnswer seen heard now new → seen.quiets old + 1 ≤ seen.quiets new
+  more_quiet {heard} {new} e few counts =
+      quiet_more heard (seen.quiets old) (seen.quiets now) (seen.quiets new) e few so_far.quiet counts.quiets
+
+  pub round_nothing : (settings : Limits) {heard : Answer} {new : L} → heard ≡ answer.Nothing → seen.quiets old ≤ 255
+      → CountsAnswer seen heard now new
+      → IfTelling (seen.telling now) (seen.telling new) (IsHeardFrom settings (seen.held now) (seen.held new) heard)
+      → IfTelling (seen.telling old) (seen.telling new)
+      (EndsRoundWith settings (seen.quiets old) (seen.quiets new) (seen.held old) (seen.held new) None)
+  round_nothing settings {new} e few counts is =
+      nothing_round settings (seen.quiets old) (seen.quiets new) (seen.held old) (seen.held new) (seen.held now)
+      (seen.telling old) (seen.telling now) (seen.telling new) (more_quiet e few counts)
+      (held_first other (seen.held old) (seen.held now) (seen.telling old) so_far.first) so_far.same
+      (subst (λ (x : Answer). IfTelling (seen.telling now) (seen.telling new)
+      (IsHeardFrom settings (seen.held now) (seen.held new) x)) e is)
+
+  pub ends_quiet : {heard : Answer} {new : L} → heard ≡ answer.Nothing → seen.quiets old ≤ 255
+      → EndWith (status_in heard) (seen.receives new) → CountsAnswer seen heard now new
+      → IfNothing heard (IfTelling (seen.telling now) (seen.telling new) HandedOutNone)
+      → EndsRound seen None old new
+  ends_quiet {new} e few ends counts handed =
+      let gots = subst (λ (a : Answer). seen.gots new ≡ gots_of_answer a (seen.gots now)) e counts.gots in
+      let more = more_quiet e few counts in
+      let got = so_far.got in
+      record {
+        receives = subst (λ (a : Answer). EndWith (status_in a) (seen.receives new)) e ends;
+        heard = tt;
+        counted = omega (arith, gots, got, more);
+        handed = same_later HandedOutNone new
+            (subst (λ (a : Answer). IfNothing a (IfTelling (seen.telling now) (seen.telling new) HandedOutNone)) e
+            handed);
+      }
+
+  -- 64 others came
+  pub round_others : (settings : Limits) → 64 ≤ other
+      → IfTelling (seen.telling old) (seen.telling now)
+      (EndsRoundWith settings (seen.quiets old) (seen.quiets now) (seen.held old) (seen.held now) None)
+  round_others settings most =
+      others_round settings (seen.quiets old) (seen.quiets now) (seen.held old) (seen.held now) other (seen.held now)
+      (seen.telling old) (seen.telling now) most so_far.first so_far.same
+
+  pub ends_others : 64 ≤ other → EndsRound seen None old now
+  ends_others most =
+      let quiet = so_far.quiet in
+      let got = so_far.got in
+      record {
+        receives = so_far.untold;
+        heard = tt;
+        counted = omega (arith, quiet, got, most);
+        handed = same_handed (seen.telling old) (seen.telling now) so_far.same;
+      }
+
+-- ---- a call that failed
 
 -- what a failed call leaves
 pub on_err : {T E : Type 0} (result : Result T E) (P : Type 0) → P → OnErr result P

@@ -7,6 +7,7 @@ use Rattle.world_model.specs.declared.datagram.Datagram.{Datagram}
 use Rattle.world_model.specs.Board.{hear}
 use Rattle.world_model.specs.Links.{IsHeard, Told, first_sends, heard_on, hears_all}
 use Rattle.world_model.specs.World.{air_after_answer}
+use Rattle.world_core.specs.declared.link.Link.{Ghosts}
 use Rattle.world_core.specs.declared.link.LinkFault.{LinkFault}
 use Rattle.world_core.specs.declared.link.LinkFault.TheVariants as fault
 use Rattle.world_core.specs.declared.link.Received.{Received}
@@ -64,8 +65,12 @@ if_both R S None (Some t) f is = is
 if_both R S (Some s) None f is = is
 if_both R S (Some s) (Some t) f is = f s t is
 
-pub receive_asks_none : (result : Result Received LinkFault) (bytes : List ℕ) (before now : ℕ) (a b : Option Telling)
-    → IfTelling a b (Receives result bytes before now) → IfTelling a b HasAskedNothing
-receive_asks_none result bytes before now a b is =
-    if_both (Receives result bytes before now) HasAskedNothing a b
-    (λ s t. receives_ask_none result bytes before now s t) is
+pub receive_asks_none : {L : Type 0} (seen : Ghosts L) (result : Result Received LinkFault) (bytes : List ℕ)
+    (old new : L)
+    → IfTelling (seen.telling old) (seen.telling new) (Receives result bytes (seen.held old) (seen.held new))
+    → IfTelling (seen.telling old) (seen.telling new) HasAskedNothing
+receive_asks_none seen result bytes old new is =
+    let before = seen.held old in
+    let now = seen.held new in
+    if_both (Receives result bytes before now) HasAskedNothing (seen.telling old) (seen.telling new)
+    (receives_ask_none result bytes before now) is

@@ -1,31 +1,25 @@
-use Rattle.std.proofs.Common.{◌<◌, ◌≤◌, ℕ, arith, subst}
+use Rattle.std.proofs.Common.{arith}
 use Rattle.std.proofs.lemmas.Result.{IfOk-from_err}
-use Rattle.hub_lane.proofs.Greetings.{fresh_begins}
-use Rattle.hub_lane.proofs.GreetingRounds.{asked_at_most, asked_so_far, asking_first, asking_on, faults_after}
-use Rattle.hub_lane.proofs.GreetingRounds.{found_heard}
-use Rattle.hub_lane.proofs.GreetingRounds.{fresh_then, few_quiets_so_far, few_gots_so_far, greeting_found}
-use Rattle.hub_lane.proofs.GreetingRounds.{greeting_in_vain}
-use Rattle.hub_lane.proofs.GreetingRounds.{waited_long, within_after, within_so_far}
+use Rattle.hub_lane.proofs.GreetingRounds.{asked_after, asked_in_vain, asked_so_far, asking_first, asking_on}
+use Rattle.hub_lane.proofs.GreetingRounds.{begins_so_far, faults_after, few_gots_so_far, few_quiets_so_far}
+use Rattle.hub_lane.proofs.GreetingRounds.{found_heard, fresh_after, greeting_found, waited_long, within_after}
+use Rattle.hub_lane.proofs.GreetingRounds.{within_so_far}
 use Rattle.hub_lane.proofs.Listening.{on_err}
 use Rattle.hub_lane.proofs.greeting.ask_for_status.Goals as goal
 
 pub loop-round-init : goal.loop-round-init
 loop-round-init g c =
-    asking_first g.L.Link c.args.settings c.args.link.now c.requires.unused c.requires.begins
+    asking_first c.requires.unused c.requires.begins
 
 pub ask_once-requires-clause-few_quiets : goal.ask_once-requires-clause-few_quiets
 ask_once-requires-clause-few_quiets g c =
-    few_quiets_so_far g.L.Link c.args.settings c.loop-round.round c.args.link.now c.loop-round.link
-    (omega (arith, c.rounds-round-end.type_inv, c.rounds-round-end.ensures.value))
-    (subst (λ (n : ℕ). c.loop-round.round < n) c.rounds-round-end.ensures.value c.loop-round-test.true)
-    c.loop-round.invariant
+    few_quiets_so_far c.loop-round.invariant
+    (omega (arith, c.rounds-round-end.type_inv, c.loop-round-test.true))
 
 pub ask_once-requires-clause-few_gots : goal.ask_once-requires-clause-few_gots
 ask_once-requires-clause-few_gots g c =
-    few_gots_so_far g.L.Link c.args.settings c.loop-round.round c.args.link.now c.loop-round.link
-    (omega (arith, c.rounds-round-end.type_inv, c.rounds-round-end.ensures.value))
-    (subst (λ (n : ℕ). c.loop-round.round < n) c.rounds-round-end.ensures.value c.loop-round-test.true)
-    c.loop-round.invariant
+    few_gots_so_far c.loop-round.invariant
+    (omega (arith, c.rounds-round-end.type_inv, c.loop-round-test.true))
 
 pub ask_once-requires-clause-untold : goal.ask_once-requires-clause-untold
 ask_once-requires-clause-untold g c =
@@ -33,88 +27,48 @@ ask_once-requires-clause-untold g c =
 
 pub ask_once-requires-clause-begins : goal.ask_once-requires-clause-begins
 ask_once-requires-clause-begins g c =
-    let link = g.L.Link in
-    let old = c.args.link.now in
-    let now = c.loop-round.link in
-    fresh_begins c.args.settings (link.telling old) (link.telling now) c.loop-round.invariant.fresh
+    begins_so_far c.loop-round.invariant
 
 pub loop-round-preserved : goal.loop-round-preserved
 loop-round-preserved g c =
-    asking_on g.L.Link c.args.settings c.loop-round.round c.in_ok-status.field-0 c.args.link.now c.loop-round.link
-    c.ask_once.new.link c.in_default.is (omega (arith, c.rounds-round-end.type_inv, c.rounds-round-end.ensures.value))
-    (subst (λ (n : ℕ). c.loop-round.round < n) c.rounds-round-end.ensures.value c.loop-round-test.true)
-    c.loop-round.invariant c.ask_once.ensures.fresh c.ask_once.ensures.asked c.in_ok-status.ensures.told
-    c.in_ok-status.ensures.ended c.ask_once.ensures.counts
+    asking_on c.loop-round.invariant c.ask_once.ensures.counts
+    (omega (arith, c.rounds-round-end.type_inv, c.loop-round-test.true))
+    c.in_default.is c.ask_once.ensures.fresh c.ask_once.ensures.asked c.in_ok-status.ensures.told
+    c.in_ok-status.ensures.ended
 
 pub returns-in_err-status-clause-fresh : goal.returns-in_err-status-clause-fresh
 returns-in_err-status-clause-fresh g c =
-    let link = g.L.Link in
-    let old = c.args.link.now in
-    let now = c.loop-round.link in
-    let new = c.ask_once.new.link in
-    fresh_then c.args.settings (link.telling old) (link.telling now) (link.telling new) c.loop-round.invariant.fresh
-    c.ask_once.ensures.fresh
+    fresh_after c.loop-round.invariant c.ask_once.new.link c.ask_once.ensures.fresh
 
 pub returns-in_err-status-clause-asked : goal.returns-in_err-status-clause-asked
 returns-in_err-status-clause-asked g c =
-    let link = g.L.Link in
-    let old = c.args.link.now in
-    let now = c.loop-round.link in
-    let new = c.ask_once.new.link in
-    asked_at_most c.loop-round.round (link.quiets now) (link.quiets new) (link.held now) (link.telling old)
-    (link.telling now) (link.telling new) c.ask_once.ensures.counts.quiets c.loop-round.invariant.asked
-    c.loop-round.invariant.paid c.ask_once.ensures.asked
+    asked_after c.loop-round.invariant c.ask_once.ensures.counts c.ask_once.ensures.asked
 
 pub returns-in_err-status-clause-most : goal.returns-in_err-status-clause-most
 returns-in_err-status-clause-most g c =
-    within_after g.L.Link c.args.settings c.loop-round.round c.args.settings.rounds c.args.link.now c.loop-round.link
-    c.ask_once.new.link
-    (subst (λ (n : ℕ). c.loop-round.round < n) c.rounds-round-end.ensures.value c.loop-round-test.true)
-    c.loop-round.invariant c.ask_once.ensures.counts
+    within_after c.loop-round.invariant c.ask_once.ensures.counts c.rounds-round-end.ensures.value
+    c.loop-round-test.true
 
 pub returns-in_err-status-clause-faults : goal.returns-in_err-status-clause-faults
 returns-in_err-status-clause-faults g c =
-    let link = g.L.Link in
-    let old = c.args.link.now in
-    let now = c.loop-round.link in
-    let new = c.ask_once.new.link in
-    faults_after (link.faults old) (link.faults now) (link.faults new) c.loop-round.invariant.fault
-    c.ask_once.ensures.counts.faults
+    faults_after c.loop-round.invariant c.ask_once.ensures.counts
 
 pub returns-in-Some-clause-fresh : goal.returns-in-Some-clause-fresh
 returns-in-Some-clause-fresh g c =
-    let link = g.L.Link in
-    let old = c.args.link.now in
-    let now = c.loop-round.link in
-    let new = c.ask_once.new.link in
-    fresh_then c.args.settings (link.telling old) (link.telling now) (link.telling new) c.loop-round.invariant.fresh
-    c.ask_once.ensures.fresh
+    fresh_after c.loop-round.invariant c.ask_once.new.link c.ask_once.ensures.fresh
 
 pub returns-in-Some-clause-asked : goal.returns-in-Some-clause-asked
 returns-in-Some-clause-asked g c =
-    let link = g.L.Link in
-    let old = c.args.link.now in
-    let now = c.loop-round.link in
-    let new = c.ask_once.new.link in
-    asked_at_most c.loop-round.round (link.quiets now) (link.quiets new) (link.held now) (link.telling old)
-    (link.telling now) (link.telling new) c.ask_once.ensures.counts.quiets c.loop-round.invariant.asked
-    c.loop-round.invariant.paid c.ask_once.ensures.asked
+    asked_after c.loop-round.invariant c.ask_once.ensures.counts c.ask_once.ensures.asked
 
 pub returns-in-Some-clause-most : goal.returns-in-Some-clause-most
 returns-in-Some-clause-most g c =
-    within_after g.L.Link c.args.settings c.loop-round.round c.args.settings.rounds c.args.link.now c.loop-round.link
-    c.ask_once.new.link
-    (subst (λ (n : ℕ). c.loop-round.round < n) c.rounds-round-end.ensures.value c.loop-round-test.true)
-    c.loop-round.invariant c.ask_once.ensures.counts
+    within_after c.loop-round.invariant c.ask_once.ensures.counts c.rounds-round-end.ensures.value
+    c.loop-round-test.true
 
 pub returns-in-Some-clause-faults : goal.returns-in-Some-clause-faults
 returns-in-Some-clause-faults g c =
-    let link = g.L.Link in
-    let old = c.args.link.now in
-    let now = c.loop-round.link in
-    let new = c.ask_once.new.link in
-    faults_after (link.faults old) (link.faults now) (link.faults new) c.loop-round.invariant.fault
-    c.ask_once.ensures.counts.faults
+    faults_after c.loop-round.invariant c.ask_once.ensures.counts
 
 pub returns-in_err-status-clause-told : goal.returns-in_err-status-clause-told
 returns-in_err-status-clause-told g c =
@@ -142,23 +96,16 @@ returns-in_err-status-clause-none_told g c =
 
 pub returns-in-Some-clause-told : goal.returns-in-Some-clause-told
 returns-in-Some-clause-told g c =
-    let link = g.L.Link in
-    let old = c.args.link.now in
-    let now = c.loop-round.link in
-    let new = c.ask_once.new.link in
-    greeting_found c.args.settings (link.quiets now) (link.quiets new) (link.held now) (link.held new)
-    c.in_ok-status.field-0 c.in-Some.status (link.telling now) (link.telling new) c.in-Some.is
+    greeting_found g.L.Link c.args.settings c.loop-round.link c.ask_once.new.link c.in-Some.is
     c.in_ok-status.ensures.told
 
 pub returns-in-Some-clause-heard : goal.returns-in-Some-clause-heard
 returns-in-Some-clause-heard g c =
-    (found_heard g.L.Link c.in_ok-status.field-0 c.in-Some.status c.loop-round.link c.ask_once.new.link c.in-Some.is
-    c.in_ok-status.ensures.ended).0
+    (found_heard c.in-Some.is c.in_ok-status.ensures.ended).0
 
 pub returns-in-Some-clause-receives : goal.returns-in-Some-clause-receives
 returns-in-Some-clause-receives g c =
-    (found_heard g.L.Link c.in_ok-status.field-0 c.in-Some.status c.loop-round.link c.ask_once.new.link c.in-Some.is
-    c.in_ok-status.ensures.ended).1
+    (found_heard c.in-Some.is c.in_ok-status.ensures.ended).1
 
 pub returns-clause-fresh : goal.returns-clause-fresh
 returns-clause-fresh g c =
@@ -166,21 +113,11 @@ returns-clause-fresh g c =
 
 pub returns-clause-told : goal.returns-clause-told
 returns-clause-told g c =
-    let link = g.L.Link in
-    let old = c.args.link.now in
-    let now = c.loop-round.link in
-    greeting_in_vain c.args.settings c.loop-round.round (link.quiets now) (link.held now) (link.telling now)
-    (subst (λ (n : ℕ). n ≤ c.loop-round.round) c.rounds-round-end.ensures.value c.loop-round-test.false)
-    c.loop-round.invariant.paid
+    asked_in_vain c.loop-round.invariant c.rounds-round-end.ensures.value c.loop-round-test.false
 
 pub returns-clause-silent : goal.returns-clause-silent
 returns-clause-silent g c =
-    let link = g.L.Link in
-    let old = c.args.link.now in
-    let now = c.loop-round.link in
-    waited_long c.args.settings.rounds c.loop-round.round (link.quiets now) (link.gots now)
-    (subst (λ (n : ℕ). n ≤ c.loop-round.round) c.rounds-round-end.ensures.value c.loop-round-test.false)
-    c.loop-round.invariant.counted
+    waited_long c.loop-round.invariant c.rounds-round-end.ensures.value c.loop-round-test.false
 
 pub returns-clause-handed : goal.returns-clause-handed
 returns-clause-handed g c =
@@ -192,17 +129,11 @@ returns-clause-receives g c =
 
 pub returns-clause-asked : goal.returns-clause-asked
 returns-clause-asked g c =
-    let link = g.L.Link in
-    let old = c.args.link.now in
-    let now = c.loop-round.link in
-    asked_so_far c.loop-round.round (link.quiets now) (link.held now) (link.telling old) (link.telling now)
-    c.loop-round.invariant.asked c.loop-round.invariant.paid
+    asked_so_far c.loop-round.invariant
 
 pub returns-clause-most : goal.returns-clause-most
 returns-clause-most g c =
-    within_so_far g.L.Link c.args.settings c.loop-round.round c.args.settings.rounds c.args.link.now c.loop-round.link
-    (subst (λ (n : ℕ). c.loop-round.round ≤ n) c.rounds-round-end.ensures.value c.loop-round.auto.round-end)
-    c.loop-round.invariant
+    within_so_far c.loop-round.invariant c.rounds-round-end.ensures.value c.loop-round.auto.round-end
 
 pub returns-clause-faults : goal.returns-clause-faults
 returns-clause-faults g c =
