@@ -70,69 +70,6 @@ between_at m mid n i x is ex =
     let y = map_get (made_more n) m.knows i k.0 (sym (ap (λ (l : List Knowledge). slice_get l i) knows) ∙ k.1) in
     (k.0, k.1, ap (made_more n) (same_Some x y.0 (sym ex ∙ y.1)) ∙ y.2)
 
-long_after : (turns : List TurnId) (m mid new : MasterState) (n : ℕ) (jobs : List Job) (results : List ClientResult)
-    (ran : Bool) → mid ≡ after_seats m n → AreJoined turns mid new jobs results ran → length new.knows ≡ length m.knows
-long_after turns m mid new n jobs results ran is j = j.lanes.long
-    ∙ (ap (λ (z : MasterState). length z.knows) is ∙ length-map m.knows (made_more n))
-
-seats_after : (turns : List TurnId) (m mid new : MasterState) (n : ℕ) (jobs : List Job) (results : List ClientResult)
-    (ran : Bool) → mid ≡ after_seats m n → AreJoined turns mid new jobs results ran → new.seats ≡ m.seats + n
-seats_after turns m mid new n jobs results ran is j = ap (λ (z : MasterState). z.seats) j.rest_same
-    ∙ ap (λ (z : MasterState). z.seats) is
-
-pub were_taken_in : (turns : List TurnId) (plans : List ClientPlan) (m mid new : MasterState) (jobs : List Job)
-    (results : List ClientResult) (ran : Bool) → length jobs ≤ length plans → plans_of jobs ≡ take (length jobs) plans
-    → mid ≡ after_seats m (length jobs)
-    → AreJoined turns mid new jobs results ran → WereTakenIn plans m new
-were_taken_in turns plans m mid new jobs results ran few are is j = record {
-  made = length jobs;
-  few = few;
-  seats = seats_after turns m mid new (length jobs) jobs results ran is j;
-  same_turns = ap (λ (z : MasterState). z.turns) j.rest_same ∙ ap (λ (z : MasterState). z.turns) is;
-  same_room = ap (λ (z : MasterState). z.room) j.rest_same ∙ ap (λ (z : MasterState). z.room) is;
-  lanes = on_each (λ lane. HaveGoneOn plans (length jobs)) 0 m.knows new.knows
-      (long_after turns m mid new (length jobs) jobs results ran is j)
-      (λ i x y ex ey.
-      let k = between_at m mid (length jobs) i x is ex in
-      let t = j.lanes.each i k.0 y k.1 ey in
-      let many = length-map jobs (λ (z : Job). z.plan.now) in
-      let long : length t.passes ≡ length jobs = as_many t.passes (plans_of jobs) t.numbers ∙ many in record {
-        passes = t.passes;
-        took_in = took_in_at (plans_of jobs) results ran i (length jobs) x k.0 y k.2 t many;
-        seats' = long;
-        clients = (
-          map client_of (drop (length jobs) plans),
-          ap (map client_of) (cut_at plans (length jobs))
-              ∙ (map-append client_of (take (length jobs) plans) (drop (length jobs) plans)
-              ∙ ap (λ (l : List ℕ). l ++ map client_of (drop (length jobs) plans))
-              (sym (t.numbers ∙ ap (map client_of) are))),
-        );
-        no_plan = t.no_plan;
-      });
-}
-
-pub have_run : (turns : List TurnId) (plans : List ClientPlan) (m mid new : MasterState) (jobs : List Job)
-    (results : List ClientResult) (ran : Bool) → length jobs ≡ length plans → plans_of jobs ≡ take (length jobs) plans
-    → mid ≡ after_seats m (length jobs)
-    → AreJoined turns mid new jobs results ran → ran ≡ true → HaveRun plans results m new
-have_run turns plans m mid new jobs results ran all are is j did =
-    let whole : plans_of jobs ≡ plans = are ∙ take_whole plans (length jobs) (omega arith) in
-    let seats = seats_after turns m mid new (length jobs) jobs results ran is j in record {
-      seats = omega arith;
-      lanes = on_each (HaveRunOn plans results) 0 m.knows new.knows
-          (long_after turns m mid new (length jobs) jobs results ran is j)
-          (λ i x y ex ey.
-          let k = between_at m mid (length jobs) i x is ex in
-          let t = j.lanes.each i k.0 y k.1 ey in
-          let lane : 0 + i ≡ i = omega arith in record {
-            passes = t.passes;
-            took_in = took_in_at (plans_of jobs) results ran i (length jobs) x k.0 y k.2 t
-                (length-map jobs (λ (z : Job). z.plan.now));
-            each = subst (λ (n : ℕ). DidPlans n plans results t.passes) (sym lane)
-                (subst (λ (l : List ClientPlan). DidPlans i l results t.passes) whole (t.did_all did));
-          });
-    }
-
 clients_take : (first : ℕ) (plans : List ClientPlan) (n : ℕ) → AreOfClientsFrom first plans
     → AreOfClientsFrom first (take n plans)
 clients_take first [] zero a = tt
@@ -140,16 +77,70 @@ clients_take first [] (suc n) a = tt
 clients_take first (p ∷ ps) zero a = tt
 clients_take first (p ∷ ps) (suc n) a = (a.0, clients_take (first + 1) ps n a.1)
 
-pub all_joined : (turns : List TurnId) (plans : List ClientPlan) (m mid new : MasterState) (jobs : List Job)
-    (results : List ClientResult) (ran : Bool) → AreOfClientsFrom (m.seats + 1) plans
-    → plans_of jobs ≡ take (length jobs) plans → mid ≡ after_seats m (length jobs)
-    → AreJoined turns mid new jobs results ran → HasTakenIn (m.seats + 1) mid → HasTakenIn (new.seats + 1) new
-all_joined turns plans m mid new jobs results ran clients are is j taken =
-    let seats = seats_after turns m mid new (length jobs) jobs results ran is j in
-    let e : m.seats + 1 + length jobs ≡ new.seats + 1 = omega arith in
-    subst (λ (n : ℕ). HasTakenIn n new) e (j.taken_in (m.seats + 1)
-    (subst (AreOfClientsFrom (m.seats + 1)) (sym are) (clients_take (m.seats + 1) plans (length jobs) clients))
-    taken)
+-- jobs were seated for the first of the plans, and joined
+module _ {turns : List TurnId} (plans : List ClientPlan) (m : MasterState) {mid new : MasterState} {jobs : List Job}
+    {results : List ClientResult} {ran : Bool} (are : plans_of jobs ≡ take (length jobs) plans)
+    (is : mid ≡ after_seats m (length jobs)) (j : AreJoined turns mid new jobs results ran) where
+  long_after : length new.knows ≡ length m.knows
+  long_after = j.lanes.long
+      ∙ (ap (λ (z : MasterState). length z.knows) is ∙ length-map m.knows (made_more (length jobs)))
+
+  seats_after : new.seats ≡ m.seats + length jobs
+  seats_after = ap (λ (z : MasterState). z.seats) j.rest_same ∙ ap (λ (z : MasterState). z.seats) is
+
+  pub were_taken_in : length jobs ≤ length plans → WereTakenIn plans m new
+  were_taken_in few = record {
+    made = length jobs;
+    few = few;
+    seats = seats_after;
+    same_turns = ap (λ (z : MasterState). z.turns) j.rest_same ∙ ap (λ (z : MasterState). z.turns) is;
+    same_room = ap (λ (z : MasterState). z.room) j.rest_same ∙ ap (λ (z : MasterState). z.room) is;
+    lanes = on_each (λ lane. HaveGoneOn plans (length jobs)) 0 m.knows new.knows long_after
+        (λ i x y ex ey.
+        let k = between_at m mid (length jobs) i x is ex in
+        let t = j.lanes.each i k.0 y k.1 ey in
+        let many = length-map jobs (λ (z : Job). z.plan.now) in
+        let long : length t.passes ≡ length jobs = as_many t.passes (plans_of jobs) t.numbers ∙ many in record {
+          passes = t.passes;
+          took_in = took_in_at (plans_of jobs) results ran i (length jobs) x k.0 y k.2 t many;
+          seats' = long;
+          clients = (
+            map client_of (drop (length jobs) plans),
+            ap (map client_of) (cut_at plans (length jobs))
+                ∙ (map-append client_of (take (length jobs) plans) (drop (length jobs) plans)
+                ∙ ap (λ (l : List ℕ). l ++ map client_of (drop (length jobs) plans))
+                (sym (t.numbers ∙ ap (map client_of) are))),
+          );
+          no_plan = t.no_plan;
+        });
+  }
+
+  pub have_run : length jobs ≡ length plans → ran ≡ true → HaveRun plans results m new
+  have_run all did =
+      let whole : plans_of jobs ≡ plans = are ∙ take_whole plans (length jobs) (omega arith) in
+      let seats = seats_after in record {
+        seats = omega arith;
+        lanes = on_each (HaveRunOn plans results) 0 m.knows new.knows long_after
+            (λ i x y ex ey.
+            let k = between_at m mid (length jobs) i x is ex in
+            let t = j.lanes.each i k.0 y k.1 ey in
+            let lane : 0 + i ≡ i = omega arith in record {
+              passes = t.passes;
+              took_in = took_in_at (plans_of jobs) results ran i (length jobs) x k.0 y k.2 t
+                  (length-map jobs (λ (z : Job). z.plan.now));
+              each = subst (λ (n : ℕ). DidPlans n plans results t.passes) (sym lane)
+                  (subst (λ (l : List ClientPlan). DidPlans i l results t.passes) whole (t.did_all did));
+            });
+      }
+
+  pub all_joined : AreOfClientsFrom (m.seats + 1) plans → HasTakenIn (m.seats + 1) mid
+      → HasTakenIn (new.seats + 1) new
+  all_joined clients taken =
+      let seats = seats_after in
+      let e : m.seats + 1 + length jobs ≡ new.seats + 1 = omega arith in
+      subst (λ (n : ℕ). HasTakenIn n new) e (j.taken_in (m.seats + 1)
+      (subst (AreOfClientsFrom (m.seats + 1)) (sym are) (clients_take (m.seats + 1) plans (length jobs) clients))
+      taken)
 
 pub none_taken_in : (plans : List ClientPlan) (m : MasterState) → WereTakenIn plans m m
 none_taken_in plans m = record {
