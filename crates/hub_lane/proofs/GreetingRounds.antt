@@ -19,11 +19,16 @@ use Rattle.hub_lane.proofs.Greetings.{fresh_begins, round_asked}
 use Rattle.hub_lane.proofs.Listening.{IsSameTelling, both_calls, same_first, same_fresh, same_handed}
 use Rattle.hub_lane.proofs.Requests.{for_board, if_both, one_for_board}
 
-pub fresh_then : (settings : Limits) (a b c : Option Telling) → IfTelling a b (StaysFresh settings)
-    → IfTelling b c (StaysFresh settings) → IfTelling a c (StaysFresh settings)
-fresh_then settings a b c is js =
-    both_calls (StaysFresh settings) (StaysFresh settings) (StaysFresh settings) a b c
-    (λ s t u first then. record { begins = then.begins; same_board = then.same_board ∙ first.same_board }) is js
+pub fresh_then : {L : Type 0} (seen : Ghosts L) (settings : Limits) (old mid new : L)
+    → IfTelling (seen.telling old) (seen.telling mid) (StaysFresh settings)
+    → IfTelling (seen.telling mid) (seen.telling new) (StaysFresh settings)
+    → IfTelling (seen.telling old) (seen.telling new) (StaysFresh settings)
+fresh_then seen settings old mid new =
+    both_calls (StaysFresh settings) (StaysFresh settings) (StaysFresh settings) (seen.telling old) (seen.telling mid)
+    (seen.telling new) (λ s t u first then. record {
+      begins = then.begins;
+      same_board = then.same_board ∙ first.same_board;
+    })
 
 -- ---- a request
 
@@ -39,51 +44,71 @@ sent_asks bytes before now old new is =
     omega (arith, told, more)
 
 -- a request joined the air, and then the hub listened
-pub request_asks : (bytes : List ℕ) (before now : ℕ) (a b c : Option Telling)
-    → IfTelling a b (IsSent bytes before now) → IfTelling b c HasAskedNothing → IfTelling a c (HasAskedAtMost 1)
-request_asks bytes before now a b c sent none =
-    both_calls (IsSent bytes before now) HasAskedNothing (HasAskedAtMost 1) a b c
-    (λ s t u is same. let most = sent_asks bytes before now s t is in omega (arith, most, same)) sent none
+pub request_asks : {L : Type 0} (seen : Ghosts L) (bytes : List ℕ) (old mid new : L)
+    → IfTelling (seen.telling old) (seen.telling mid) (IsSent bytes (seen.held old) (seen.held mid))
+    → IfTelling (seen.telling mid) (seen.telling new) HasAskedNothing
+    → IfTelling (seen.telling old) (seen.telling new) (HasAskedAtMost 1)
+request_asks seen bytes old mid new =
+    let before = seen.held old in
+    let now = seen.held mid in
+    both_calls (IsSent bytes before now) HasAskedNothing (HasAskedAtMost 1) (seen.telling old) (seen.telling mid)
+    (seen.telling new) (λ s t u is same. let most = sent_asks bytes before now s t is in omega (arith, most, same))
 
--- a link that refused a send tells the same
-pub refused_same : (a b : Option Telling) → b ≡ a → IfTelling a b IsSameTelling
-refused_same a b e = subst (λ (x : Option Telling). IfTelling a x IsSameTelling) (sym e) (same_first a)
-
-pub same_asks : (most : ℕ) (a b : Option Telling) → IfTelling a b IsSameTelling → IfTelling a b (HasAskedAtMost most)
+same_asks : (most : ℕ) (a b : Option Telling) → IfTelling a b IsSameTelling → IfTelling a b (HasAskedAtMost most)
 same_asks most a b same = if_both IsSameTelling (HasAskedAtMost most) a b
     (λ s t e. let asks = ap requests_in e in omega (arith, asks)) same
 
+-- a link that refused a send tells the same
+refused_same : (a b : Option Telling) → b ≡ a → IfTelling a b IsSameTelling
+refused_same a b e = subst (λ (x : Option Telling). IfTelling a x IsSameTelling) (sym e) (same_first a)
+
+pub refused_fresh : (settings : Limits) {a b : Option Telling} → IfSome a (CanBegin settings) → b ≡ a
+    → IfTelling a b (StaysFresh settings)
+refused_fresh settings {a} {b} begins e = same_fresh settings a b begins (refused_same a b e)
+
+pub refused_asks : {a b : Option Telling} → b ≡ a → IfTelling a b (HasAskedAtMost 1)
+refused_asks {a} {b} e = same_asks 1 a b (refused_same a b e)
+
 -- ---- a round with its request
 
-pub asking_told : (settings : Limits) (q q1 q' h h1 h' : ℕ) (bytes : List ℕ)
-    (result : Result (Option Status) LinkFault) (a b c : Option Telling) → q1 ≡ q → h ≤ h1 → h1 ≤ h'
-    → IfTelling a b (IsSent bytes h h1)
-    → IfOk result (λ found. IfTelling b c (EndsRoundWith settings q1 q' h1 h' found))
-    → IfOk result (λ found. IfTelling a c (EndsAskingWith settings q q' h h' found))
-asking_told settings q q1 q' h h1 h' bytes (Ok found) a b c same le more sent ends =
-    both_calls (IsSent bytes h h1) (EndsRoundWith settings q1 q' h1 h' found)
-    (EndsAskingWith settings q q' h h' found) a b c
-    (λ s t u. round_asked settings q q1 q' h h1 h' bytes found s t u same le more) sent ends
-asking_told settings q q1 q' h h1 h' bytes (Err fault) a b c same le more sent ends = tt
-
-pub asking_ends : {L : Type 0} (seen : Ghosts L) (bytes : List ℕ) (before now : ℕ)
+pub asking_told : {L : Type 0} (seen : Ghosts L) (settings : Limits) (bytes : List ℕ)
     (result : Result (Option Status) LinkFault) (old mid new : L) → seen.quiets mid ≡ seen.quiets old
-    → seen.gots mid ≡ seen.gots old → IfTelling (seen.telling old) (seen.telling mid) (IsSent bytes before now)
+    → seen.held old ≤ seen.held mid → seen.held mid ≤ seen.held new
+    → IfTelling (seen.telling old) (seen.telling mid) (IsSent bytes (seen.held old) (seen.held mid))
+    → IfOk result (λ found. IfTelling (seen.telling mid) (seen.telling new)
+    (EndsRoundWith settings (seen.quiets mid) (seen.quiets new) (seen.held mid) (seen.held new) found))
+    → IfOk result (λ found. IfTelling (seen.telling old) (seen.telling new)
+    (EndsAskingWith settings (seen.quiets old) (seen.quiets new) (seen.held old) (seen.held new) found))
+asking_told seen settings bytes (Ok found) old mid new same le more =
+    let q = seen.quiets old in
+    let q1 = seen.quiets mid in
+    let q' = seen.quiets new in
+    let h = seen.held old in
+    let h1 = seen.held mid in
+    let h' = seen.held new in
+    both_calls (IsSent bytes h h1) (EndsRoundWith settings q1 q' h1 h' found)
+    (EndsAskingWith settings q q' h h' found) (seen.telling old) (seen.telling mid) (seen.telling new)
+    (λ s t u. round_asked settings q q1 q' h h1 h' bytes found s t u same le more)
+asking_told seen settings bytes (Err fault) old mid new same le more = λ sent ends. tt
+
+pub asking_ends : {L : Type 0} (seen : Ghosts L) (bytes : List ℕ) (result : Result (Option Status) LinkFault)
+    (old mid new : L) → seen.quiets mid ≡ seen.quiets old → seen.gots mid ≡ seen.gots old
+    → IfTelling (seen.telling old) (seen.telling mid) (IsSent bytes (seen.held old) (seen.held mid))
     → IfOk result (λ found. EndsRound seen found mid new) → IfOk result (λ found. EndsRound seen found old new)
-asking_ends seen bytes before now (Ok (Some status)) old mid new quiets gots sent is = record {
+asking_ends seen bytes (Ok (Some status)) old mid new quiets gots sent is = record {
   receives = is.receives;
   heard = (let more = is.heard in omega (arith, gots, more));
   counted = tt;
   handed = tt;
 }
-asking_ends seen bytes before now (Ok None) old mid new quiets gots sent is = record {
+asking_ends seen bytes (Ok None) old mid new quiets gots sent is = record {
   receives = is.receives;
   heard = tt;
   counted = (let more = is.counted in omega (arith, quiets, gots, more));
-  handed = both_calls (IsSent bytes before now) HandedOutNone HandedOutNone (seen.telling old) (seen.telling mid)
-      (seen.telling new) (λ s t u first then. then ∙ first.handed) sent is.handed;
+  handed = both_calls (IsSent bytes (seen.held old) (seen.held mid)) HandedOutNone HandedOutNone (seen.telling old)
+      (seen.telling mid) (seen.telling new) (λ s t u first then. then ∙ first.handed) sent is.handed;
 }
-asking_ends seen bytes before now (Err fault) old mid new quiets gots sent is = tt
+asking_ends seen bytes (Err fault) old mid new quiets gots sent is = tt
 
 pub counts_sent : {L : Type 0} (seen : Ghosts L) (old new : L) → seen.faults old ≤ seen.faults new
     → seen.quiets new ≡ seen.quiets old → seen.gots new ≡ seen.gots old → seen.held old ≤ seen.held new
@@ -169,7 +194,7 @@ paid_all settings rounds q h (Some t) most paid =
 module _ {L : Type 0} {seen : Ghosts L} {settings : Limits} {rounds : ℕ} {old now : L}
     (so_far : IsAsking seen settings rounds old now) where
   pub begins_so_far : IfSome (seen.telling now) (CanBegin settings)
-  begins_so_far = fresh_begins settings (seen.telling old) (seen.telling now) so_far.fresh
+  begins_so_far = fresh_begins seen settings old now so_far.fresh
 
   pub few_quiets_so_far : rounds < 255 → seen.quiets now ≤ 255
   few_quiets_so_far few = let few_quiets = so_far.few_quiets in omega (arith, few, few_quiets)
@@ -200,8 +225,7 @@ module _ {L : Type 0} {seen : Ghosts L} {settings : Limits} {rounds : ℕ} {old 
 
   pub fresh_after : (new : L) → IfTelling (seen.telling now) (seen.telling new) (StaysFresh settings)
       → IfTelling (seen.telling old) (seen.telling new) (StaysFresh settings)
-  fresh_after new fresh =
-      fresh_then settings (seen.telling old) (seen.telling now) (seen.telling new) so_far.fresh fresh
+  fresh_after new = fresh_then seen settings old now new so_far.fresh
 
 -- ---- one more round
 

@@ -265,19 +265,27 @@ sent_fresh law settings bytes before now old new e begins is =
       same_board = ap (λ (t : Told). t.board) told;
     }
 
-pub request_fresh : RequestGoesOn → (settings : Limits) (bytes : List ℕ) (before now : ℕ) (old new : Option Telling)
-    → bytes ≡ packet_bytes status_request → IfSome old (CanBegin settings)
-    → IfTelling old new (IsSent bytes before now) → IfTelling old new (StaysFresh settings)
-request_fresh law settings bytes before now old new e begins is =
-    on_telling (CanBegin settings) (IsSent bytes before now) (StaysFresh settings) old new
-    (λ s t. sent_fresh law settings bytes before now s t e) begins is
+pub request_fresh : {L : Type 0} (seen : Ghosts L) → RequestGoesOn → (settings : Limits) {bytes : List ℕ}
+    (old new : L) → bytes ≡ packet_bytes status_request → IfSome (seen.telling old) (CanBegin settings)
+    → IfTelling (seen.telling old) (seen.telling new) (IsSent bytes (seen.held old) (seen.held new))
+    → IfTelling (seen.telling old) (seen.telling new) (StaysFresh settings)
+request_fresh seen law settings {bytes} old new e begins is =
+    let before = seen.held old in
+    let now = seen.held new in
+    on_telling (CanBegin settings) (IsSent bytes before now) (StaysFresh settings) (seen.telling old)
+    (seen.telling new) (λ s t. sent_fresh law settings bytes before now s t e) begins is
 
-pub fresh_begins : (settings : Limits) (old new : Option Telling) → IfTelling old new (StaysFresh settings)
+begins_where_fresh : (settings : Limits) (old new : Option Telling) → IfTelling old new (StaysFresh settings)
     → IfSome new (CanBegin settings)
-fresh_begins settings None None is = tt
-fresh_begins settings None (Some t) is = absurd is
-fresh_begins settings (Some s) None is = tt
-fresh_begins settings (Some s) (Some t) is = is.begins
+begins_where_fresh settings None None is = tt
+begins_where_fresh settings None (Some t) is = absurd is
+begins_where_fresh settings (Some s) None is = tt
+begins_where_fresh settings (Some s) (Some t) is = is.begins
+
+pub fresh_begins : {L : Type 0} (seen : Ghosts L) (settings : Limits) (old new : L)
+    → IfTelling (seen.telling old) (seen.telling new) (StaysFresh settings)
+    → IfSome (seen.telling new) (CanBegin settings)
+fresh_begins seen settings old new = begins_where_fresh settings (seen.telling old) (seen.telling new)
 
 longer_air : (told : Told) (bytes : List ℕ) → length (sent_on told bytes).air ≡ length told.air + 1
 longer_air told bytes = length-append told.air (record {

@@ -155,7 +155,7 @@ module _ {L : Type 0} {seen : Ghosts L} {other : ℕ} {old now : L} (so_far : Is
   pub begins_so_far : (settings : Limits) → IfSome (seen.telling old) (CanBegin settings)
       → IfSome (seen.telling now) (CanBegin settings)
   begins_so_far settings begins =
-      fresh_begins settings (seen.telling old) (seen.telling now) (fresh_so_far settings begins)
+      fresh_begins seen settings old now (fresh_so_far settings begins)
 
   pub none_asked : IfTelling (seen.telling old) (seen.telling now) HasAskedNothing
   none_asked = same_asked (seen.telling old) (seen.telling now) so_far.same

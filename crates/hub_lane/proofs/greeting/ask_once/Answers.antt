@@ -3,9 +3,8 @@ use Rattle.std.proofs.lemmas.Result.{IfOk-from_err}
 use Rattle.world_core.specs.Receives.{first_status}
 use Rattle.hub_lane.proofs.Greetings.{fresh_begins, request_fresh}
 use Rattle.hub_lane.proofs.GreetingRounds.{asking_ends, asking_told, counts_asked, counts_sent, fresh_then}
-use Rattle.hub_lane.proofs.GreetingRounds.{refused_same}
-use Rattle.hub_lane.proofs.GreetingRounds.{request_asks, same_asks}
-use Rattle.hub_lane.proofs.Listening.{on_err, rose_later, same_fresh}
+use Rattle.hub_lane.proofs.GreetingRounds.{refused_asks, refused_fresh, request_asks}
+use Rattle.hub_lane.proofs.Listening.{on_err, rose_later}
 use Rattle.hub_lane.proofs.greeting.ask_once.Goals as goal
 
 pub listen-requires-clause-few_quiets : goal.listen-requires-clause-few_quiets
@@ -22,29 +21,17 @@ listen-requires-clause-untold g c =
 
 pub listen-requires-clause-begins : goal.listen-requires-clause-begins
 listen-requires-clause-begins g c =
-    let link = g.L.Link in
-    let old = c.args.link.now in
-    let mid = c.send.new.self in
-    fresh_begins c.args.settings (link.telling old) (link.telling mid)
-    (request_fresh c.a_greeting_goes_on.ensures.sent c.args.settings c.write_status_request-request.result
-    (link.held old) (link.held mid) (link.telling old) (link.telling mid) c.write_status_request-request.ensures
-    c.requires.begins c.in_ok-send.ensures.sent)
+    fresh_begins g.L.Link c.args.settings c.args.link.now c.send.new.self
+    (request_fresh g.L.Link c.a_greeting_goes_on.ensures.sent c.args.settings c.args.link.now c.send.new.self
+    c.write_status_request-request.ensures c.requires.begins c.in_ok-send.ensures.sent)
 
 pub returns-in_err-send-clause-fresh : goal.returns-in_err-send-clause-fresh
 returns-in_err-send-clause-fresh g c =
-    let link = g.L.Link in
-    let old = c.args.link.now in
-    let mid = c.send.new.self in
-    same_fresh c.args.settings (link.telling old) (link.telling mid) c.requires.begins
-    (refused_same (link.telling old) (link.telling mid) c.in_err-send.ensures.refused)
+    refused_fresh c.args.settings c.requires.begins c.in_err-send.ensures.refused
 
 pub returns-in_err-send-clause-asked : goal.returns-in_err-send-clause-asked
 returns-in_err-send-clause-asked g c =
-    let link = g.L.Link in
-    let old = c.args.link.now in
-    let mid = c.send.new.self in
-    same_asks 1 (link.telling old) (link.telling mid)
-    (refused_same (link.telling old) (link.telling mid) c.in_err-send.ensures.refused)
+    refused_asks c.in_err-send.ensures.refused
 
 pub returns-in_err-send-clause-told : goal.returns-in_err-send-clause-told
 returns-in_err-send-clause-told g c =
@@ -65,43 +52,26 @@ returns-in_err-send-clause-counts g c =
 
 pub returns-clause-fresh : goal.returns-clause-fresh
 returns-clause-fresh g c =
-    let link = g.L.Link in
-    let old = c.args.link.now in
-    let mid = c.send.new.self in
-    let new = c.listen.new.link in
-    fresh_then c.args.settings (link.telling old) (link.telling mid) (link.telling new)
-    (request_fresh c.a_greeting_goes_on.ensures.sent c.args.settings c.write_status_request-request.result
-    (link.held old) (link.held mid) (link.telling old) (link.telling mid) c.write_status_request-request.ensures
-    c.requires.begins c.in_ok-send.ensures.sent) c.listen.ensures.fresh
+    fresh_then g.L.Link c.args.settings c.args.link.now c.send.new.self c.listen.new.link
+    (request_fresh g.L.Link c.a_greeting_goes_on.ensures.sent c.args.settings c.args.link.now c.send.new.self
+    c.write_status_request-request.ensures c.requires.begins c.in_ok-send.ensures.sent)
+    c.listen.ensures.fresh
 
 pub returns-clause-asked : goal.returns-clause-asked
 returns-clause-asked g c =
-    let link = g.L.Link in
-    let old = c.args.link.now in
-    let mid = c.send.new.self in
-    let new = c.listen.new.link in
-    request_asks c.write_status_request-request.result (link.held old) (link.held mid) (link.telling old)
-    (link.telling mid) (link.telling new) c.in_ok-send.ensures.sent c.listen.ensures.asked
+    request_asks g.L.Link c.write_status_request-request.result c.args.link.now c.send.new.self c.listen.new.link
+    c.in_ok-send.ensures.sent c.listen.ensures.asked
 
 pub returns-clause-told : goal.returns-clause-told
 returns-clause-told g c =
-    let link = g.L.Link in
-    let old = c.args.link.now in
-    let mid = c.send.new.self in
-    let new = c.listen.new.link in
-    asking_told c.args.settings (link.quiets old) (link.quiets mid) (link.quiets new) (link.held old) (link.held mid)
-    (link.held new) c.write_status_request-request.result c.listen.result (link.telling old) (link.telling mid)
-    (link.telling new) c.send.ensures.quiets c.send.ensures.held c.listen.ensures.counts.held
+    asking_told g.L.Link c.args.settings c.write_status_request-request.result c.listen.result c.args.link.now
+    c.send.new.self c.listen.new.link c.send.ensures.quiets c.send.ensures.held c.listen.ensures.counts.held
     c.in_ok-send.ensures.sent c.listen.ensures.told
 
 pub returns-clause-ended : goal.returns-clause-ended
 returns-clause-ended g c =
-    let link = g.L.Link in
-    let old = c.args.link.now in
-    let mid = c.send.new.self in
-    let new = c.listen.new.link in
-    asking_ends link c.write_status_request-request.result (link.held old) (link.held mid) c.listen.result old mid new
-    c.send.ensures.quiets c.send.ensures.gots c.in_ok-send.ensures.sent c.listen.ensures.ended
+    asking_ends g.L.Link c.write_status_request-request.result c.listen.result c.args.link.now c.send.new.self
+    c.listen.new.link c.send.ensures.quiets c.send.ensures.gots c.in_ok-send.ensures.sent c.listen.ensures.ended
 
 pub returns-clause-none_told : goal.returns-clause-none_told
 returns-clause-none_told g c =
@@ -114,9 +84,6 @@ returns-clause-counts g c =
 
 pub returns-clause-failed : goal.returns-clause-failed
 returns-clause-failed g c =
-    let link = g.L.Link in
-    let old = c.args.link.now in
-    let mid = c.send.new.self in
-    let new = c.listen.new.link in
-    λ e. rose_later (link.faults old) (link.faults mid) (link.faults new) c.send.ensures.faults
+    let faults = g.L.Link.faults in
+    λ e. rose_later (faults c.args.link.now) (faults c.send.new.self) (faults c.listen.new.link) c.send.ensures.faults
     (c.listen.ensures.failed e)
