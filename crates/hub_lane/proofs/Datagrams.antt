@@ -201,18 +201,18 @@ heard_asked o old new gots none are is = subst (λ (os : List (Option Outcome)).
     (omega (arith, replied_append o old none)) is)
 
 -- the link failed
-pub heard_down : (sent : ℕ) (old before new : List (Option Outcome)) (gots gots_now : ℕ) → gots_now ≡ gots
+pub heard_down : (sent : ℕ) {old before new : List (Option Outcome)} {gots gots_now : ℕ} → gots_now ≡ gots
     → before ≡ old → new ≡ all_lost sent before → HasHeard old gots → HasHeard new gots_now
-heard_down sent old before new gots gots_now same_gots same are is =
+heard_down sent {old} {gots} {gots_now} same_gots same are is =
     subst (λ (os : List (Option Outcome)). HasHeard os gots_now) (sym (are ∙ ap (λ (os : List (Option Outcome)).
     all_lost sent os) same))
     (no_fewer (count_by is_replied old) (count_by is_replied (all_lost sent old)) gots gots_now (omega (arith, same_gots))
     (omega (arith, replied_lost 0 sent old)) is)
 
 -- memory ran out
-pub heard_still : (old new : List (Option Outcome)) (gots gots_now : ℕ) → gots ≤ gots_now → new ≡ old
+pub heard_still : (old : List (Option Outcome)) {new : List (Option Outcome)} (gots gots_now : ℕ) → gots ≤ gots_now → new ≡ old
     → HasHeard old gots → HasHeard new gots_now
-heard_still old new gots gots_now more same is = subst (λ (os : List (Option Outcome)). HasHeard os gots_now) (sym same)
+heard_still old gots gots_now more same is = subst (λ (os : List (Option Outcome)). HasHeard os gots_now) (sym same)
     (no_fewer (count_by is_replied old) (count_by is_replied old) gots gots_now more (omega arith) is)
 
 -- what a new Ask came to so far

@@ -24,7 +24,7 @@ nothing_keeps seen old new is = record {
   faults = is.faults;
   quiets = (let same = is.quiets in omega (arith, same));
   gots = (let same = is.gots in omega (arith, same));
-  receives = same_prefix (seen.receives old) (seen.receives new) is.receives;
+  receives = same_prefix is.receives;
   held = is.held;
   board = is.board;
 }
@@ -48,7 +48,7 @@ grows : (result : Result Received LinkFault) (bytes : List ℕ) (old new : List 
     → new ≡ receives_after result bytes old → IsPrefix old new
 grows (Ok Got) bytes old new is = (Some bytes ∷ [], is)
 grows (Ok received_quiet) bytes old new is = (None ∷ [], is)
-grows (Err fault) bytes old new is = same_prefix old new is
+grows (Err fault) bytes old new is = same_prefix is
 
 pub received_keeps : {L : Type 0} (seen : Ghosts L) → SameBoard → (result : Result Received LinkFault)
     (bytes : List ℕ) (old new : L) → seen.faults old ≤ seen.faults new → seen.quiets old ≤ seen.quiets new

@@ -195,32 +195,32 @@ listened_on status hub after old new lates lates_now give_ups give_ups_now recei
           (waited_more hub.rounds give_ups hub.status_requests (since_status receives) ys is.waited));
     })
 
-pub listened_sent : (status : BoardStatus) (hub after : Hub) (old new : List (Option Outcome))
-    (lates lates_now : List (Option (List ℕ))) (give_ups give_ups_now : ℕ) (receives now : List (Option (List ℕ)))
+pub listened_sent : {status : BoardStatus} {hub after : Hub} {old new : List (Option Outcome)}
+    {lates lates_now : List (Option (List ℕ))} {give_ups give_ups_now : ℕ} {receives now : List (Option (List ℕ))}
     → HasSent hub after → give_ups_now ≡ give_ups → AreNoMore old new lates lates_now → IsPrefix receives now
     → HasListened status hub old lates give_ups receives → HasListened status after new lates_now give_ups_now now
-listened_sent status hub after old new lates lates_now give_ups give_ups_now receives now sent same_give_ups fewer grows
-    is =
+listened_sent {status} {hub} {after} {old} {new} {lates} {lates_now} {give_ups} {give_ups_now} {receives} {now} sent
+    same_give_ups fewer grows is =
     let same = same_sent hub after sent in
     listened_on status hub after old new lates lates_now give_ups give_ups_now receives now same.rounds
     same.status_requests same_give_ups fewer grows is
 
-pub same_prefix : (xs ys : List (Option (List ℕ))) → ys ≡ xs → IsPrefix xs ys
-same_prefix xs ys same = ([], same ∙ sym (append-nil xs))
+pub same_prefix : {xs ys : List (Option (List ℕ))} → ys ≡ xs → IsPrefix xs ys
+same_prefix {xs} same = ([], same ∙ sym (append-nil xs))
 
 -- no outcome and no late answer is new
-pub same_answers : (old new : List (Option Outcome)) (lates lates_now : List (Option (List ℕ))) → new ≡ old
+pub same_answers : {old new : List (Option Outcome)} {lates lates_now : List (Option (List ℕ))} → new ≡ old
     → lates_now ≡ lates → AreNoMore old new lates lates_now
-same_answers old new lates lates_now outs ls = record {
+same_answers outs ls = record {
   replied = λ k place words there. ap (λ (os : List (Option Outcome)). slice_get os k) (sym outs) ∙ there;
   late = λ place words there. ap (λ (xs : List (Option (List ℕ))). late_in xs place) (sym ls) ∙ there;
 }
 
 -- the link failed
 pub lost_answers : ((sent : ℕ) (outs : List (Option Outcome)) → AddsOnly is_lost outs (all_lost sent outs))
-    → (sent : ℕ) (old before new : List (Option Outcome)) (lates lates_now : List (Option (List ℕ))) → before ≡ old
+    → (sent : ℕ) {old before new : List (Option Outcome)} {lates lates_now : List (Option (List ℕ))} → before ≡ old
     → new ≡ all_lost sent before → lates_now ≡ lates → AreNoMore old new lates lates_now
-lost_answers adds sent old before new lates lates_now same lost ls =
+lost_answers adds sent {old} {lates} {lates_now} same lost ls =
     subst (λ (os : List (Option Outcome)). AreNoMore old os lates lates_now) (sym (lost ∙ ap (all_lost sent) same))
     (record {
       replied = λ k place words there. elim (adds sent old k (became.Replied place words) there) [
@@ -269,7 +269,7 @@ listened_asked status down hub after o old new lates lates_now give_ups receives
     let same = offered_same down hub after o hub_is in
     listened_on status hub after old new lates lates_now give_ups give_ups receives receives same.0 same.1 refl
     (asked_answers (cond down (Some (became.LinkLost None)) None) old new lates lates_now (asked_none down) outs ls)
-    (same_prefix receives receives refl) is
+    (same_prefix refl) is
 
 -- ---- what one event of the hub brings
 

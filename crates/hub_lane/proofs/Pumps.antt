@@ -277,9 +277,9 @@ up settings status hub items outcomes lates give_ups down spent telling faults q
     subst (λ (x : Bool). IsLane settings status hub items outcomes lates give_ups false x telling faults quiets) s
     (subst (λ (x : Bool). IsLane settings status hub items outcomes lates give_ups x spent telling faults quiets) d is)
 
-module _ (laws : PumpLaws) (settings : Limits) (status : BoardStatus) (hub : Hub) (items : List Item)
-    (outcomes : List (Option Outcome)) (lates : List (Option (List ℕ))) (give_ups : ℕ) (down spent : Bool)
-    (telling : Option Telling) (faults quiets : ℕ) (d : down ≡ false) (s : spent ≡ false)
+module _ (laws : PumpLaws) {settings : Limits} {status : BoardStatus} {hub : Hub} {items : List Item}
+    {outcomes : List (Option Outcome)} {lates : List (Option (List ℕ))} {give_ups : ℕ} {down spent : Bool}
+    {telling : Option Telling} {faults quiets : ℕ} (d : down ≡ false) (s : spent ≡ false)
     (is : IsLane settings status hub items outcomes lates give_ups down spent telling faults quiets) where
   is_up : IsLane settings status hub items outcomes lates give_ups false false telling faults quiets
   is_up = up settings status hub items outcomes lates give_ups down spent telling faults quiets d s is
@@ -296,9 +296,9 @@ module _ (laws : PumpLaws) (settings : Limits) (status : BoardStatus) (hub : Hub
   at_mid mid sent = mid_sent laws.fates laws.bodies laws.agrees laws.late (length outcomes) (claims items) outcomes hub
       mid sent is_up.ready is_up.agrees
 
-  pub pump_received : (new : Hub) (bytes : List ℕ) (pumped : Pumped) (outcomes_now : List (Option Outcome))
-      (lates_now : List (Option (List ℕ))) (give_ups_now : ℕ) (telling_now : Option Telling)
-      (faults_now quiets_now : ℕ)
+  pub pump_received : {new : Hub} (bytes : List ℕ) (pumped : Pumped) {outcomes_now : List (Option Outcome)}
+      {lates_now : List (Option (List ℕ))} {give_ups_now : ℕ} (telling_now : Option Telling) (faults_now : ℕ)
+      {quiets_now : ℕ}
       → is_waiting hub ≡ true → IsEventAs (all_sent hub) bytes pumped
       → new ≡ after_handing_out (hub_after pumped bytes (all_sent hub))
       → outcomes_now ≡ put_all (hub_after pumped bytes (all_sent hub)).fates outcomes
@@ -311,8 +311,8 @@ module _ (laws : PumpLaws) (settings : Limits) (status : BoardStatus) (hub : Hub
       → board_of telling_now ≡ board_of telling
       → Pumps settings status new items outcomes outcomes_now lates lates_now give_ups give_ups_now down spent
       telling_now faults_now quiets_now
-  pump_received new bytes pumped outcomes_now lates_now give_ups_now telling_now faults_now quiets_now waiting event
-      hub_is outcomes_are lates_are give_ups_are quiets_are running stays same_board =
+  pump_received {new} bytes pumped {outcomes_now} {lates_now} {give_ups_now} telling_now faults_now {quiets_now} waiting
+      event hub_is outcomes_are lates_are give_ups_are quiets_are running stays same_board =
       let mid = all_sent hub in
       let at = at_mid mid (record { count = pending hub; sends = refl }) in
       let done = lane_received laws.late laws.message laws.replied laws.quiet laws.gave_up settings status hub mid new
@@ -327,11 +327,11 @@ module _ (laws : PumpLaws) (settings : Limits) (status : BoardStatus) (hub : Hub
       (subst (λ (x : Bool). Pumps settings status new items outcomes outcomes_now lates lates_now give_ups give_ups_now
       false x telling_now faults_now quiets_now) (sym s) done)
 
-  pub pump_sent : (mid : Hub) (telling_now : Option Telling) (faults_now quiets_now : ℕ)
+  pub pump_sent : {mid : Hub} {telling_now : Option Telling} {faults_now quiets_now : ℕ}
       → HasSent hub mid → GoesOn telling hub telling_now mid → StaysUnanswered telling hub telling_now mid
       → quiets_now ≡ quiets → board_of telling_now ≡ board_of telling
       → IsLane settings status mid items outcomes lates give_ups down spent telling_now faults_now quiets_now
-  pump_sent mid telling_now faults_now quiets_now went goes stays same_quiets same_board =
+  pump_sent {mid} {telling_now} {faults_now} {quiets_now} went goes stays same_quiets same_board =
       subst (λ (x : Bool). IsLane settings status mid items outcomes lates give_ups x spent telling_now faults_now
       quiets_now) (sym d)
       (subst (λ (x : Bool). IsLane settings status mid items outcomes lates give_ups false x telling_now faults_now
@@ -339,16 +339,16 @@ module _ (laws : PumpLaws) (settings : Limits) (status : BoardStatus) (hub : Hub
       (lane_sent settings status hub mid items outcomes lates give_ups telling telling_now faults faults_now quiets
       quiets_now (at_mid mid went) goes stays same_quiets same_board is_up))
 
-  pub pump_down : (mid : Hub) (before_lost outcomes_now : List (Option Outcome)) (lates_now : List (Option (List ℕ)))
-      (give_ups_now sent : ℕ) (telling_now : Option Telling) (faults_now quiets_now : ℕ)
+  pub pump_down : {mid : Hub} {before_lost outcomes_now : List (Option Outcome)} {lates_now : List (Option (List ℕ))}
+      {give_ups_now sent : ℕ} {telling_now : Option Telling} {faults_now quiets_now : ℕ}
       → HasSent hub mid → Stops telling hub telling_now mid → StaysUnanswered telling hub telling_now mid
       → Rose faults faults_now → quiets_now ≡ quiets
       → give_ups_now ≡ give_ups → before_lost ≡ outcomes → lates_now ≡ lates → sent ≡ length mid.sent
       → outcomes_now ≡ all_lost sent before_lost → board_of telling_now ≡ board_of telling
       → IsLane settings status mid items outcomes_now lates_now give_ups_now true spent telling_now faults_now
       quiets_now
-  pump_down mid before_lost outcomes_now lates_now give_ups_now sent telling_now faults_now quiets_now went stops stays
-      rose same_quiets same_give_ups same_outcomes same_lates sent_is outcomes_are same_board =
+  pump_down {mid} {before_lost} {outcomes_now} {lates_now} {give_ups_now} {sent} {telling_now} {faults_now} {quiets_now}
+      went stops stays rose same_quiets same_give_ups same_outcomes same_lates sent_is outcomes_are same_board =
       subst (λ (x : Bool). IsLane settings status mid items outcomes_now lates_now give_ups_now true x telling_now
       faults_now quiets_now) (sym s)
       (lane_down laws.lost laws.lost_agrees laws.lost_keeps laws.lost_adds settings status hub mid items outcomes
@@ -357,15 +357,15 @@ module _ (laws : PumpLaws) (settings : Limits) (status : BoardStatus) (hub : Hub
       outcomes_are same_board is_up)
 
   -- memory ran out: in a send, or in a receive, and then a body waits
-  pub pump_spent : (mid : Hub) (outcomes_now : List (Option Outcome)) (lates_now : List (Option (List ℕ)))
-      (give_ups_now : ℕ) (telling_now : Option Telling) (faults_now quiets_now : ℕ)
+  pub pump_spent : {mid : Hub} {outcomes_now : List (Option Outcome)} {lates_now : List (Option (List ℕ))}
+      {give_ups_now : ℕ} {telling_now : Option Telling} {faults_now quiets_now : ℕ}
       → HasSent hub mid → Stops telling hub telling_now mid
       → StaysUnanswered telling hub telling_now mid ⊎ (is_waiting hub ≡ true) → quiets ≤ quiets_now
       → give_ups_now ≡ give_ups → outcomes_now ≡ outcomes → lates_now ≡ lates
       → board_of telling_now ≡ board_of telling
       → IsLane settings status mid items outcomes_now lates_now give_ups_now down true telling_now faults_now quiets_now
-  pump_spent mid outcomes_now lates_now give_ups_now telling_now faults_now quiets_now went stops stays more
-      same_give_ups same_outcomes same_lates same_board =
+  pump_spent {mid} {outcomes_now} {lates_now} {give_ups_now} {telling_now} {faults_now} {quiets_now} went stops stays
+      more same_give_ups same_outcomes same_lates same_board =
       let at = at_mid mid went in
       subst (λ (x : Bool). IsLane settings status mid items outcomes_now lates_now give_ups_now x true telling_now
       faults_now quiets_now) (sym d)
@@ -375,11 +375,11 @@ module _ (laws : PumpLaws) (settings : Limits) (status : BoardStatus) (hub : Hub
       (λ (waits : is_waiting hub ≡ true). inr (at.same.waits ∙ waits)) stays)
       more same_give_ups same_outcomes same_lates same_board is_up)
 
-  pub pump_heard : (bytes : List ℕ) (pumped : Pumped) (outcomes_now : List (Option Outcome)) (gots gots_now : ℕ)
+  pub pump_heard : (bytes : List ℕ) (pumped : Pumped) {outcomes_now : List (Option Outcome)} (gots : ℕ) {gots_now : ℕ}
       → IsEventAs (all_sent hub) bytes pumped
       → outcomes_now ≡ put_all (hub_after pumped bytes (all_sent hub)).fates outcomes
       → gots_now ≡ gots_of pumped gots → HasHeard outcomes gots → HasHeard outcomes_now gots_now
-  pump_heard bytes pumped outcomes_now gots gots_now event outcomes_are rose heard =
+  pump_heard bytes pumped gots {gots_now} event outcomes_are rose heard =
       let mid = all_sent hub in
       let at = at_mid mid (record { count = pending hub; sends = refl }) in
       let settled = laws.quiet mid (claims items) outcomes at.ready.window at.ready.drained.fates at.agrees in
@@ -388,8 +388,8 @@ module _ (laws : PumpLaws) (settings : Limits) (status : BoardStatus) (hub : Hub
       (same_length (claims items) outcomes (put_all (hear_quiet mid).fates outcomes) at.agrees.counts.each
       settled.agrees.counts.each) settled.adds event rose heard)
 
-  pub pump_listened : (bytes : List ℕ) (pumped : Pumped) (hub_now : Hub) (outcomes_now : List (Option Outcome))
-      (lates_now : List (Option (List ℕ))) (give_ups_now : ℕ) (receives receives_now : List (Option (List ℕ)))
+  pub pump_listened : (bytes : List ℕ) (pumped : Pumped) {hub_now : Hub} {outcomes_now : List (Option Outcome)}
+      {lates_now : List (Option (List ℕ))} {give_ups_now : ℕ} {receives receives_now : List (Option (List ℕ))}
       → is_waiting hub ≡ true → IsEventAs (all_sent hub) bytes pumped
       → hub_now ≡ after_handing_out (hub_after pumped bytes (all_sent hub))
       → outcomes_now ≡ put_all (hub_after pumped bytes (all_sent hub)).fates outcomes
@@ -397,13 +397,12 @@ module _ (laws : PumpLaws) (settings : Limits) (status : BoardStatus) (hub : Hub
       → give_ups_now ≡ give_ups_of pumped (hub_after pumped bytes (all_sent hub)) give_ups
       → receives_now ≡ receives_of pumped bytes receives → HasListened status hub outcomes lates give_ups receives
       → HasListened status hub_now outcomes_now lates_now give_ups_now receives_now
-  pump_listened bytes pumped hub_now outcomes_now lates_now give_ups_now receives receives_now waiting event hub_is
-      outcomes_are lates_are give_ups_are receives_are listened =
+  pump_listened bytes pumped {receives} waiting event hub_is outcomes_are lates_are give_ups_are receives_are listened =
       let mid = all_sent hub in
       let sent : HasSent hub mid = record { count = pending hub; sends = refl } in
       let at = at_mid mid sent in
-      let before = listened_sent status hub mid outcomes outcomes lates lates give_ups give_ups receives receives sent
-      refl (same_answers outcomes outcomes lates lates refl refl) (same_prefix receives receives refl) listened in
+      let before : HasListened status mid outcomes lates give_ups receives =
+      listened_sent sent refl (same_answers refl refl) (same_prefix refl) listened in
       rw (hub_is, outcomes_are, lates_are, give_ups_are, receives_are)
       (event_listened status mid bytes pumped outcomes lates give_ups receives (at.same.first ∙ is_up.knows.first)
       at.ready.drained (at.same.waits ∙ waiting) event before)

@@ -18,22 +18,14 @@ use Rattle.hub_lane.proofs.lane.Lane.pump.Goals as goal
 pub invariant_of-self : goal.invariant_of-self
 invariant_of-self g c =
     let laws = c.laws_of_pumps.ensures in
+    let settled = c.in-Ok.ensures.settled in
     let l = c.self.inside in
-    let status : BoardStatus = record { mtu = l.mtu; buffers = l.buffers; next = l.first } in
-    let telling = g.L.Link.telling in
-    let faults = g.L.Link.faults in
-    let quiets = g.L.Link.quiets in (
-      (pump_received laws l.settings status l.engine l.book.items l.outcomes.items l.outcomes.lates l.give_ups l.down
-          l.spent
-          (telling l.link) (faults l.link) (quiets l.link) c.if-self-2.false c.if-self.false c.self.invariant.0
-          c.exchange.new.hub c.exchange.new.buffer.items c.in-Ok.pumped c.exchange.new.outcomes.items
-          c.exchange.new.outcomes.lates c.exchange.new.give_ups
-          (telling c.exchange.new.link) (faults c.exchange.new.link) (quiets c.exchange.new.link)
-          (sym c.waiting.ensures ∙ c.if-not-waiting.false) c.in-Ok.ensures.settled.event c.in-Ok.ensures.settled.hub
-          c.in-Ok.ensures.settled.outcomes c.in-Ok.ensures.settled.lates
-          c.in-Ok.ensures.settled.give_ups c.in-Ok.ensures.received.counts.quiets c.in-Ok.ensures.running
-          c.in-Ok.ensures.told.unanswered
-          c.exchange.ensures.counts.board).lane,
+    let telling = g.L.Link.telling in (
+      (pump_received laws c.if-self-2.false c.if-self.false c.self.invariant.0 c.exchange.new.buffer.items
+          c.in-Ok.pumped (telling c.exchange.new.link) (g.L.Link.faults c.exchange.new.link)
+          (sym c.waiting.ensures ∙ c.if-not-waiting.false) settled.event settled.hub settled.outcomes settled.lates
+          settled.give_ups c.in-Ok.ensures.received.counts.quiets c.in-Ok.ensures.running
+          c.in-Ok.ensures.told.unanswered c.exchange.ensures.counts.board).lane,
       pays_pumped l.down l.spent l.mtu l.settings.rounds l.give_ups c.exchange.new.give_ups l.engine c.exchange.new.hub
           (g.L.Link.held l.link) (g.L.Link.held c.exchange.new.link) (telling l.link) (telling c.exchange.new.link)
           c.if-self-2.false c.if-self.false c.self.invariant.0.knows.rounds (c.in-Ok.ensures.pays l.settings l.mtu
@@ -41,121 +33,70 @@ invariant_of-self g c =
           c.if-self-2.false
           c.if-self.false
           c.self.invariant.0.standing)) c.self.invariant.1,
-      pump_heard laws l.settings status l.engine l.book.items l.outcomes.items l.outcomes.lates l.give_ups l.down
-          l.spent
-          (telling l.link) (faults l.link) (quiets l.link) c.if-self-2.false c.if-self.false c.self.invariant.0
-          c.exchange.new.buffer.items c.in-Ok.pumped c.exchange.new.outcomes.items (g.L.Link.gots l.link)
-          (g.L.Link.gots c.exchange.new.link) c.in-Ok.ensures.settled.event c.in-Ok.ensures.settled.outcomes
-          c.in-Ok.ensures.received.counts.gots
+      pump_heard laws c.if-self-2.false c.if-self.false c.self.invariant.0 c.exchange.new.buffer.items
+          c.in-Ok.pumped (g.L.Link.gots l.link) settled.event settled.outcomes c.in-Ok.ensures.received.counts.gots
           c.self.invariant.2,
-      pump_listened laws l.settings status l.engine l.book.items l.outcomes.items l.outcomes.lates l.give_ups l.down
-          l.spent
-          (telling l.link) (faults l.link) (quiets l.link) c.if-self-2.false c.if-self.false c.self.invariant.0
-          c.exchange.new.buffer.items c.in-Ok.pumped c.exchange.new.hub c.exchange.new.outcomes.items
-          c.exchange.new.outcomes.lates c.exchange.new.give_ups (g.L.Link.receives l.link)
-          (g.L.Link.receives c.exchange.new.link) (sym c.waiting.ensures ∙ c.if-not-waiting.false)
-          c.in-Ok.ensures.settled.event c.in-Ok.ensures.settled.hub c.in-Ok.ensures.settled.outcomes
-          c.in-Ok.ensures.settled.lates
-          c.in-Ok.ensures.settled.give_ups c.in-Ok.ensures.received.receives c.self.invariant.3,
+      pump_listened laws c.if-self-2.false c.if-self.false c.self.invariant.0 c.exchange.new.buffer.items
+          c.in-Ok.pumped (sym c.waiting.ensures ∙ c.if-not-waiting.false) settled.event settled.hub settled.outcomes
+          settled.lates settled.give_ups c.in-Ok.ensures.received.receives c.self.invariant.3,
     )
 
 pub invariant_of-self-in-Err-Failed : goal.invariant_of-self-in-Err-Failed
 invariant_of-self-in-Err-Failed g c =
     let laws = c.laws_of_pumps.ensures in
+    let unsettled = c.in-Err-Failed.ensures.unsettled in
     let l = c.self.inside in
-    let status : BoardStatus = record { mtu = l.mtu; buffers = l.buffers; next = l.first } in
-    let telling = g.L.Link.telling in
-    let faults = g.L.Link.faults in
-    let quiets = g.L.Link.quiets in (
-      pump_down laws l.settings status l.engine l.book.items l.outcomes.items l.outcomes.lates l.give_ups l.down l.spent
-          (telling l.link) (faults l.link) (quiets l.link) c.if-self-2.false c.if-self.false c.self.invariant.0
-          c.exchange.new.hub c.exchange.new.outcomes.items c.lose_all.new.outcomes.items c.lose_all.new.outcomes.lates
-          c.exchange.new.give_ups c.sent.result
-          (telling c.exchange.new.link) (faults c.exchange.new.link) (quiets c.exchange.new.link)
-          c.in-Err-Failed.ensures.unsettled.sent c.in-Err-Failed.ensures.stopped (c.exchange.ensures.failed
-          (cc)).unanswered
-          (c.exchange.ensures.faults.failed (cc))
-          (c.exchange.ensures.failed (cc)).receives.quiets
-          c.in-Err-Failed.ensures.unsettled.give_ups c.in-Err-Failed.ensures.unsettled.outcomes
-          (c.lose_all.ensures.lates ∙ c.in-Err-Failed.ensures.unsettled.lates) c.sent.ensures
-          c.lose_all.ensures.outcomes
+    let telling = g.L.Link.telling in (
+      pump_down laws c.if-self-2.false c.if-self.false c.self.invariant.0 unsettled.sent
+          c.in-Err-Failed.ensures.stopped (c.exchange.ensures.failed (cc)).unanswered
+          (c.exchange.ensures.faults.failed (cc)) (c.exchange.ensures.failed (cc)).receives.quiets unsettled.give_ups
+          unsettled.outcomes (c.lose_all.ensures.lates ∙ unsettled.lates) c.sent.ensures c.lose_all.ensures.outcomes
           c.exchange.ensures.counts.board,
       pays_stopped c.laws_of_rounds.ensures (l.down || l.spent) l.mtu l.settings.rounds l.give_ups
           c.exchange.new.give_ups
           l.engine c.exchange.new.hub (g.L.Link.held l.link) (g.L.Link.held c.exchange.new.link) (telling l.link)
-          (telling c.exchange.new.link) c.exchange.ensures.counts.board c.in-Err-Failed.ensures.unsettled.give_ups
-          c.exchange.ensures.counts.held
+          (telling c.exchange.new.link) c.exchange.ensures.counts.board unsettled.give_ups c.exchange.ensures.counts.held
           c.self.invariant.1,
-      heard_down c.sent.result l.outcomes.items c.exchange.new.outcomes.items c.lose_all.new.outcomes.items
-          (g.L.Link.gots l.link) (g.L.Link.gots c.exchange.new.link) (c.exchange.ensures.failed (cc)).receives.gots
-          c.in-Err-Failed.ensures.unsettled.outcomes c.lose_all.ensures.outcomes c.self.invariant.2,
-      listened_sent status l.engine c.exchange.new.hub l.outcomes.items c.lose_all.new.outcomes.items
-          l.outcomes.lates c.lose_all.new.outcomes.lates l.give_ups c.exchange.new.give_ups (g.L.Link.receives l.link)
-          (g.L.Link.receives c.exchange.new.link) c.in-Err-Failed.ensures.unsettled.sent
-          c.in-Err-Failed.ensures.unsettled.give_ups
-          (lost_answers c.laws_of_pumps.ensures.lost_adds c.sent.result l.outcomes.items
-          c.exchange.new.outcomes.items c.lose_all.new.outcomes.items l.outcomes.lates c.lose_all.new.outcomes.lates
-          c.in-Err-Failed.ensures.unsettled.outcomes c.lose_all.ensures.outcomes
-          (c.lose_all.ensures.lates ∙ c.in-Err-Failed.ensures.unsettled.lates)) c.exchange.ensures.counts.receives
-          c.self.invariant.3,
+      heard_down c.sent.result (c.exchange.ensures.failed (cc)).receives.gots unsettled.outcomes
+          c.lose_all.ensures.outcomes c.self.invariant.2,
+      listened_sent unsettled.sent unsettled.give_ups
+          (lost_answers laws.lost_adds c.sent.result unsettled.outcomes c.lose_all.ensures.outcomes
+          (c.lose_all.ensures.lates ∙ unsettled.lates)) c.exchange.ensures.counts.receives c.self.invariant.3,
     )
 
 pub invariant_of-self-in-Err-NoMemory : goal.invariant_of-self-in-Err-NoMemory
 invariant_of-self-in-Err-NoMemory g c =
     let laws = c.laws_of_pumps.ensures in
+    let unsettled = c.in-Err-NoMemory.ensures.unsettled in
     let l = c.self.inside in
-    let status : BoardStatus = record { mtu = l.mtu; buffers = l.buffers; next = l.first } in
-    let telling = g.L.Link.telling in
-    let faults = g.L.Link.faults in
-    let quiets = g.L.Link.quiets in (
-      pump_spent laws l.settings status l.engine l.book.items l.outcomes.items l.outcomes.lates l.give_ups l.down
-          l.spent
-          (telling l.link) (faults l.link) (quiets l.link) c.if-self-2.false c.if-self.false c.self.invariant.0
-          c.exchange.new.hub c.exchange.new.outcomes.items c.exchange.new.outcomes.lates c.exchange.new.give_ups
-          (telling c.exchange.new.link) (faults c.exchange.new.link) (quiets c.exchange.new.link)
-          c.in-Err-NoMemory.ensures.unsettled.sent c.in-Err-NoMemory.ensures.stopped
-          (inr (sym c.waiting.ensures ∙ c.if-not-waiting.false)) c.exchange.ensures.counts.quiets
-          c.in-Err-NoMemory.ensures.unsettled.give_ups c.in-Err-NoMemory.ensures.unsettled.outcomes
-          c.in-Err-NoMemory.ensures.unsettled.lates c.exchange.ensures.counts.board,
+    let telling = g.L.Link.telling in (
+      pump_spent laws c.if-self-2.false c.if-self.false c.self.invariant.0 unsettled.sent
+          c.in-Err-NoMemory.ensures.stopped (inr (sym c.waiting.ensures ∙ c.if-not-waiting.false))
+          c.exchange.ensures.counts.quiets unsettled.give_ups unsettled.outcomes unsettled.lates
+          c.exchange.ensures.counts.board,
       subst (λ (b : Bool). IfSome (telling c.exchange.new.link) (HasPaid (b || true) l.mtu l.settings.rounds
           c.exchange.new.give_ups c.exchange.new.hub (g.L.Link.held c.exchange.new.link))) (sym c.if-self-2.false)
           (pays_stopped c.laws_of_rounds.ensures (l.down || l.spent) l.mtu l.settings.rounds l.give_ups
           c.exchange.new.give_ups l.engine c.exchange.new.hub (g.L.Link.held l.link) (g.L.Link.held c.exchange.new.link)
-          (telling l.link) (telling c.exchange.new.link) c.exchange.ensures.counts.board
-          c.in-Err-NoMemory.ensures.unsettled.give_ups
+          (telling l.link) (telling c.exchange.new.link) c.exchange.ensures.counts.board unsettled.give_ups
           c.exchange.ensures.counts.held c.self.invariant.1),
-      heard_still l.outcomes.items c.exchange.new.outcomes.items (g.L.Link.gots l.link)
-          (g.L.Link.gots c.exchange.new.link) c.exchange.ensures.counts.gots
-          c.in-Err-NoMemory.ensures.unsettled.outcomes
-          c.self.invariant.2,
-      listened_sent status l.engine c.exchange.new.hub l.outcomes.items c.exchange.new.outcomes.items
-          l.outcomes.lates c.exchange.new.outcomes.lates l.give_ups c.exchange.new.give_ups (g.L.Link.receives l.link)
-          (g.L.Link.receives c.exchange.new.link) c.in-Err-NoMemory.ensures.unsettled.sent
-          c.in-Err-NoMemory.ensures.unsettled.give_ups
-          (same_answers l.outcomes.items c.exchange.new.outcomes.items l.outcomes.lates c.exchange.new.outcomes.lates
-          c.in-Err-NoMemory.ensures.unsettled.outcomes c.in-Err-NoMemory.ensures.unsettled.lates)
+      heard_still l.outcomes.items (g.L.Link.gots l.link) (g.L.Link.gots c.exchange.new.link) c.exchange.ensures.counts.gots
+          unsettled.outcomes c.self.invariant.2,
+      listened_sent unsettled.sent unsettled.give_ups (same_answers unsettled.outcomes unsettled.lates)
           c.exchange.ensures.counts.receives c.self.invariant.3,
     )
 
 pub returns-in-Ok-clause-same : goal.returns-in-Ok-clause-same
 returns-in-Ok-clause-same g c =
     let laws = c.laws_of_pumps.ensures in
+    let settled = c.in-Ok.ensures.settled in
     let l = c.self.inside in
     let status : BoardStatus = record { mtu = l.mtu; buffers = l.buffers; next = l.first } in
-    let telling = g.L.Link.telling in
-    let faults = g.L.Link.faults in
-    let quiets = g.L.Link.quiets in
-    let done = pump_received laws l.settings status l.engine l.book.items l.outcomes.items l.outcomes.lates l.give_ups
-    l.down l.spent
-    (telling l.link) (faults l.link) (quiets l.link) c.if-self-2.false c.if-self.false c.self.invariant.0
-    c.exchange.new.hub c.exchange.new.buffer.items c.in-Ok.pumped c.exchange.new.outcomes.items
-    c.exchange.new.outcomes.lates c.exchange.new.give_ups
-    (telling c.exchange.new.link) (faults c.exchange.new.link) (quiets c.exchange.new.link)
-    (sym c.waiting.ensures ∙ c.if-not-waiting.false) c.in-Ok.ensures.settled.event c.in-Ok.ensures.settled.hub
-    c.in-Ok.ensures.settled.outcomes
-    c.in-Ok.ensures.settled.lates c.in-Ok.ensures.settled.give_ups c.in-Ok.ensures.received.counts.quiets
-    c.in-Ok.ensures.running
-    c.in-Ok.ensures.told.unanswered c.exchange.ensures.counts.board in
+    let done = pump_received laws c.if-self-2.false c.if-self.false c.self.invariant.0 c.exchange.new.buffer.items
+    c.in-Ok.pumped (g.L.Link.telling c.exchange.new.link) (g.L.Link.faults c.exchange.new.link)
+    (sym c.waiting.ensures ∙ c.if-not-waiting.false) settled.event settled.hub settled.outcomes settled.lates
+    settled.give_ups c.in-Ok.ensures.received.counts.quiets c.in-Ok.ensures.running c.in-Ok.ensures.told.unanswered
+    c.exchange.ensures.counts.board in
     subst (λ (v : LaneState _). IsSameRecord v (record {
       link = c.exchange.new.link;
       settings = l.settings;

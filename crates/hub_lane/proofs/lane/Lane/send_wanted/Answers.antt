@@ -2,7 +2,7 @@ use Rattle.std.proofs.Common.{◌∙◌, ℕ, List, Option, ap, arith, refl, sym
 use Rattle.lane_record.specs.Lates.{late_in}
 use Rattle.std.specs.Prelude.{IfSome}
 use Rattle.hub_lane.specs.Calls.{IsSameRecord}
-use Rattle.hub_lane.specs.Lanes.{BoardStatus, LaneState}
+use Rattle.hub_lane.specs.Lanes.{LaneState}
 use Rattle.hub_lane.specs.Links.{IsDownByFault}
 use Rattle.world_core.specs.Telling.{IfTelling}
 use Rattle.hub_lane.specs.Rounds.{HasPaid, RoundAfter, Sends, round_of}
@@ -18,16 +18,11 @@ pub invariant_of-self : goal.invariant_of-self
 invariant_of-self g c =
     let laws = c.laws_of_pumps.ensures in
     let l = c.self.inside in
-    let status : BoardStatus = record { mtu = l.mtu; buffers = l.buffers; next = l.first } in
     let telling = g.L.Link.telling in
-    let faults = g.L.Link.faults in
-    let quiets = g.L.Link.quiets in
     let sent = c.send_all.ensures in
     let up = c.if-self.false in (
-      pump_sent laws l.settings status l.engine l.book.items l.outcomes.items l.outcomes.lates l.give_ups l.down l.spent
-          (telling l.link) (faults l.link) (quiets l.link) c.if-self-2.false up c.self.invariant.0
-          c.send_all.new.hub (telling c.send_all.new.link) (faults c.send_all.new.link) (quiets c.send_all.new.link)
-          sent.some c.in-Ok.ensures.running sent.unanswered sent.unreceived.quiets sent.unreceived.board,
+      pump_sent laws c.if-self-2.false up c.self.invariant.0 sent.some c.in-Ok.ensures.running sent.unanswered
+          sent.unreceived.quiets sent.unreceived.board,
       pays_pumped l.down l.spent l.mtu l.settings.rounds l.give_ups l.give_ups l.engine c.send_all.new.hub
           (g.L.Link.held l.link) (g.L.Link.held c.send_all.new.link) (telling l.link) (telling c.send_all.new.link)
           c.if-self-2.false up c.self.invariant.0.knows.rounds
@@ -35,79 +30,46 @@ invariant_of-self g c =
           (still_up l.down l.spent l.settings l.engine l.outcomes.items l.outcomes.lates (telling l.link)
           c.if-self-2.false
           up c.self.invariant.0.standing)) c.self.invariant.1,
-      heard_still l.outcomes.items l.outcomes.items (g.L.Link.gots l.link) (g.L.Link.gots c.send_all.new.link)
+      heard_still l.outcomes.items (g.L.Link.gots l.link) (g.L.Link.gots c.send_all.new.link)
           (let same = sent.unreceived.gots in omega (arith, same)) refl c.self.invariant.2,
-      listened_sent status l.engine c.send_all.new.hub l.outcomes.items l.outcomes.items l.outcomes.lates
-          l.outcomes.lates l.give_ups l.give_ups (g.L.Link.receives l.link) (g.L.Link.receives c.send_all.new.link)
-          sent.some refl (same_answers l.outcomes.items l.outcomes.items l.outcomes.lates l.outcomes.lates refl refl)
-          (same_prefix (g.L.Link.receives l.link) (g.L.Link.receives c.send_all.new.link) sent.unreceived.receives)
-          c.self.invariant.3,
+      listened_sent sent.some refl (same_answers refl refl) (same_prefix sent.unreceived.receives) c.self.invariant.3,
     )
 
 pub invariant_of-self-in-Err-Failed : goal.invariant_of-self-in-Err-Failed
 invariant_of-self-in-Err-Failed g c =
     let laws = c.laws_of_pumps.ensures in
     let l = c.self.inside in
-    let status : BoardStatus = record { mtu = l.mtu; buffers = l.buffers; next = l.first } in
     let telling = g.L.Link.telling in
-    let faults = g.L.Link.faults in
-    let quiets = g.L.Link.quiets in
     let sent = c.send_all.ensures in
     let up = c.if-self.false in (
-      pump_down laws l.settings status l.engine l.book.items l.outcomes.items l.outcomes.lates l.give_ups l.down l.spent
-          (telling l.link) (faults l.link) (quiets l.link) c.if-self-2.false up c.self.invariant.0
-          c.send_all.new.hub l.outcomes.items c.lose_all.new.outcomes.items c.lose_all.new.outcomes.lates l.give_ups
-          c.sent.result
-          (telling c.send_all.new.link) (faults c.send_all.new.link) (quiets c.send_all.new.link)
-          sent.some c.in-Err-Failed.ensures.stopped sent.unanswered (sent.faults.failed (cc)) sent.unreceived.quiets
-          refl refl
-          c.lose_all.ensures.lates c.sent.ensures c.lose_all.ensures.outcomes sent.unreceived.board,
+      pump_down laws c.if-self-2.false up c.self.invariant.0 sent.some c.in-Err-Failed.ensures.stopped
+          sent.unanswered (sent.faults.failed (cc)) sent.unreceived.quiets refl refl c.lose_all.ensures.lates c.sent.ensures c.lose_all.ensures.outcomes sent.unreceived.board,
       pays_stopped c.laws_of_rounds.ensures (l.down || l.spent) l.mtu l.settings.rounds l.give_ups l.give_ups
           l.engine c.send_all.new.hub (g.L.Link.held l.link) (g.L.Link.held c.send_all.new.link) (telling l.link)
           (telling c.send_all.new.link) sent.unreceived.board refl sent.unreceived.held c.self.invariant.1,
-      heard_down c.sent.result l.outcomes.items l.outcomes.items c.lose_all.new.outcomes.items
-          (g.L.Link.gots l.link) (g.L.Link.gots c.send_all.new.link) sent.unreceived.gots refl
-          c.lose_all.ensures.outcomes
-          c.self.invariant.2,
-      listened_sent status l.engine c.send_all.new.hub l.outcomes.items c.lose_all.new.outcomes.items l.outcomes.lates
-          c.lose_all.new.outcomes.lates l.give_ups l.give_ups (g.L.Link.receives l.link)
-          (g.L.Link.receives c.send_all.new.link) sent.some refl
-          (lost_answers c.laws_of_pumps.ensures.lost_adds c.sent.result l.outcomes.items l.outcomes.items
-          c.lose_all.new.outcomes.items l.outcomes.lates c.lose_all.new.outcomes.lates refl
-          c.lose_all.ensures.outcomes c.lose_all.ensures.lates)
-          (same_prefix (g.L.Link.receives l.link) (g.L.Link.receives c.send_all.new.link) sent.unreceived.receives)
-          c.self.invariant.3,
+      heard_down c.sent.result sent.unreceived.gots refl c.lose_all.ensures.outcomes c.self.invariant.2,
+      listened_sent sent.some refl
+          (lost_answers laws.lost_adds c.sent.result refl c.lose_all.ensures.outcomes c.lose_all.ensures.lates)
+          (same_prefix sent.unreceived.receives) c.self.invariant.3,
     )
 
 pub invariant_of-self-in-Err-NoMemory : goal.invariant_of-self-in-Err-NoMemory
 invariant_of-self-in-Err-NoMemory g c =
     let laws = c.laws_of_pumps.ensures in
     let l = c.self.inside in
-    let status : BoardStatus = record { mtu = l.mtu; buffers = l.buffers; next = l.first } in
     let telling = g.L.Link.telling in
-    let faults = g.L.Link.faults in
-    let quiets = g.L.Link.quiets in
     let sent = c.send_all.ensures in
     let up = c.if-self.false in (
-      pump_spent laws l.settings status l.engine l.book.items l.outcomes.items l.outcomes.lates l.give_ups l.down
-          l.spent
-          (telling l.link) (faults l.link) (quiets l.link) c.if-self-2.false up c.self.invariant.0
-          c.send_all.new.hub l.outcomes.items l.outcomes.lates l.give_ups
-          (telling c.send_all.new.link) (faults c.send_all.new.link) (quiets c.send_all.new.link)
-          sent.some c.in-Err-NoMemory.ensures.stopped (inl sent.unanswered)
+      pump_spent laws c.if-self-2.false up c.self.invariant.0 sent.some c.in-Err-NoMemory.ensures.stopped (inl sent.unanswered)
           (let same = sent.unreceived.quiets in omega (arith, same)) refl refl refl sent.unreceived.board,
       subst (λ (b : Bool). IfSome (telling c.send_all.new.link) (HasPaid (b || true) l.mtu l.settings.rounds
           l.give_ups c.send_all.new.hub (g.L.Link.held c.send_all.new.link))) (sym c.if-self-2.false)
           (pays_stopped c.laws_of_rounds.ensures (l.down || l.spent) l.mtu l.settings.rounds l.give_ups l.give_ups
           l.engine c.send_all.new.hub (g.L.Link.held l.link) (g.L.Link.held c.send_all.new.link) (telling l.link)
           (telling c.send_all.new.link) sent.unreceived.board refl sent.unreceived.held c.self.invariant.1),
-      heard_still l.outcomes.items l.outcomes.items (g.L.Link.gots l.link) (g.L.Link.gots c.send_all.new.link)
+      heard_still l.outcomes.items (g.L.Link.gots l.link) (g.L.Link.gots c.send_all.new.link)
           (let same = sent.unreceived.gots in omega (arith, same)) refl c.self.invariant.2,
-      listened_sent status l.engine c.send_all.new.hub l.outcomes.items l.outcomes.items l.outcomes.lates
-          l.outcomes.lates l.give_ups l.give_ups (g.L.Link.receives l.link) (g.L.Link.receives c.send_all.new.link)
-          sent.some refl (same_answers l.outcomes.items l.outcomes.items l.outcomes.lates l.outcomes.lates refl refl)
-          (same_prefix (g.L.Link.receives l.link) (g.L.Link.receives c.send_all.new.link) sent.unreceived.receives)
-          c.self.invariant.3,
+      listened_sent sent.some refl (same_answers refl refl) (same_prefix sent.unreceived.receives) c.self.invariant.3,
     )
 
 pub returns-in-Ok-clause-round : goal.returns-in-Ok-clause-round
