@@ -1,5 +1,5 @@
 -- What calls leave of a link, one after another.
-use Rattle.std.proofs.Common.{◌≡◌, ◌∙◌, ap, sym, inl, inr, Bool, true, false, ℕ, ◌≤◌}
+use Rattle.std.proofs.Common.{◌≡◌, ◌∙◌, ap, subst, sym, inl, inr, Bool, true, false, ℕ, ◌≤◌}
 use Rattle.std.proofs.Common.{List, [], ◌∷◌, ◌++◌, Option, Some, None, arith}
 use Rattle.std.specs.Prelude.{Result, Ok, Err, IfSome}
 use Rattle.ipb_base.specs.Faults.{Rose}
@@ -11,6 +11,7 @@ use Rattle.world_core.specs.declared.link.Received.TheVariants.{Got, Quiet as re
 use Rattle.world_core.specs.Receives.{receives_after}
 use Rattle.world_core.specs.Telling.{IfTelling, IsQuiet, Receives, Telling}
 use Rattle.hub_lane.specs.declared.answers.Pumped.TheVariants.{Quiet}
+use Rattle.hub_lane.specs.Calls.{IsSameRecord}
 use Rattle.hub_lane.specs.Hearing.{WasReceived}
 use Rattle.hub_lane.specs.Lanes.{LaneState}
 use Rattle.hub_lane.specs.Links.{IsDownByFault, KeepsCounting, ReceivesNothing}
@@ -72,7 +73,7 @@ was_quiet bytes held now None (Some u) quiet = absurd quiet
 was_quiet bytes held now (Some t) None quiet = absurd quiet
 was_quiet bytes held now (Some t) (Some u) quiet = quiet.none_due
 
--- ---- a lane that is down
+-- ---- what a call leaves of a lane
 
 not_up : (t : Option Telling) (down : Bool) (P : Type 0) → down ≡ true → IfSome t (λ _. down ≡ false → P)
 not_up None down P is = tt
@@ -83,19 +84,24 @@ still_up : (t : Option Telling) (down : Bool) (P Q : Type 0) → IfSome t (λ _.
 still_up None down P Q leads holds = tt
 still_up (Some t) down P Q leads holds = λ _. leads holds
 
--- the network failed
-pub went_down : {L : Type 0} (seen : Ghosts L) (old new : LaneState L) → new.down ≡ true
-    → Rose (seen.faults old.link) (seen.faults new.link) → IsDownByFault seen old new
-went_down seen old new down rose = record {
-  down = λ _. inr rose;
-  up = not_up (seen.telling old.link) new.down (seen.faults new.link ≡ seen.faults old.link) down;
-}
+-- a call that began with a lane of this view
+module _ {L : Type 0} {inside old new : LaneState L} (view : inside ≡ old) where
+  pub same_record : IsSameRecord inside new → IsSameRecord old new
+  same_record is = subst (λ (v : LaneState L). IsSameRecord v new) view is
 
--- it did not
-pub did_not_go_down : {L : Type 0} (seen : Ghosts L) (old new : LaneState L) (P : Type 0) → new.down ≡ old.down
-    → IfSome (seen.telling old.link) (λ _. P → seen.faults new.link ≡ seen.faults old.link) → P
-    → IsDownByFault seen old new
-did_not_go_down seen old new P same leads holds = record {
-  down = λ down. inl (sym same ∙ down);
-  up = still_up (seen.telling old.link) new.down P (seen.faults new.link ≡ seen.faults old.link) leads holds;
-}
+  -- the network failed
+  pub went_down : (seen : Ghosts L) → new.down ≡ true → Rose (seen.faults inside.link) (seen.faults new.link)
+      → IsDownByFault seen old new
+  went_down seen down rose = subst (λ (v : LaneState L). IsDownByFault seen v new) view (record {
+    down = λ _. inr rose;
+    up = not_up (seen.telling inside.link) new.down (seen.faults new.link ≡ seen.faults inside.link) down;
+  })
+
+  -- it did not
+  pub did_not_go_down : (seen : Ghosts L) (P : Type 0) → new.down ≡ inside.down
+      → IfSome (seen.telling inside.link) (λ _. P → seen.faults new.link ≡ seen.faults inside.link) → P
+      → IsDownByFault seen old new
+  did_not_go_down seen P same leads holds = subst (λ (v : LaneState L). IsDownByFault seen v new) view (record {
+    down = λ down. inl (sym same ∙ down);
+    up = still_up (seen.telling inside.link) new.down P (seen.faults new.link ≡ seen.faults inside.link) leads holds;
+  })

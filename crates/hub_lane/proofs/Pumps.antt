@@ -189,8 +189,8 @@ lane_down lost agrees keeps adds settings status hub mid items outcomes before_l
 
 -- what became of an Ask stays
 pub lost_keeps : ((sent : ℕ) (outs : List (Option Outcome)) → KeepsOutcomes outs (all_lost sent outs)) → (sent : ℕ)
-    (old before new : List (Option Outcome)) → before ≡ old → new ≡ all_lost sent before → KeepsOutcomes old new
-lost_keeps keeps sent old before new same lost =
+    {old before new : List (Option Outcome)} → before ≡ old → new ≡ all_lost sent before → KeepsOutcomes old new
+lost_keeps keeps sent {old} same lost =
     subst (KeepsOutcomes old) (sym (lost ∙ ap (all_lost sent) same)) (keeps sent old)
 
 -- all sends went out, and nothing else happened

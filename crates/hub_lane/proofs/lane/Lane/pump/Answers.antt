@@ -2,9 +2,8 @@ use Rattle.std.proofs.Common.{◌∙◌, ℕ, List, Option, ap, arith, sym, subs
 use Rattle.lane_record.specs.Lates.{late_in}
 use Rattle.std.specs.Prelude.{IfSome}
 use Rattle.world_core.specs.Telling.{IfTelling}
-use Rattle.hub_lane.specs.Calls.{IsSameRecord}
 use Rattle.hub_lane.specs.Carrying.{Pumping}
-use Rattle.hub_lane.specs.Lanes.{BoardStatus, LaneState}
+use Rattle.hub_lane.specs.Lanes.{LaneState}
 use Rattle.hub_lane.proofs.Carrying.{pumping}
 use Rattle.hub_lane.specs.Rounds.{HasPaid, Pumps, RoundAfter, round_of}
 use Rattle.hub_lane.proofs.Datagrams.{heard_down, heard_still}
@@ -13,6 +12,7 @@ use Rattle.hub_lane.proofs.Pumps.{lost_keeps, pump_down, pump_heard, pump_listen
 use Rattle.hub_lane.proofs.Pumps.{pump_spent}
 use Rattle.hub_lane.proofs.Rounds.{pays_pumped, pays_stopped, still_up}
 use Rattle.hub_lane.proofs.InRounds.{lane_round, same_lane_idle}
+use Rattle.hub_lane.proofs.Links.{same_record}
 use Rattle.hub_lane.proofs.lane.Lane.pump.Goals as goal
 
 pub invariant_of-self : goal.invariant_of-self
@@ -90,26 +90,12 @@ pub returns-in-Ok-clause-same : goal.returns-in-Ok-clause-same
 returns-in-Ok-clause-same g c =
     let laws = c.laws_of_pumps.ensures in
     let settled = c.in-Ok.ensures.settled in
-    let l = c.self.inside in
-    let status : BoardStatus = record { mtu = l.mtu; buffers = l.buffers; next = l.first } in
     let done = pump_received laws c.if-self-2.false c.if-self.false c.self.invariant.0 c.exchange.new.buffer.items
     c.in-Ok.pumped (g.L.Link.telling c.exchange.new.link) (g.L.Link.faults c.exchange.new.link)
     (sym c.waiting.ensures ∙ c.if-not-waiting.false) settled.event settled.hub settled.outcomes settled.lates
     settled.give_ups c.in-Ok.ensures.received.counts.quiets c.in-Ok.ensures.running c.in-Ok.ensures.told.unanswered
     c.exchange.ensures.counts.board in
-    subst (λ (v : LaneState _). IsSameRecord v (record {
-      link = c.exchange.new.link;
-      settings = l.settings;
-      status = status;
-      hub = c.exchange.new.hub;
-      items = l.book.items;
-      outcomes = c.exchange.new.outcomes.items;
-      lates = c.exchange.new.outcomes.lates;
-      give_ups = c.exchange.new.give_ups;
-      down = l.down;
-      spent = l.spent;
-    })) c.self.view_is
-    (record {
+    same_record c.self.view_is (record {
       settings = refl;
       status = refl;
       items = refl;
@@ -151,25 +137,13 @@ returns-then-not-waiting-clause-round g c =
 
 pub returns-in-Err-Failed-clause-same : goal.returns-in-Err-Failed-clause-same
 returns-in-Err-Failed-clause-same g c =
-    let l = c.self.inside in
     let same_give_ups = c.in-Err-Failed.ensures.unsettled.give_ups in
-    subst (λ (v : LaneState _). IsSameRecord v (record {
-      link = c.exchange.new.link;
-      settings = l.settings;
-      status = record { mtu = l.mtu; buffers = l.buffers; next = l.first };
-      hub = c.exchange.new.hub;
-      items = l.book.items;
-      outcomes = c.lose_all.new.outcomes.items;
-      lates = c.lose_all.new.outcomes.lates;
-      give_ups = c.exchange.new.give_ups;
-      down = true;
-      spent = l.spent;
-    })) c.self.view_is (record {
+    same_record c.self.view_is (record {
       settings = refl;
       status = refl;
       items = refl;
-      outcomes = lost_keeps c.laws_of_pumps.ensures.lost_keeps c.sent.result l.outcomes.items
-          c.exchange.new.outcomes.items c.lose_all.new.outcomes.items c.in-Err-Failed.ensures.unsettled.outcomes
+      outcomes = lost_keeps c.laws_of_pumps.ensures.lost_keeps c.sent.result
+          c.in-Err-Failed.ensures.unsettled.outcomes
           c.lose_all.ensures.outcomes;
       lates = λ place words there. ap (λ (ls : List (Option (List ℕ))). late_in ls place)
           (c.lose_all.ensures.lates ∙ c.in-Err-Failed.ensures.unsettled.lates) ∙ there;

@@ -1,9 +1,7 @@
 use Rattle.std.proofs.Common.{◌∙◌, ℕ, List, Option, ap, arith, refl, sym, subst, Bool, true, ◌||◌, inl}
 use Rattle.lane_record.specs.Lates.{late_in}
 use Rattle.std.specs.Prelude.{IfSome}
-use Rattle.hub_lane.specs.Calls.{IsSameRecord}
 use Rattle.hub_lane.specs.Lanes.{LaneState}
-use Rattle.hub_lane.specs.Links.{IsDownByFault}
 use Rattle.world_core.specs.Telling.{IfTelling}
 use Rattle.hub_lane.specs.Rounds.{HasPaid, RoundAfter, Sends, round_of}
 use Rattle.hub_lane.proofs.Datagrams.{heard_down, heard_still}
@@ -11,7 +9,7 @@ use Rattle.hub_lane.proofs.Listened.{listened_sent, lost_answers, same_answers, 
 use Rattle.hub_lane.proofs.Pumps.{lost_keeps, pump_down, pump_sent, pump_spent}
 use Rattle.hub_lane.proofs.Rounds.{pays_pumped, pays_stopped, still_up}
 use Rattle.hub_lane.proofs.InRounds.{lane_round}
-use Rattle.hub_lane.proofs.Links.{did_not_go_down, went_down}
+use Rattle.hub_lane.proofs.Links.{did_not_go_down, same_record, went_down}
 use Rattle.hub_lane.proofs.lane.Lane.send_wanted.Goals as goal
 
 pub invariant_of-self : goal.invariant_of-self
@@ -91,24 +89,11 @@ returns-in-Ok-clause-round g c =
 
 pub returns-in-Err-Failed-clause-same : goal.returns-in-Err-Failed-clause-same
 returns-in-Err-Failed-clause-same g c =
-    let l = c.self.inside in
-    subst (λ (v : LaneState _). IsSameRecord v (record {
-      link = c.send_all.new.link;
-      settings = l.settings;
-      status = record { mtu = l.mtu; buffers = l.buffers; next = l.first };
-      hub = c.send_all.new.hub;
-      items = l.book.items;
-      outcomes = c.lose_all.new.outcomes.items;
-      lates = c.lose_all.new.outcomes.lates;
-      give_ups = l.give_ups;
-      down = true;
-      spent = l.spent;
-    })) c.self.view_is (record {
+    same_record c.self.view_is (record {
       settings = refl;
       status = refl;
       items = refl;
-      outcomes = lost_keeps c.laws_of_pumps.ensures.lost_keeps c.sent.result l.outcomes.items
-          l.outcomes.items c.lose_all.new.outcomes.items refl c.lose_all.ensures.outcomes;
+      outcomes = lost_keeps c.laws_of_pumps.ensures.lost_keeps c.sent.result refl c.lose_all.ensures.outcomes;
       lates = λ place words there. ap (λ (ls : List (Option (List ℕ))). late_in ls place) c.lose_all.ensures.lates
           ∙ there;
       give_ups = omega arith;
@@ -116,32 +101,8 @@ returns-in-Err-Failed-clause-same g c =
 
 pub returns-in-Err-Failed-clause-down : goal.returns-in-Err-Failed-clause-down
 returns-in-Err-Failed-clause-down g c =
-    let l = c.self.inside in
-    subst (λ (v : LaneState _). IsDownByFault g.L.Link v (record {
-      link = c.send_all.new.link;
-      settings = l.settings;
-      status = record { mtu = l.mtu; buffers = l.buffers; next = l.first };
-      hub = c.send_all.new.hub;
-      items = l.book.items;
-      outcomes = c.lose_all.new.outcomes.items;
-      lates = c.lose_all.new.outcomes.lates;
-      give_ups = l.give_ups;
-      down = true;
-      spent = l.spent;
-    })) c.self.view_is (went_down g.L.Link _ _ refl (c.send_all.ensures.faults.failed (cc)))
+    went_down c.self.view_is g.L.Link refl (c.send_all.ensures.faults.failed (cc))
 
 pub returns-in-Err-NoMemory-clause-down : goal.returns-in-Err-NoMemory-clause-down
 returns-in-Err-NoMemory-clause-down g c =
-    let l = c.self.inside in
-    subst (λ (v : LaneState _). IsDownByFault g.L.Link v (record {
-      link = c.send_all.new.link;
-      settings = l.settings;
-      status = record { mtu = l.mtu; buffers = l.buffers; next = l.first };
-      hub = c.send_all.new.hub;
-      items = l.book.items;
-      outcomes = l.outcomes.items;
-      lates = l.outcomes.lates;
-      give_ups = l.give_ups;
-      down = l.down;
-      spent = true;
-    })) c.self.view_is (did_not_go_down g.L.Link _ _ _ refl c.send_all.ensures.faults.unfaulted (λ e. cc))
+    did_not_go_down c.self.view_is g.L.Link _ refl c.send_all.ensures.faults.unfaulted (λ e. cc)
