@@ -13,3 +13,4 @@ pub mod Datagrams
 pub mod OneText
 pub mod OneFault
 pub mod ExampleLemmas
+mod TextsSoFar

@@ -1,13 +1,15 @@
 -- Planning, step by step, and what holds of the bodies of a plan.
 use Rattle.std.proofs.Common.{◌≡◌, ℕ, zero, suc, ◌+◌, ◌≤◌, ◌<◌, ◌^◌, ◌==◌, length, get_or, drop, map, List, [], ◌∷◌}
 use Rattle.std.proofs.Common.{◌++◌}
-use Rattle.std.proofs.Common.{refl, sym, ap, subst, ◌∙◌, inl, inr, arith, append_assoc, append-nil, add-one, drop-cons}
+use Rattle.std.proofs.Common.{Result, Ok, Err, refl, sym, ap, subst, ◌∙◌, inl, inr, arith, append_assoc, append-nil, add-one, drop-cons}
 use Rattle.std.specs.List.{AllByRecursion, All, flat_map, fold, range_with_len}
+use Rattle.std.specs.Result.{OnOk}
 use Rattle.std.proofs.lemmas.Bool.{cases_Bool}
+use Rattle.std.proofs.lemmas.List.{drop_all}
 use Rattle.std.proofs.lemmas.List.Elements.{All-nil, All-cons, All-append}
 use Rattle.ipb_base.proofs.AllLemmas.{AllByRecursion-append, all_of_each}
 use Rattle.transaction_codec.specs.declared.request.Op.{Op}
-use Rattle.transaction_codec.specs.Request.{AreRequests}
+use Rattle.transaction_codec.specs.Request.{AreRequests, SpellsRequests}
 use Rattle.mtu_packer.specs.declared.packed.Piece.{Piece}
 use Rattle.mtu_packer.specs.Cutting.{CanBeCut, cut_pieces}
 use Rattle.mtu_packer.specs.Packing.{AreReadable, requests_from}
@@ -19,7 +21,7 @@ use Rattle.script_steps.specs.declared.operation.RegOp.{RegOp}
 use Rattle.script_steps.specs.declared.operation.Step.{Step}
 use Rattle.script_steps.specs.declared.operation.Step.TheVariants.{Do, Denied, Dispatch}
 use Rattle.script_plans.specs.Plan.{ClientBodies, no_bodies, AreSound, IsWithinBody, piece_behind, into_next_dispatch, dispatches, ops_on}
-use Rattle.script_plans.specs.Plan.{with_dispatch}
+use Rattle.script_plans.specs.Plan.{AreSpelled, all_dispatches, plan, with_dispatch}
 use Rattle.script_plans.specs.Steps.{dispatches_left, HaveFewBehind, IsPlanning}
 
 -- ---- indices
@@ -67,6 +69,21 @@ all_moved first [] all = tt
 all_moved first (some ∷ more) all = (one_moved first some all.0, all_moved first more all.1)
 
 -- ---- dispatches
+
+-- what holds of what was planned holds of what equals it
+pub on_equal : {X Y : Type 0} (P : ClientBodies → Type 0) (r : Result X Y) (new is : ClientBodies) → OnOk r (new ≡ is)
+    → P is → OnOk r (P new)
+on_equal P (Ok x) new is same holds = subst P (sym same) holds
+on_equal P (Err y) new is same holds = tt
+
+-- a sound plan with a dispatch more is sound
+pub sound_more : (all : ClientBodies) (ops : List Op) (payload : ℕ) (contents : Contents) → AreSound all
+    → IsPacked ops payload contents → AreSpelled contents.bodies → AreSound (with_dispatch all contents)
+sound_more all ops payload contents sound packed spelled = record {
+  spelled = AllByRecursion-append SpellsRequests all.bodies contents.bodies sound.spelled spelled;
+  within = AllByRecursion-append (AllByRecursion IsWithinBody) all.pieces _ sound.within
+      (all_moved (length all.bodies) contents.pieces (pieces_small ops payload contents packed));
+}
 
 -- the operations on a board of one operation and of more
 pub one_and_more : (board : ℕ) (op : RegOp) (ops : List RegOp)
@@ -193,6 +210,15 @@ module _ (payload board : ℕ) (steps : List Step) (i : ℕ) (all : ClientBodies
           few_later = few_without payload [] op (drop (i + 1) steps)
               (subst (HaveFewBehind payload []) rest so_far.few_later);
         }
+
+-- behind the last step, what waits is the last dispatch
+pub planned_at_end : (payload board : ℕ) (steps : List Step) (i : ℕ) (all : ClientBodies) (queued : List Op)
+    → IsPlanning payload board steps i all queued → length steps ≤ i
+    → with_dispatch all (packed_contents payload queued) ≡ all_dispatches (plan payload board steps)
+planned_at_end payload board steps i all queued so_far past =
+    ap (λ ops. with_dispatch all (packed_contents payload ops)) (sym (append-nil queued))
+    ∙ (ap (λ left. fold with_dispatch all (dispatches_left payload board queued (dispatches left)))
+    (sym (drop_all i steps past)) ∙ so_far.planned)
 
 pub at_start : (payload board : ℕ) (steps : List Step) → AllByRecursion CanBePacked steps → MIN_PAYLOAD ≤ payload
     → HaveFewPieces steps → IsPlanning payload board steps 0 no_bodies []

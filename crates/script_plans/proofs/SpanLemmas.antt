@@ -1,7 +1,10 @@
 -- The pieces of operations as parts of one list.
-use Rattle.std.proofs.Common.{◌≡◌, ℕ, ◌-◌, ◌≤◌, List, [], ◌∷◌, ◌++◌, length, take, drop, map, refl, ap, ◌∙◌, arith}
+use Rattle.std.proofs.Common.{◌≡◌, ℕ, ◌-◌, ◌≤◌, List, Some, [], ◌∷◌, ◌++◌, length, take, drop, map, refl, ap, ◌∙◌, arith}
 use Rattle.std.proofs.Common.{length-append, length-drop}
 use Rattle.std.proofs.lemmas.List.{take-append-le, drop-append-le, take_all}
+use Rattle.std.proofs.lemmas.Option.{slice_get-map}
+use Rattle.std.specs.List.{slice_get}
+use Rattle.std.specs.Option.{option_map}
 use Rattle.std.proofs.Math.Seq.{drop-append_seam}
 use Rattle.script_plans.specs.declared.planned.PieceAt.{PieceAt}
 use Rattle.script_plans.specs.declared.op_pieces.Span.{Span}
@@ -49,3 +52,9 @@ one_more places more spans new_places new_spans start end places_are spans_are s
     }) ∷ []) (kept places more spans within)
     ∙ ap (λ (part : List PieceAt). map (span_pieces places) spans ++ part ∷ []) (last places more))
     )
+
+-- the pieces of an operation are the part that its span tells
+pub pieces_at : (places : List PieceAt) (spans : List Span) (op : ℕ) (span : Span) → slice_get spans op ≡ Some span
+    → slice_get (map (span_pieces places) spans) op ≡ Some (span_pieces places span)
+pieces_at places spans op span at =
+    slice_get-map (span_pieces places) spans op ∙ ap (option_map (span_pieces places)) at

@@ -92,6 +92,52 @@ struct Planning {
     spare: Vec<Words>,
 }
 
+impl Planning {
+    /// Nothing is planned, and nothing waits. It takes no memory.
+    fn new(alloc: Global) -> Planning
+        ensures planned { so_far result ≡ spec.no_bodies }
+        ensures queued { result.queued.items ≡ [] }
+    {
+        Planning {
+            bodies: Vec::new(alloc),
+            pieces: OpPieces::new(alloc),
+            counts: Vec::new(alloc),
+            queued: Vec::new(alloc),
+            spare: Vec::new(alloc),
+        }
+    }
+
+    /// Adds a dispatch of what waited, packed, and then nothing waits. The memory of the list of its bodies is kept.
+    fn add_dispatch(&mut self, packed: Packed) -> Result<(), NoMemory>
+        requires { length packed.pieces ≡ length self.old.queued.items }
+        ensures planned { OnOk result (so_far self.new ≡ spec.with_dispatch (so_far self.old) packed) }
+        ensures emptied { OnOk result (self.new.queued.items ≡ []) }
+    {
+        let first = self.bodies.len();
+        push_pieces(&mut self.pieces, &packed, self.queued.len(), first)?;
+        let (mut bodies, _) = packed.into_parts();
+        self.counts.push(bodies.len())?;
+        self.bodies.append(&mut bodies)?;
+        self.spare = bodies;
+        self.queued.clear();
+        Ok(())
+    }
+
+    /// All that was planned. What waits is let go.
+    fn into_planned(self) -> Planned
+        requires { spec.AreSound (so_far self) }
+        ensures { result ≡ so_far self }
+    {
+        let Planning {
+            bodies,
+            pieces,
+            counts,
+            ..
+        } = self;
+        Planned::new(bodies, pieces, counts)
+    }
+}
+
 /// An operation on the board waits for the next dispatch.
 fn queue(alloc: Global, queued: &mut Vec<Op>, op: &RegOp, board: u32) -> Result<(), NoMemory>
     ensures { OnOk result (queued.new.items ≡ queued.old.items ++ spec.ops_on board (op.now ∷ [])) }
@@ -123,15 +169,7 @@ fn dispatch(alloc: Global, planning: &mut Planning, payload: u32) -> Result<(), 
     packed_bodies_spell_requests();
     let spare = mem::replace(&mut planning.spare, Vec::new(alloc));
     let packed = pack_into(alloc, spare, planning.queued.as_slice(), payload)?;
-    let first = planning.bodies.len();
-    let count = planning.queued.len();
-    push_pieces(&mut planning.pieces, &packed, count, first)?;
-    let (mut bodies, _) = packed.into_parts();
-    planning.counts.push(bodies.len())?;
-    planning.bodies.append(&mut bodies)?;
-    planning.spare = bodies;
-    planning.queued.clear();
-    Ok(())
+    planning.add_dispatch(packed)
 }
 
 /// The bodies of a client on a board that takes packets of `payload` words.
@@ -148,13 +186,7 @@ fn pack_dispatches(
     ensures planned { IfOk result (λ planned. planned ≡ spec.all_dispatches (spec.plan payload board steps.now)) }
     ensures room { IfOk result (λ planned. AllByRecursion (FitsPackets payload) planned.bodies) }
 {
-    let mut planning = Planning {
-        bodies: Vec::new(alloc),
-        pieces: OpPieces::new(alloc),
-        counts: Vec::new(alloc),
-        queued: Vec::new(alloc),
-        spare: Vec::new(alloc),
-    };
+    let mut planning = Planning::new(alloc);
     for step in steps {
         match step {
             Step::Do(op) => queue(alloc, &mut planning.queued, op, board)?,
@@ -163,13 +195,7 @@ fn pack_dispatches(
         }
     }
     dispatch(alloc, &mut planning, payload)?;
-    let Planning {
-        bodies,
-        pieces,
-        counts,
-        ..
-    } = planning;
-    Ok(Planned::new(bodies, pieces, counts))
+    Ok(planning.into_planned())
 }
 
 fn nothing(alloc: Global) -> Planned

@@ -9,6 +9,7 @@ mod Rising
 mod Covering
 mod Denials
 pub mod Printed
+mod ListsLeft
 mod PiecesSoFar
 mod LatePieces
 pub mod EndsInOrder

@@ -8,7 +8,7 @@ use Rattle.std.specs.Prelude.{Option, Some, None, option_to_list, slice_index}
 use Rattle.std.proofs.lemmas.Bool.{cases_eq, cases_lt}
 use Rattle.std.proofs.lemmas.Bool.Decides.{nat_tests}
 use Rattle.std.proofs.lemmas.Grind.{get_or-set_at}
-use Rattle.std.proofs.lemmas.List.{get_or_past, take_more, get_or-set_other}
+use Rattle.std.proofs.lemmas.List.{drop_all, get_or_past, take_more, get_or-set_other}
 use Rattle.std.proofs.lemmas.List.Elements.{filter_map-append}
 use Rattle.std.proofs.lemmas.List.Sums.{count_by-le-length}
 use Rattle.std.proofs.lemmas.Option.{slice_get_cases}
@@ -87,6 +87,13 @@ module _ (runs : List BoardRun) (client : ℕ) (steps : List Step) (i : ℕ) (ma
         )
         | inr past ↦ omega (arith, get_or_past counts b 0 (omega (arith, so_far.boards)))
       ]
+
+  -- behind the last step there are all lines
+  pub lines_at_end : length steps ≤ i → made ≡ client_lines runs client steps
+  lines_at_end past =
+      sym (append-nil made)
+      ∙ (ap (λ left. made ++ lines_behind runs client (asked_operations (take i steps)) (asked_operations left))
+      (sym (drop_all i steps past)) ∙ so_far.lines)
 
   module _ (step : Step) (within : i < length steps) (is : step ≡ get_or steps i step) where
     -- a dispatch is no operation

@@ -1,8 +1,8 @@
-use Rattle.std.proofs.Common.{◌≡◌, ◌++◌, drop}
+use Rattle.std.proofs.Common.{◌≡◌, ◌++◌, take}
 use Rattle.capture_reader.specs.Rows as spec
 use Rattle.capture_reader.proofs.texts.push_words.Given as goal
 
--- the text so far, and what is left
+-- the text of the words so far
 abbrev pub invariant-loop-word : goal.invariant-loop-word
 invariant-loop-word l =
-    l.out.items ++ spec.words_text (drop l.word-index l.words) ≡ l.fn.out.items ++ spec.words_text l.words
+    l.out.items ≡ l.fn.out.items ++ spec.words_text (take l.word-index l.words)

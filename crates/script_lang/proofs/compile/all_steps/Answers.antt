@@ -1,4 +1,5 @@
-use Rattle.std.proofs.Common.{◌∙◌, subst}
+use Rattle.std.proofs.Common.{◌∙◌, append-nil, subst, sym}
+use Rattle.std.proofs.lemmas.List.{drop_all}
 use Rattle.std.specs.Prelude.{IfErr}
 use Rattle.script_lang.specs.Tallies.{StopsAs}
 use Rattle.script_lang.proofs.StepsSoFar.{all_scripts_packed, one_script_more, stopped_at_script}
@@ -27,3 +28,7 @@ returns-in_err-steps-clause-stopped c =
     (stopped_at_script c.args.boards.now c.args.indexes.now before.all.items before.tally before.i
     c.index-scripts-i.result c.as_slice.result.now c.args.scripts.now handed.result c.in_err-steps.field-0.0
     c.loop-i-test.true c.index-scripts-i.is c.as_slice.ensures c.in_err-steps.ensures.stopped handed.ensures.1)
+
+pub returns-clause-run : goal.returns-clause-run
+returns-clause-run c =
+    sym (rw (drop_all c.loop-i.i c.args.scripts.now c.loop-i-test.false, append-nil) at c.loop-i.invariant.run)

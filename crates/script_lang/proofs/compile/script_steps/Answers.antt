@@ -1,4 +1,5 @@
-use Rattle.std.proofs.Common.{◌≡◌, ◌∙◌, ◌++◌, option_to_list, subst}
+use Rattle.std.proofs.Common.{◌≡◌, ◌∙◌, ◌++◌, append-nil, option_to_list, subst, sym}
+use Rattle.std.proofs.lemmas.List.{drop_all}
 use Rattle.std.specs.Prelude.{IfErr}
 use Rattle.script_lang.specs.Tallies.{StopsAs}
 use Rattle.script_lang.proofs.StepsSoFar.{all_can_be_packed, lines_counted, one_line_more, stopped_at_line, with_no_step}
@@ -37,3 +38,8 @@ returns-in_err-step-clause-stopped c =
     (stopped_at_line c.args.boards.now c.args.indexes.now c.args.client before.steps.items before.so_far before.i
     c.index-lines-i.result c.as_str-text.result.now c.args.lines.now handed.result c.in_err-step.field-0.0
     c.loop-i-test.true c.index-lines-i.is c.as_str-text.ensures c.in_err-step.ensures.stopped handed.ensures.1)
+
+pub returns-clause-run : goal.returns-clause-run
+returns-clause-run c =
+    rw c.from_vec.ensures
+    (sym (rw (drop_all c.loop-i.i c.args.lines.now c.loop-i-test.false, append-nil) at c.loop-i.invariant.run))

@@ -1,7 +1,7 @@
 use Rattle.std.proofs.Common.{◌+◌, sym, subst}
 use Rattle.transcript.specs.declared.lines.Progress.{Progress}
 use Rattle.transcript.specs.Steps.{IsProgress}
-use Rattle.transcript.proofs.LineLemmas.{after_denied, after_dispatch, after_operation, counts_below}
+use Rattle.transcript.proofs.LineLemmas.{after_denied, after_dispatch, after_operation, counts_below, lines_at_end}
 use Rattle.transcript.proofs.lines.client_lines.Goals as goal
 use Rattle.transcript.proofs.lines.client_lines.Goals.{in-Denied+in_ok-add_denied_line-in-Denied, in-Dispatch}
 use Rattle.transcript.proofs.lines.client_lines.Goals.{in-Do+in_ok-add_line-in-Do}
@@ -31,3 +31,8 @@ loop-step-preserved c =
 pub add_line-requires-clause-below : goal.add_line-requires-clause-below
 add_line-requires-clause-below c =
     counts_below c.args.runs.now c.args.client c.args.steps.now c.loop-step.step-index _ _ _ c.loop-step.invariant
+
+pub returns : goal.returns
+returns c =
+    lines_at_end c.args.runs.now c.args.client c.args.steps.now c.loop-step.step-index _ _ _ c.loop-step.invariant
+    c.loop-step-test.false

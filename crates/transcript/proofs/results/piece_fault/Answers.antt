@@ -1,8 +1,10 @@
-use Rattle.std.proofs.Common.{◌≡◌, ◌++◌, ◌∙◌, List, Option, ap, refl, slice_get, subst, sym}
+use Rattle.std.proofs.Common.{◌≡◌, ◌++◌, ◌∙◌, List, Option, Some, ap, refl, slice_get, subst, sym}
 use Rattle.std.specs.Option.{option_map}
 use Rattle.std.specs.Prelude.{IfOk, OnOk}
 use Rattle.reply_join.specs.declared.answer.Answer.{Answer}
+use Rattle.transcript.specs.declared.line.LateAnswer.{LateAnswer}
 use Rattle.transcript.specs.declared.line.OpResult.{OpResult}
+use Rattle.transcript.specs.declared.line.OpResult.TheVariants.{Late}
 use Rattle.transcript.specs.Ends.{answer_result, piece_result}
 use Rattle.transcript.specs.Results.{shown_not_done, values_in}
 use Rattle.transcript.specs.Steps.{not_done_in}
@@ -75,3 +77,15 @@ returns-in-LinkLost-clause-values c =
     no_words c.args.words.now.items (piece_result c.args.ends.now c.args.piece) _
     (end_at c.args.ends.now c.args.piece.body c.args.piece.index c.in-Some.end.now _ c.in-Some.ensures.lookup.3.0
     c.in-Some.ensures.lookup.1 c.in-LinkLost.is) refl
+
+pub returns-in_ok-shown_late-in-Late-clause-fault : goal.returns-in_ok-shown_late-in-Late-clause-fault
+returns-in_ok-shown_late-in-Late-clause-fault c =
+    ap (λ (answer' : LateAnswer). Some (Late c.in-Late.rounds answer')) c.in_ok-shown_late-in-Late.ensures
+    ∙ sym (fault_at c.args.op.now.verb c.args.op.now.mask c.args.ends.now c.args.piece.body c.args.piece.index
+    c.in-Some.end.now _ c.in-Some.ensures.lookup.3.0 c.in-Some.ensures.lookup.1 c.in-Late.is)
+
+pub returns-in_ok-shown_late-in-Late-clause-values : goal.returns-in_ok-shown_late-in-Late-clause-values
+returns-in_ok-shown_late-in-Late-clause-values c =
+    no_words c.args.words.now.items (piece_result c.args.ends.now c.args.piece) _
+    (end_at c.args.ends.now c.args.piece.body c.args.piece.index c.in-Some.end.now _ c.in-Some.ensures.lookup.3.0
+    c.in-Some.ensures.lookup.1 c.in-Late.is) refl

@@ -1,10 +1,10 @@
-use Rattle.std.proofs.Common.{◌+◌, ◌++◌, [], List, refl}
+use Rattle.std.proofs.Common.{◌+◌, ◌++◌, [], List, refl, subst}
 use Rattle.transcript.specs.declared.line.OpLine.{OpLine}
 use Rattle.transcript.specs.declared.counting.Counts.{Counts}
 use Rattle.transcript.specs.declared.printing.Printer.{Printer}
 use Rattle.transcript.specs.Printing.{HasPrinted}
 use Rattle.transcript.specs.Steps.{IsProgress}
-use Rattle.transcript.proofs.LineLemmas.{after_denied, after_dispatch, after_operation, counts_below}
+use Rattle.transcript.proofs.LineLemmas.{after_denied, after_dispatch, after_operation, counts_below, lines_at_end}
 use Rattle.transcript.proofs.PrintedLines.{both_printed, none_printed, of_both, progress_at_start}
 use Rattle.transcript.proofs.printing.Printer.print_client.Goals as goal
 use Rattle.transcript.proofs.printing.Printer.print_client.Goals.{in-Denied+in_ok-print_denied-in-Denied, in-Dispatch}
@@ -53,3 +53,9 @@ loop-step-preserved c =
             c.step-item.result c.loop-step-test.true c.step-item.is w.in-Dispatch.is,
       )
     ]
+
+pub returns : goal.returns
+returns c =
+    subst (HasPrinted c.args.self.now c.loop-step.self)
+    (lines_at_end c.args.runs.now c.args.client c.args.steps.now c.loop-step.step-index _ _ _ c.loop-step.invariant.2
+    c.loop-step-test.false) c.loop-step.invariant.1

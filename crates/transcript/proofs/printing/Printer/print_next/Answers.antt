@@ -1,8 +1,8 @@
-use Rattle.std.proofs.Common.{◌∙◌, length, refl}
-use Rattle.std.proofs.lemmas.Option.{slice_get_read}
+use Rattle.std.proofs.Common.{◌∙◌, arith, length, refl}
+use Rattle.std.proofs.lemmas.Option.{slice_get_past, slice_get_read}
 use Rattle.transcript.specs.Steps.{ends_on}
 use Rattle.script_plans.proofs.Lookups.{same_read}
-use Rattle.transcript.proofs.PrintedLines.{line_printed}
+use Rattle.transcript.proofs.PrintedLines.{line_printed, none_printed}
 use Rattle.transcript.proofs.printing.Printer.print_next.Goals as goal
 
 pub print_line-requires : goal.print_line-requires
@@ -19,3 +19,8 @@ returns-clause-lines c =
     (slice_get_read runs (length runs) c.args.op.now.board c.in-Some.run'.now refl c.in-Some.ensures.lookup.3.0
     c.in-Some.ensures.lookup.1)
     c.in_ok-k.ensures.number c.in_ok-k.ensures.before c.print_line.ensures
+
+pub returns-in_default-clause-lines : goal.returns-in_default-clause-lines
+returns-in_default-clause-lines c =
+    rw (slice_get_past c.args.runs.now c.args.op.now.board (omega (arith, c.in_default.ensures.lookup)))
+    (none_printed c.args.self.now)
