@@ -8,7 +8,7 @@ use ipb_base::Text;
 use std::marker::Model;
 
 /// What becomes of an access of which a rule speaks.
-#[derive(Clone, Copy, Debug, PartialEq, Eq)]
+#[derive(Clone, Copy, PartialEq, Eq)]
 pub enum Effect {
     Allow,
     Deny,

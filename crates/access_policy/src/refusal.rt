@@ -6,7 +6,7 @@ use ipb_base::{NoMemory, Text};
 use std::alloc::{AllocError, AllocFailed};
 
 /// Why a policy was not read: its first fault.
-#[derive(Debug, Drop)]
+#[derive(Drop)]
 pub enum PolicyRefusal {
     /// A value is not what stands under its key, a rule has no such key, or a key that it needs is left out. The path
     /// leads from the array of rules to the place of the fault: positions from 0 and keys, with a dot between them. It

@@ -4,7 +4,7 @@ ghost use Rattle.std.specs.Str.{bytes_eq};
 ghost use Rattle.address_table.specs.Kinds as spec;
 
 /// Who may use a register: for reading, for writing, or for both.
-#[derive(Clone, Copy, Debug, PartialEq, Eq)]
+#[derive(Clone, Copy, PartialEq, Eq)]
 pub enum Permission {
     R,
     W,
@@ -13,7 +13,7 @@ pub enum Permission {
 
 /// How a register is used (uHAL): one word, a block of words at rising addresses, a port whose words all go through one
 /// address, or a node that is there for its children alone.
-#[derive(Clone, Copy, Debug, PartialEq, Eq)]
+#[derive(Clone, Copy, PartialEq, Eq)]
 pub enum Mode {
     Single,
     Block,

@@ -98,7 +98,7 @@ impl fmt::Display for UndescribeRefusal {
 impl Error for UndescribeRefusal {}
 
 /// Why nothing was read at the front of a text.
-#[derive(Clone, Copy, Debug, PartialEq, Eq)]
+#[derive(Clone, Copy, PartialEq, Eq)]
 pub(crate) enum Unread {
     /// Something else stands there.
     Other,

@@ -12,7 +12,7 @@ use std::marker::Send;
 use world_core::{Link, LinkFault};
 
 /// Why no link was made.
-#[derive(Clone, Copy, Debug, PartialEq, Eq)]
+#[derive(Clone, Copy, PartialEq, Eq)]
 pub enum RackFault {
     /// The link could not be made. The rack counted it.
     Failed,

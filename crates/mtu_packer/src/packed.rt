@@ -6,7 +6,7 @@ use std::marker::Model;
 use transaction_codec::Words;
 
 /// Where one piece of an operation stands. Profile.
-#[derive(Clone, Copy, Debug, Default, PartialEq, Eq)]
+#[derive(Clone, Copy, Default, PartialEq, Eq)]
 pub struct Piece {
     /// The body, from 0.
     pub body: u32,

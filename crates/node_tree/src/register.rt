@@ -1,7 +1,7 @@
 use address_table::{Mode, Permission};
 
 /// What a name of an index stands for (uHAL).
-#[derive(Clone, Copy, Debug, PartialEq, Eq)]
+#[derive(Clone, Copy, PartialEq, Eq)]
 pub struct Register {
     /// The sum of the addresses of the nodes that lead to it, and of index times stride of each that has a count, in
     /// words.

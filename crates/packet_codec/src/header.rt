@@ -11,7 +11,7 @@ use ipb_base::VERSION;
 pub(crate) const BYTE_ORDER_QUALIFIER: u32 = 0xf;
 
 /// The two fields of a packet header that differ from packet to packet (IPbus 2.0, packet header).
-#[derive(Clone, Copy, Debug, PartialEq, Eq)]
+#[derive(Clone, Copy, PartialEq, Eq)]
 pub struct Header {
     /// The packet identifier, 0 to 0xffff.
     pub id: u16,

@@ -15,7 +15,7 @@ pub const MAX_PACKET_WORDS: usize = 2243;
 pub const MAX_BODY_WORDS: usize = MAX_PACKET_WORDS - 1;
 
 /// The order of the bytes of each word of a packet (IPbus 2.0, packet header: the byte-order qualifier).
-#[derive(Clone, Copy, Debug, PartialEq, Eq)]
+#[derive(Clone, Copy, PartialEq, Eq)]
 pub enum Order {
     /// The most significant byte first, as a hub writes.
     Big,
@@ -49,7 +49,7 @@ impl Order {
 }
 
 /// The type of a packet (IPbus 2.0, packet header, bits 3 to 0).
-#[derive(Clone, Copy, Debug, PartialEq, Eq)]
+#[derive(Clone, Copy, PartialEq, Eq)]
 pub enum PacketKind {
     /// Transactions, or the replies to them.
     Control = 0,
@@ -87,7 +87,7 @@ impl PacketKind {
 }
 
 /// What stands before the body of a packet: what its first word tells (IPbus 2.0, packet header).
-#[derive(Clone, Copy, Debug, PartialEq, Eq)]
+#[derive(Clone, Copy, PartialEq, Eq)]
 pub struct Head {
     /// The byte order of every word. Only control packets may be little-endian (profile).
     pub order: Order,

@@ -4,7 +4,7 @@ ghost use Rattle.packet_ids.specs.Identifier.{IsIdentifier};
 use std::marker::Model;
 
 /// The identifier of a packet in the order: 1 to 0xffff. Contracts see it as that number.
-#[derive(Clone, Copy, Debug, PartialEq, Eq)]
+#[derive(Clone, Copy, PartialEq, Eq)]
 pub struct Id {
     number: u16,
 }

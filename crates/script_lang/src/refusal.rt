@@ -13,7 +13,7 @@ pub const MAX_BOARDS: usize = 16;
 pub const MAX_CLIENTS: usize = 64;
 
 /// The rule that a document breaks (profile), in the order in which they are told.
-#[derive(Clone, Copy, Debug, PartialEq, Eq)]
+#[derive(Clone, Copy, PartialEq, Eq)]
 pub enum DocWhy {
     /// The bytes are no TOML text.
     NotToml,
@@ -30,7 +30,7 @@ pub enum DocWhy {
 }
 
 /// Why a document was not read: its first fault.
-#[derive(Debug, Drop)]
+#[derive(Drop)]
 pub enum SessionRefusal {
     /// A fault of the document outside its tables. The path leads from the document to the place of the fault: keys as
     /// they are and positions from 0, with dots between them. It is empty where the document as a whole is at fault.

@@ -9,7 +9,7 @@ use std::alloc::{AllocError, AllocFailed};
 pub const MAX_LINES: u64 = 200_000;
 
 /// The rule that a line breaks (profile). Where a line breaks several, the first of this list is told.
-#[derive(Clone, Copy, Debug, PartialEq, Eq)]
+#[derive(Clone, Copy, PartialEq, Eq)]
 pub enum ScriptWhy {
     /// The words are no line of a script.
     BadLine,
@@ -33,7 +33,7 @@ pub enum ScriptWhy {
 }
 
 /// Why scripts were not compiled.
-#[derive(Clone, Copy, Debug, PartialEq, Eq)]
+#[derive(Clone, Copy, PartialEq, Eq)]
 pub enum ScriptRefusal {
     /// The first faulty line, by the numbers from 1 of its client and of itself in the client's script, and the first
     /// rule that it breaks.

@@ -25,7 +25,7 @@ pub const STATUS_BYTES: usize = 64;
 pub const RESEND_BYTES: usize = 4;
 
 /// What a board tells of itself in a status reply (IPbus 2.0, status packet).
-#[derive(Clone, Copy, Debug, PartialEq, Eq)]
+#[derive(Clone, Copy, PartialEq, Eq)]
 pub struct Status {
     /// The greatest IP packet that the board takes and sends, in bytes, the 28 bytes of the IP and UDP headers
     /// included: 92 to 9000 (profile). So a packet has at most (mtu - 28) / 4 words.

@@ -125,7 +125,7 @@ pub struct Shown {
 }
 
 /// Why a text shows nothing of a session.
-#[derive(Clone, Copy, Debug, PartialEq, Eq)]
+#[derive(Clone, Copy, PartialEq, Eq)]
 pub enum Unshown {
     /// This line, from 1, is the first that may not stand there, is missing, or is left over.
     At { line: u32 },

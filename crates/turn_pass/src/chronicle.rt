@@ -4,7 +4,7 @@ ghost use Rattle.std.specs.Prelude.{◌≡◌, length};
 
 /// What a caller did (profile): who, which kind of call, and its number among those of this caller and kind, from 0.
 /// Which kinds there are is for the value to say.
-#[derive(Clone, Copy, Debug, PartialEq, Eq)]
+#[derive(Clone, Copy, PartialEq, Eq)]
 pub struct Entry {
     pub maker: u32,
     pub kind: u8,

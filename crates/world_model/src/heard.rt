@@ -2,7 +2,7 @@ use ipb_base::Words;
 use packet_codec::Order;
 
 /// What a board did with a datagram.
-#[derive(Clone, Copy, Debug, PartialEq, Eq)]
+#[derive(Clone, Copy, PartialEq, Eq)]
 pub enum Heard {
     /// A control packet was executed and answered.
     Replied,
@@ -15,7 +15,7 @@ pub enum Heard {
 }
 
 /// Why a board dropped a datagram: the first of these rules that applies.
-#[derive(Clone, Copy, Debug, PartialEq, Eq)]
+#[derive(Clone, Copy, PartialEq, Eq)]
 pub enum DropCause {
     /// The bytes are no packet, or a status or re-send packet of another length or form (profile).
     NotPacket,

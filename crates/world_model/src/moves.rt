@@ -17,7 +17,7 @@ pub enum WorldMove {
 }
 
 /// Why a list of moves has no end: the first move, from 0, that is not allowed, or want of memory.
-#[derive(Clone, Copy, Debug, PartialEq, Eq)]
+#[derive(Clone, Copy, PartialEq, Eq)]
 pub enum WorldEnd {
     /// The move names a datagram that this side cannot hear, or a silence that nobody notices.
     NotThere { at: usize },

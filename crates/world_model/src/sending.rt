@@ -1,7 +1,7 @@
 use packet_ids::Id;
 
 /// What a hub sends next.
-#[derive(Clone, Copy, Debug, PartialEq, Eq)]
+#[derive(Clone, Copy, PartialEq, Eq)]
 pub enum Sending {
     /// A status request.
     Status,
