@@ -210,8 +210,8 @@ heard_down sent {old} {gots} {gots_now} same_gots same are is =
     (omega (arith, replied_lost 0 sent old)) is)
 
 -- memory ran out
-pub heard_still : (old : List (Option Outcome)) {new : List (Option Outcome)} (gots gots_now : ℕ) → gots ≤ gots_now → new ≡ old
-    → HasHeard old gots → HasHeard new gots_now
+pub heard_still : (old : List (Option Outcome)) {new : List (Option Outcome)} (gots gots_now : ℕ)
+    → gots ≤ gots_now → new ≡ old → HasHeard old gots → HasHeard new gots_now
 heard_still old gots gots_now more same is = subst (λ (os : List (Option Outcome)). HasHeard os gots_now) (sym same)
     (no_fewer (count_by is_replied old) (count_by is_replied old) gots gots_now more (omega arith) is)
 

@@ -55,8 +55,8 @@ invariant_of-self-in-Err-Failed g c =
       pays_stopped c.laws_of_rounds.ensures (l.down || l.spent) l.mtu l.settings.rounds l.give_ups
           c.exchange.new.give_ups
           l.engine c.exchange.new.hub (g.L.Link.held l.link) (g.L.Link.held c.exchange.new.link) (telling l.link)
-          (telling c.exchange.new.link) c.exchange.ensures.counts.board unsettled.give_ups c.exchange.ensures.counts.held
-          c.self.invariant.1,
+          (telling c.exchange.new.link) c.exchange.ensures.counts.board unsettled.give_ups
+          c.exchange.ensures.counts.held c.self.invariant.1,
       heard_down c.sent.result (c.exchange.ensures.failed (cc)).receives.gots unsettled.outcomes
           c.lose_all.ensures.outcomes c.self.invariant.2,
       listened_sent unsettled.sent unsettled.give_ups
@@ -80,8 +80,8 @@ invariant_of-self-in-Err-NoMemory g c =
           c.exchange.new.give_ups l.engine c.exchange.new.hub (g.L.Link.held l.link) (g.L.Link.held c.exchange.new.link)
           (telling l.link) (telling c.exchange.new.link) c.exchange.ensures.counts.board unsettled.give_ups
           c.exchange.ensures.counts.held c.self.invariant.1),
-      heard_still l.outcomes.items (g.L.Link.gots l.link) (g.L.Link.gots c.exchange.new.link) c.exchange.ensures.counts.gots
-          unsettled.outcomes c.self.invariant.2,
+      heard_still l.outcomes.items (g.L.Link.gots l.link) (g.L.Link.gots c.exchange.new.link)
+          c.exchange.ensures.counts.gots unsettled.outcomes c.self.invariant.2,
       listened_sent unsettled.sent unsettled.give_ups (same_answers unsettled.outcomes unsettled.lates)
           c.exchange.ensures.counts.receives c.self.invariant.3,
     )

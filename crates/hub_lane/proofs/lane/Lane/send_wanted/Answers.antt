@@ -41,7 +41,8 @@ invariant_of-self-in-Err-Failed g c =
     let sent = c.send_all.ensures in
     let up = c.if-self.false in (
       pump_down laws c.if-self-2.false up c.self.invariant.0 sent.some c.in-Err-Failed.ensures.stopped
-          sent.unanswered (sent.faults.failed (cc)) sent.unreceived.quiets refl refl c.lose_all.ensures.lates c.sent.ensures c.lose_all.ensures.outcomes sent.unreceived.board,
+          sent.unanswered (sent.faults.failed (cc)) sent.unreceived.quiets refl refl c.lose_all.ensures.lates
+          c.sent.ensures c.lose_all.ensures.outcomes sent.unreceived.board,
       pays_stopped c.laws_of_rounds.ensures (l.down || l.spent) l.mtu l.settings.rounds l.give_ups l.give_ups
           l.engine c.send_all.new.hub (g.L.Link.held l.link) (g.L.Link.held c.send_all.new.link) (telling l.link)
           (telling c.send_all.new.link) sent.unreceived.board refl sent.unreceived.held c.self.invariant.1,
@@ -58,8 +59,8 @@ invariant_of-self-in-Err-NoMemory g c =
     let telling = g.L.Link.telling in
     let sent = c.send_all.ensures in
     let up = c.if-self.false in (
-      pump_spent laws c.if-self-2.false up c.self.invariant.0 sent.some c.in-Err-NoMemory.ensures.stopped (inl sent.unanswered)
-          (let same = sent.unreceived.quiets in omega (arith, same)) refl refl refl sent.unreceived.board,
+      pump_spent laws c.if-self-2.false up c.self.invariant.0 sent.some c.in-Err-NoMemory.ensures.stopped
+          (inl sent.unanswered) (let same = sent.unreceived.quiets in omega (arith, same)) refl refl refl sent.unreceived.board,
       subst (λ (b : Bool). IfSome (telling c.send_all.new.link) (HasPaid (b || true) l.mtu l.settings.rounds
           l.give_ups c.send_all.new.hub (g.L.Link.held c.send_all.new.link))) (sym c.if-self-2.false)
           (pays_stopped c.laws_of_rounds.ensures (l.down || l.spent) l.mtu l.settings.rounds l.give_ups l.give_ups
