@@ -1,10 +1,14 @@
-use Rattle.std.proofs.Common.{◌≡◌, ◌≢◌, [], Err}
+use Rattle.std.proofs.Common.{◌≡◌, ◌≢◌, [], Err, arith}
+use Rattle.std.proofs.lemmas.Grind.{common_steps}
 use Rattle.std.proofs.lemmas.Result.{IfErr-weaker}
 use Rattle.world_model.specs.declared.moves.WorldEnd.TheVariants.{NoMemory}
 use Rattle.world_model.specs.World.{start, step}
 use Rattle.world_core.specs.Steps.{world_of}
 use Rattle.world_core.proofs.Moves.{before_all, begins_there, ends_at, handed_on, moved_all, moved_on, whole_run}
 use Rattle.world_core.proofs.world.run.Goals as goal
+
+pub step-requires-clause-short : goal.step-requires-clause-short
+step-requires-clause-short c = grind (arith, common_steps)
 
 pub returns-in_err-step-clause-refused : goal.returns-in_err-step-clause-refused
 returns-in_err-step-clause-refused c =
