@@ -2,7 +2,6 @@
 
 use ipb_base::NoMemory;
 use std::alloc::Global;
-use std::test::Fail;
 use world_core::{Message, read_for_hub};
 
 /// These bytes and zeros behind them, so many bytes in all.
@@ -28,6 +27,13 @@ fn read_by_hub(alloc: Global, datagram: &[u8]) -> Result<Read, NoMemory> {
         Message::Status(_) => Read::Status,
         Message::Other => Read::Other,
     })
+}
+
+/// Whether a hub reads this, and reads it again.
+fn is_read(alloc: Global, front: &[u8], length: usize, wanted: Read) -> Result<bool, NoMemory> {
+    let datagram = padded(alloc, front, length)?;
+    let first = read_by_hub(alloc, &datagram)?;
+    Ok(first == wanted && read_by_hub(alloc, &datagram)? == wanted)
 }
 
 /// The front of a datagram, how many bytes it has, and what a hub reads.
@@ -57,12 +63,8 @@ const HEARD: [(&[u8], usize, Read); 12] = [
 ];
 
 #[test]
-fn a_hub_reads_anything(rt: HostRuntime) -> Result<(), Fail> {
+fn a_hub_reads_anything(rt: HostRuntime) {
     for (front, length, wanted) in HEARD {
-        let datagram = padded(rt.alloc(), front, length)?;
-        for _ in 0..2 {
-            assert!(rt; read_by_hub(rt.alloc(), &datagram)? == wanted);
-        }
+        assert!(rt; is_read(rt.alloc(), front, length, wanted) == Ok(true));
     }
-    Ok(())
 }

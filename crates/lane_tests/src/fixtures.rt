@@ -1,37 +1,25 @@
 //! A small board, a lane over a simulated link to it, and what is asked of them.
 
-ghost use Rattle.std.specs.Prelude.{◌≡◌, ◌≤◌, [], ◌∷◌, IfOk, sum_by};
+ghost use Rattle.std.specs.Prelude.{◌≡◌, ◌≤◌, [], IfOk};
 ghost use Rattle.transaction_codec.specs.Answer.{reply_room};
-ghost use Rattle.transaction_codec.specs.Request.{op_count};
-ghost use Rattle.script_steps.specs.Packing.{CanBePacked, operations};
 ghost use Rattle.world_model.specs.Board.{bodies_executed};
+ghost use Rattle.hub_lane.specs.Greeting.{IfReady};
 
-use crate::links::ready;
 use board_node::{Board, Bus, Fates, Range, RangeKind};
-use hub_lane::{Entry, Lane, Outcome, Settings};
+use hub_lane::{Entry, Greeted, Lane, Outcome, Settings};
 use ipb_base::{NoMemory, Text, Words};
 use lossy_network::{Link, SimLink};
 use packet_ids::Id;
-use script_steps::{RegOp, Step, Verb};
 use std::alloc::Global;
 use std::slice;
 use std::test::Fail;
-use transaction_codec::{Op, reply_room};
+use transaction_codec::reply_room;
 
 /// A read of the word at address 4.
 pub(crate) const READ_FOUR: [u32; 2] = [0x2000_010f, 4];
 
 /// The reply to it.
 pub(crate) const FOUR_READ: [u32; 2] = [0x2000_0100, 0xabcd];
-
-/// The control packet 1 with that body.
-pub(crate) const REQUEST: [u8; 12] = [0x20, 0, 1, 0xf0, 0x20, 0, 1, 0x0f, 0, 0, 0, 4];
-
-/// The reply to that packet.
-pub(crate) const REPLY: [u8; 12] = [0x20, 0, 1, 0xf0, 0x20, 0, 1, 0, 0, 0, 0xab, 0xcd];
-
-/// The request to send the reply to the control packet 1 again.
-pub(crate) const RESEND: [u8; 4] = [0x20, 0, 1, 0xf2];
 
 /// A bus of 16 words, with 0xabcd at address 4.
 fn bus(alloc: Global) -> Result<Bus, Fail> {
@@ -56,19 +44,15 @@ pub(crate) fn board(alloc: Global, mtu: u32, buffers: u32, first: u16) -> Result
     Ok(Board::new(alloc, bus(alloc)?, mtu, buffers, first)?)
 }
 
-/// `rmwsum BOARD:a ADDEND`
-pub(crate) fn add(alloc: Global, board: u32, addend: u32) -> Result<Step, NoMemory>
-    ensures packed { IfOk result CanBePacked }
-    ensures few { IfOk result (λ step. sum_by op_count (operations (step ∷ [])) ≤ 1) }
+/// The lane of a board that told its status, to which nothing was planned.
+fn ready<L: Link + Drop>(greeted: Greeted<L>) -> Result<Lane<L>, Fail>
+    requires { IfReady greeted (λ lane. lane.items ≡ []) }
+    ensures { IfOk result (λ lane. lane.items ≡ []) }
 {
-    Ok(Step::Do(RegOp {
-        line: 1,
-        verb: Verb::RmwSum,
-        board,
-        name: Text::copy_of(alloc, "a")?,
-        mask: u32::MAX,
-        op: Op::RmwSum { base: 0, addend },
-    }))
+    match greeted {
+        Greeted::Ready(lane) => Ok(lane),
+        _ => Err("the board told no status".into()),
+    }
 }
 
 /// A lane over a simulated link with these fates, to such a board with 16 buffers that expects the identifier 1. The

@@ -13,7 +13,6 @@ use hub_multiplexer::laws::a_seat_that_asked_all_may_submit;
 use hub_multiplexer::{
     AskTry, Asked, Hub, Lane, Link, Master, NoMemory, Outcome, Performed, Seat, StepTry,
 };
-use lossy_network::SimLink;
 use std::alloc::Global;
 use std::marker::{Send, Sync};
 use std::sync::Wait;
@@ -219,7 +218,18 @@ fn does<R: Wait, L: Link + Send>(
     }
 }
 
-/// Whether the client of a hub of this lane could do that, and the lane.
+/// What the client of a hub does, with so many reads planned before, and whether it can; the kinds of the lane's entries
+/// then, and how many bodies the lane sent and how many replies it received.
+#[derive(Clone, Copy)]
+struct Row {
+    reads: u32,
+    act: Act,
+    can: bool,
+    kinds: &'static str,
+    counts: (u64, u64),
+}
+
+/// What the client of a hub of this lane could do, and the lane.
 fn done<R: Wait, L: Link + Send + Drop>(
     rt: &R,
     alloc: Global,
@@ -231,41 +241,115 @@ fn done<R: Wait, L: Link + Send + Drop>(
     Ok((is_done, finish(rt, hub, master, seat)?))
 }
 
-/// What a lane did since its greeting: how many bodies it sent, how many replies it received, and how many of its
-/// receives were quiet.
-fn traffic(lane: Lane<SimLink>) -> (u64, u64, u64) {
-    let sent = lane.sent();
+/// Whether a lane has these entries, and sent and received so much.
+fn has<L: Link>(alloc: Global, lane: &Lane<L>, row: Row) -> Result<bool, NoMemory> {
     let (replied, _timed_out, _lost) = lane.counts();
-    (sent, replied, lane.close().quiets())
+    let kinds = kinds(alloc, lane.entries())?;
+    Ok(kinds.as_str() == row.kinds && (lane.sent(), replied) == row.counts)
 }
 
-/// Whether entries have these kinds.
-fn have_kinds(alloc: Global, entries: &[Entry], wanted: &str) -> Result<bool, NoMemory> {
-    Ok(kinds(alloc, entries)?.as_str() == wanted)
+/// Whether it is so at a hub over this lane, and the lane's link.
+fn is_so<R: Wait, L: Link + Send + Drop>(
+    rt: &R,
+    alloc: Global,
+    lane: Lane<L>,
+    row: Row,
+) -> Result<(bool, L), Fail> {
+    let lane = planned(alloc, lane, row.reads)?;
+    let (is_done, lane) = done(rt, alloc, lane, row.act)?;
+    let has = has(alloc, &lane, row) == Ok(true);
+    Ok((has && is_done == Some(row.can), lane.close()))
 }
 
-/// The fates of a link, how many reads are planned, what the client does and whether it can, the kinds of the lane's
-/// entries, and its traffic.
-const CLIENTS: [(&str, u32, Act, bool, &str, (u64, u64, u64)); 6] = [
-    ("ddl", 1, Act::AskOnce, true, "1234", (1, 1, 1)),
+/// Whether it is so over a link with these fates, of whose receives so many are quiet.
+fn is_so_over<R: Wait>(
+    rt: &R,
+    alloc: Global,
+    fates: &str,
+    quiets: u64,
+    row: Row,
+) -> Result<bool, Fail> {
+    let (is_so, link) = is_so(rt, alloc, lane(alloc, fates)?, row)?;
+    Ok(is_so && link.quiets() == quiets)
+}
+
+/// The fates of a link, how many of its receives are quiet, and the rest.
+const CLIENTS: [(&str, u64, Row); 6] = [
+    (
+        "ddl",
+        1,
+        Row {
+            reads: 1,
+            act: Act::AskOnce,
+            can: true,
+            kinds: "1234",
+            counts: (1, 1),
+        },
+    ),
     // a second ask finds a lane that waits for a reply; it sends and receives nothing all the same
-    ("", 2, Act::AskBoth, true, "11233", (2, 0, 0)),
-    ("", 2, Act::TryToAskBoth, true, "11233", (2, 0, 0)),
+    (
+        "",
+        0,
+        Row {
+            reads: 2,
+            act: Act::AskBoth,
+            can: true,
+            kinds: "11233",
+            counts: (2, 0),
+        },
+    ),
+    (
+        "",
+        0,
+        Row {
+            reads: 2,
+            act: Act::TryToAskBoth,
+            can: true,
+            kinds: "11233",
+            counts: (2, 0),
+        },
+    ),
     // one reply of two is received where both come, and one receive is quiet where both requests are lost
-    ("", 2, Act::StepOnce, true, "112334", (2, 1, 0)),
-    ("ddll", 2, Act::StepOnce, false, "11233", (2, 0, 1)),
+    (
+        "",
+        0,
+        Row {
+            reads: 2,
+            act: Act::StepOnce,
+            can: true,
+            kinds: "112334",
+            counts: (2, 1),
+        },
+    ),
+    (
+        "ddll",
+        1,
+        Row {
+            reads: 2,
+            act: Act::StepOnce,
+            can: false,
+            kinds: "11233",
+            counts: (2, 0),
+        },
+    ),
     // a client that plans as it goes
-    ("ddldl", 0, Act::ReadTwice, true, "134134", (2, 2, 2)),
+    (
+        "ddldl",
+        2,
+        Row {
+            reads: 0,
+            act: Act::ReadTwice,
+            can: true,
+            kinds: "134134",
+            counts: (2, 2),
+        },
+    ),
 ];
 
 #[test]
 fn a_call_of_a_hub_does_what_it_says_and_no_more(rt: HostRuntime) -> Result<(), Fail> {
-    for (fates, reads, act, can, wanted, counts) in CLIENTS {
-        let lane = planned(rt.alloc(), lane(rt.alloc(), fates)?, reads)?;
-        let (is_done, lane) = done(&rt, rt.alloc(), lane, act)?;
-        assert!(rt; is_done == Some(can));
-        assert!(rt; have_kinds(rt.alloc(), lane.entries(), wanted) == Ok(true));
-        assert!(rt; traffic(lane) == counts);
+    for (fates, quiets, row) in &CLIENTS {
+        assert!(rt; is_so_over(&rt, rt.alloc(), fates, *quiets, *row)?);
     }
     Ok(())
 }

@@ -1,7 +1,6 @@
-//! Tests of boards, the engine with them, links and racks, turns, lanes, hubs, plans and lines. What their clauses
-//! cannot say is run here: that each call succeeds where memory is there, and that the clauses mean the numbers of
-//! worked examples. Lanes and hubs are also run by the tests of the program's call and by the documents under
-//! `examples`.
+//! Tests of boards, the engine with them, lanes, hubs and connections to them. What their clauses cannot say is
+//! run here: that each call succeeds where memory is there. Links, racks, taps, plans and lines are run by the tests of
+//! the program's call and by the documents under `examples`, as lanes and hubs are too.
 #![tactic(auto)]
 
 #[cfg(test)]
@@ -17,17 +16,7 @@ mod hub_multiplexer_tests;
 #[cfg(test)]
 mod hub_session_tests;
 #[cfg(test)]
-mod link_tap_tests;
-#[cfg(test)]
-mod links;
-#[cfg(test)]
-mod lossy_network_tests;
-#[cfg(test)]
 mod script_link_tests;
-#[cfg(test)]
-mod transcript_tests;
-#[cfg(test)]
-mod turn_pass_tests;
 #[cfg(test)]
 mod world_core_tests;
 

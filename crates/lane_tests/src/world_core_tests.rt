@@ -1,10 +1,10 @@
-//! A hub and a board over moves, and over an air.
+//! A hub and a board over moves.
 
-use crate::fixtures::{FOUR_READ, READ_FOUR, REPLY, REQUEST, board};
+use crate::fixtures::{FOUR_READ, READ_FOUR, board};
 use ipb_base::{NoMemory, Words};
 use std::alloc::Global;
 use std::test::Fail;
-use world_core::{Air, Fate, Settings, World, WorldEnd, WorldMove, are_short, run_world};
+use world_core::{Fate, Settings, World, WorldEnd, WorldMove, are_short, run_world};
 
 /// A move of these tests: an offer of the read under a tag, a quiet receive, or what a side hears.
 #[derive(Clone, Copy)]
@@ -43,11 +43,11 @@ fn ran(
     steps: &[Step],
 ) -> Result<Result<World, WorldEnd>, Fail> {
     let settings = Settings::new(rounds, window).ok_or("no such settings")?;
-    let board = board(alloc, 1500, 16, 65535)?;
     let moves = moves_of(alloc, steps)?;
     if moves.len() > 100 || !are_short(&moves) {
         return Err("these moves cannot be run".into());
     }
+    let board = board(alloc, 1500, 16, 65535)?;
     Ok(run_world(alloc, settings, board, &moves))
 }
 
@@ -94,16 +94,46 @@ fn late(world: &World) -> Option<u64> {
     }
 }
 
-/// Rounds, a window, and moves; how many bodies are executed then, all fates, and the place of the late answer.
-const RUNS: [(u8, u8, &[Step], usize, &[Told], u64); 4] = [
+/// What moves come to: how many bodies are executed then, all fates, and the place of the late answer; or the number of
+/// the move whose datagram is not there.
+#[derive(Clone, Copy)]
+enum Wanted {
+    Ends(usize, &'static [Told], u64),
+    NotThere(usize),
+}
+
+/// Whether moves came to that.
+fn came_to(ran: &Result<World, WorldEnd>, wanted: Wanted) -> bool {
+    match (ran, wanted) {
+        (Ok(world), Wanted::Ends(executed, fates, place)) => {
+            let is_executed = world.board().executed_len() == executed;
+            is_executed && are_told(world, fates) && late(world) == Some(place)
+        }
+        (Err(end), Wanted::NotThere(at)) => *end == WorldEnd::NotThere { at },
+        _ => false,
+    }
+}
+
+/// Whether moves with so many rounds and such a window come to that.
+fn come_to(
+    alloc: Global,
+    rounds: u8,
+    window: u8,
+    steps: &[Step],
+    wanted: Wanted,
+) -> Result<bool, Fail> {
+    let ran = ran(alloc, rounds, window, steps)?;
+    Ok(came_to(&ran, wanted))
+}
+
+/// Rounds, a window, moves, and what they come to.
+const RUNS: [(u8, u8, &[Step], Wanted); 6] = [
     // the request comes twice
     (
         255,
         16,
         &[Step::Offer(7), Step::Board(0), Step::Board(0), Step::Hub(1)],
-        1,
-        &[(7, 'r', 1, 0)],
-        0,
+        Wanted::Ends(1, &[(7, 'r', 1, 0)], 0),
     ),
     // replies are heard in the other order
     (
@@ -117,9 +147,7 @@ const RUNS: [(u8, u8, &[Step], usize, &[Told], u64); 4] = [
             Step::Hub(3),
             Step::Hub(2),
         ],
-        2,
-        &[(8, 'r', 2, 0), (7, 'r', 1, 0)],
-        0,
+        Wanted::Ends(2, &[(8, 'r', 2, 0), (7, 'r', 1, 0)], 0),
     ),
     // the reply comes after the one round, behind the request for a status
     (
@@ -132,39 +160,23 @@ const RUNS: [(u8, u8, &[Step], usize, &[Told], u64); 4] = [
             Step::Board(0),
             Step::Hub(2),
         ],
-        1,
-        &[(7, 't', 1, 1)],
-        1,
+        Wanted::Ends(1, &[(7, 't', 1, 1)], 1),
     ),
     // the second body waits for the window when the hub gives up
     (
         1,
         1,
         &[Step::Offer(7), Step::Offer(8), Step::Quiet, Step::Quiet],
-        0,
-        &[(7, 't', 1, 1), (8, 'u', 0, 0)],
-        0,
+        Wanted::Ends(0, &[(7, 't', 1, 1), (8, 'u', 0, 0)], 0),
     ),
+    (8, 2, &[Step::Hub(0)], Wanted::NotThere(0)),
+    (8, 2, &[Step::Offer(7), Step::Hub(0)], Wanted::NotThere(1)),
 ];
 
 #[test]
 fn moves_are_run(rt: HostRuntime) -> Result<(), Fail> {
-    for (rounds, window, steps, executed, fates, place) in RUNS {
-        let Ok(world) = ran(rt.alloc(), rounds, window, steps)? else {
-            return Err("a move is not allowed".into());
-        };
-        assert!(rt; world.board().executed_len() == executed);
-        assert!(rt; are_told(&world, fates));
-        assert!(rt; late(&world) == Some(place));
-    }
-    Ok(())
-}
-
-#[test]
-fn a_datagram_that_is_not_there_is_not_heard(rt: HostRuntime) -> Result<(), Fail> {
-    let runs: [(&[Step], usize); 2] = [(&[Step::Hub(0)], 0), (&[Step::Offer(7), Step::Hub(0)], 1)];
-    for (steps, at) in runs {
-        assert!(rt; ran(rt.alloc(), 8, 2, steps)?.err() == Some(WorldEnd::NotThere { at }));
+    for (rounds, window, steps, wanted) in &RUNS {
+        assert!(rt; come_to(rt.alloc(), *rounds, *window, steps, *wanted)?);
     }
     Ok(())
 }
@@ -174,18 +186,4 @@ fn settings_are_kept_in_their_ranges(rt: HostRuntime) {
     for (rounds, window, is_kept) in [(255, 16, true), (0, 16, false), (1, 17, false)] {
         assert!(rt; Settings::new(rounds, window).is_some() == is_kept);
     }
-}
-
-/// Sends the request over an air. Whether its board hears it, and nothing stands behind it.
-fn is_heard(air: &mut Air) -> Result<bool, NoMemory> {
-    air.send(&REQUEST)?;
-    Ok(air.hear(0)? && !air.hear(1)?)
-}
-
-#[test]
-fn an_air_keeps_what_was_sent_and_answered(rt: HostRuntime) -> Result<(), Fail> {
-    let mut air = Air::new(rt.alloc(), board(rt.alloc(), 1500, 16, 1)?);
-    assert!(rt; is_heard(&mut air) == Ok(true));
-    assert!(rt; air.for_hub(1) == Some(REPLY.as_slice()));
-    Ok(())
 }
