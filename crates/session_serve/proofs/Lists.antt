@@ -51,6 +51,11 @@ all_middle P [] x ys zs a e = (subst (AllByRecursion P) (sym e) a).0
 all_middle P (w ∷ ws) x ys [] a e = absurd cc
 all_middle P (w ∷ ws) x ys (z ∷ zs) a e = let rest : ws ++ x ∷ ys ≡ zs = cc in all_middle P ws x ys zs a.1 rest
 
+-- where none is left, those so far are all
+pub all_so_far : {A : Type 0} (some rest all : List A) → length rest ≡ 0 → some ++ rest ≡ all → some ≡ all
+all_so_far some [] all none is = sym (append-nil some) ∙ is
+all_so_far some (x ∷ rest) all none is = absurd (omega (arith, none))
+
 pub zip_push : {A B : Type 0} (P : A → B → Type 0) (xs : List A) (ys : List B) (x : A) (y : B) → AllZip P xs ys → P x y
     → AllZip P (xs ++ x ∷ []) (ys ++ y ∷ [])
 zip_push P [] [] x y all p = (p, tt)

@@ -1,13 +1,14 @@
 use Rattle.std.proofs.Common.{◌≡◌, ◌∙◌, ◌∷◌, ◌++◌, ◌+◌, [], ℕ, List, ap, append_assoc, length, length-append, refl}
 use Rattle.std.proofs.Common.{subst, sym, arith}
-use Rattle.std.proofs.lemmas.List.{map-append}
+use Rattle.std.proofs.lemmas.List.{length-map, map-append}
 use Rattle.ipb_outside.specs.Pairs.{Went}
 use Rattle.hub_multiplexer.specs.Ends.{HasTakenIn}
 use Rattle.hub_multiplexer.specs.Seats.{SeatState}
 use Rattle.session_serve.specs.Hubs.{pairs_of, seats_of}
 use Rattle.session_serve.specs.Seats.{AreOfClientsFrom, AreTakenIn, IsBack}
-use Rattle.session_serve.proofs.Lists.{all_middle, went_more, went_none}
+use Rattle.session_serve.proofs.Lists.{all_middle, all_so_far, went_more, went_none}
 use Rattle.session_serve.proofs.Seating.{none_taken, one_taken, taken_more}
+use Rattle.session_serve.proofs.hub.give_back.Given.{Over}
 use Rattle.session_serve.proofs.hub.give_back.Goals as goal
 
 pub loop-one-init : goal.loop-one-init
@@ -66,3 +67,30 @@ loop-one-preserved g c =
       ports = c.keep.ensures.ports_kept ∙ i.ports;
       faults = c.keep.ensures.faults_kept ∙ i.faults;
     }
+
+-- behind the last step all were given back
+all_back : (g : Over) (c : goal.After-drop-one-iterator g) → c.loop-one.yielded ≡ c.args.done.items
+all_back g c =
+    let rest = c.loop-one.one-iterator.rest in
+    let none : length rest.items ≡ 0 = omega (arith, rest.ok.0, c.in-None.ensures.steps.0) in
+    all_so_far c.loop-one.yielded rest.items c.args.done.items none c.loop-one.invariant.all
+
+pub returns-clause-joined : goal.returns-clause-joined
+returns-clause-joined g c = rw (← all_back g c) c.loop-one.invariant.joined
+
+pub returns-clause-taken_in : goal.returns-clause-taken_in
+returns-clause-taken_in g c =
+    let back = all_back g c in
+    let counted : length (seats_of c.loop-one.yielded) ≡ length c.args.done.items =
+    length-map c.loop-one.yielded (λ done. done.seat) ∙ ap (λ l. length l) back in
+    λ client of had. subst (λ (n : ℕ). HasTakenIn (client + n) c.loop-one.master) counted
+    (c.loop-one.invariant.taken_in client (subst (λ all. AreOfClientsFrom client (seats_of all)) (sym back) of) had)
+
+pub returns-clause-served : goal.returns-clause-served
+returns-clause-served g c = rw (← all_back g c) c.loop-one.invariant.lines
+
+pub returns-clause-went : goal.returns-clause-went
+returns-clause-went g c = rw (← all_back g c) c.loop-one.invariant.went
+
+pub returns-clause-out : goal.returns-clause-out
+returns-clause-out g c = rw (← all_back g c) c.loop-one.invariant.out
