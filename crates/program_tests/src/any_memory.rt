@@ -2,12 +2,14 @@
 //! came back once. `checks/failing_allocations` makes each allocation of a test fail in turn, in a process of its own.
 //! Each session runs twice: one of the two runs at most meets that allocation, so the other comes to its end.
 
-use crate::fixtures::{DOCUMENT, calm, over, run_over, wide_sink};
-use crate::serving::door_for;
+use crate::fixtures::{
+    APPLIED, Came, DOCUMENT, FIRST, FIRST_TRANSCRIPT, LENGTH, NOTHING_FAILS, ONE_READ, VALUE,
+    answer, answer_at, document_with,
+};
+use crate::serving::{ASKED, door_for};
 use ipb_base::NoMemory;
 use ipb_outside::Door;
 use ipbus_program::{DONE, NO_MEMORY, NOT_ALL_DONE};
-use lossy_network::SimRack;
 use std::alloc::Global;
 use std::marker::Sync;
 use std::sync::Wait;
@@ -90,54 +92,133 @@ board fe0 places 2 replied 2 timeout 0 lost 0
 board fe1 places 1 replied 1 timeout 0 lost 0
 ";
 
-/// A session: settings in front of a document, a line of its board, what stands in the place of its read, and the status
-/// and the text of `run`.
+/// A word of the command line; a document with what stands in front of it and behind it, settings of its board, and
+/// what stands in the place of its read; and the status and the text.
 #[derive(Clone, Copy)]
 struct Session {
-    settings: &'static str,
-    document: &'static str,
+    line: &'static str,
+    parts: (&'static str, &'static str, &'static str),
     board: &'static str,
     script: &'static str,
     status: u8,
     text: &'static str,
 }
 
-/// A link that loses nothing; one that loses, repeats and delays; one that loses what the hub gives up; and two such
-/// links at once.
-const SESSIONS: [Session; 4] = [
+/// A link that loses nothing, twice; one that loses, repeats and delays; one that loses what the hub gives up; and two
+/// such links at once.
+const SESSIONS: [Session; 5] = [
     Session {
-        settings: "",
-        document: DOCUMENT,
+        line: "run",
+        parts: ("", FIRST, ""),
+        board: "",
+        script: "",
+        status: DONE,
+        text: FIRST_TRANSCRIPT,
+    },
+    Session {
+        line: "run",
+        parts: ("", DOCUMENT, ""),
         board: "mtu = 92\n",
         script: "readblock b0:mem 30",
         status: DONE,
         text: BLOCK,
     },
     Session {
-        settings: "",
-        document: DOCUMENT,
+        line: "run",
+        parts: ("", DOCUMENT, ""),
         board: "noise = 7\n",
         script: "write b0:a.top 1\", \"rmwsum b0:a 1\", \"dispatch\", \"read b0:a",
         status: DONE,
         text: SUMS,
     },
     Session {
-        settings: "rounds = 2\n",
-        document: DOCUMENT,
+        line: "run",
+        parts: ("rounds = 2\n", DOCUMENT, ""),
         board: "fates = \"ddlll\"\n",
         script: "write b0:a 1\", \"dispatch\", \"read b0:a",
         status: NOT_ALL_DONE,
         text: TIMED_OUT,
     },
     Session {
-        settings: "",
-        document: FRONT_ENDS,
+        line: "run",
+        parts: ("", FRONT_ENDS, ""),
         board: "",
         script: "",
         status: DONE,
         text: FRONT_ENDS_READ,
     },
 ];
+
+const CONFIGURATION: Session = Session {
+    line: "apply",
+    parts: ("", DOCUMENT, VALUE),
+    board: "",
+    script: "read b0:a",
+    status: DONE,
+    text: APPLIED,
+};
+
+const RECORDING: Session = Session {
+    line: "record",
+    parts: ("", DOCUMENT, ""),
+    board: "",
+    script: "read b0:sys.id",
+    status: DONE,
+    text: ONE_READ,
+};
+
+/// A transcript of the first document that fits, and one that breaks each rule which it can break.
+const AUDITS: [Session; 5] = [
+    Session {
+        line: "audit",
+        parts: (LENGTH, FIRST, FIRST_TRANSCRIPT),
+        board: "",
+        script: "",
+        status: DONE,
+        text: "audit yes\n",
+    },
+    Session {
+        line: "audit",
+        parts: (LENGTH, FIRST, "client 1\n1 read b0:id = 0x0000abcd @1.1\n"),
+        board: "",
+        script: "",
+        status: NOT_ALL_DONE,
+        text: "audit no 3 Form\n",
+    },
+    Session {
+        line: "audit",
+        parts: (LENGTH, FIRST, ANOTHER_PLACE),
+        board: "",
+        script: "",
+        status: NOT_ALL_DONE,
+        text: "audit no 2 Place\n",
+    },
+    Session {
+        line: "audit",
+        parts: (LENGTH, FIRST, ANOTHER_WORD),
+        board: "",
+        script: "",
+        status: NOT_ALL_DONE,
+        text: "audit no 2 Result\n",
+    },
+    Session {
+        line: "audit",
+        parts: (LENGTH, FIRST, ANOTHER_COUNT),
+        board: "",
+        script: "",
+        status: NOT_ALL_DONE,
+        text: "audit no 3 Count\n",
+    },
+];
+
+const ANOTHER_PLACE: &str =
+    "client 1\n1 read b0:id = 0x0000abcd @2.1\nboard b0 places 1 replied 1 timeout 0 lost 0\n";
+
+const ANOTHER_WORD: &str =
+    "client 1\n1 read b0:id = 0x0000abce @1.1\nboard b0 places 1 replied 1 timeout 0 lost 0\n";
+
+const ANOTHER_COUNT: &str =
+    "client 1\n1 read b0:id = 0x0000abcd @1.1\nboard b0 places 1 replied 0 timeout 0 lost 0\n";
 
 /// What was run came to the status and the text that it is owed, or to want of memory and no text; or to anything else,
 /// or not all that was made came back once.
@@ -148,86 +229,84 @@ enum End {
     Otherwise,
 }
 
-/// The end with this status and this text, where this status and this text are owed.
-fn end_of(status: u8, text: &[u8], wanted: u8, whole: &str) -> End {
-    if status == wanted && text == whole.as_bytes() {
+/// The end of what came where this status and this text are owed.
+fn end_of(came: &Came, status: u8, text: &str) -> End {
+    if came.is(status, text) {
         End::Whole
-    } else if status == NO_MEMORY && text.is_empty() {
+    } else if came.is(NO_MEMORY, "") {
         End::WithoutMemory
     } else {
         End::Otherwise
     }
 }
 
-/// Whether as many links were given back as were made.
-fn are_back(rack: &SimRack) -> bool {
-    (0..4).filter(|i| rack.kept(*i).is_some()).count() == rack.made()
-}
-
-/// The document of a session.
-fn document_of(alloc: Global, session: &Session) -> Result<String, NoMemory> {
-    let line = "table = \"main\"\n";
-    let board = session.board;
-    let board = format!(in alloc; "{line}{board}")?;
-    let boards = session.document.replace(alloc, line, board.as_str())?;
-    let scripts = boards
-        .as_str()
-        .replace(alloc, "read b0:sys.id", session.script)?;
-    let settings = session.settings;
-    Ok(format!(in alloc; "{settings}{scripts}")?)
-}
-
-/// What `run` comes to on a session.
-fn run<T: Threads + Wait + Sync>(
+/// What a session comes to.
+fn end_of_session<T: Threads + Wait + Sync>(
     rt: &T,
     alloc: Global,
     session: &Session,
 ) -> Result<End, NoMemory> {
-    let document = document_of(alloc, session)?;
-    let mut rack = SimRack::new(alloc, Vec::new(alloc), Vec::new(alloc));
-    let mut out = wide_sink(alloc)?;
-    let status = run_over(rt, alloc, document.as_str(), &mut rack, &mut out)?;
-    if !are_back(&rack) {
-        return Ok(End::Otherwise);
-    }
-    Ok(end_of(status, out.bytes(), session.status, session.text))
+    let document = document_with(alloc, session.parts, session.board, session.script)?;
+    let came = answer(rt, alloc, session.line, document.as_str(), NOTHING_FAILS)?;
+    Ok(end_of(&came, session.status, session.text))
 }
 
 /// What `serve` comes to with one client. Its connection is given back, or never came.
-fn serve<T: Threads + Wait + Sync>(rt: &T, alloc: Global) -> Result<End, NoMemory> {
-    let mut input = calm(alloc, DOCUMENT)?;
-    let mut out = wide_sink(alloc)?;
-    let mut rack = SimRack::new(alloc, Vec::new(alloc), Vec::new(alloc));
-    let mut door = door_for(alloc, 1, 20, 0)?;
-    let line = "serve 5000 1";
-    let status = over(rt, alloc, line, &mut input, &mut out, &mut rack, &mut door);
-    let is_back = door.kept(0).is_some() || door.accept().is_ok();
-    if !is_back || !are_back(&rack) {
+fn end_of_serving<T: Threads + Wait + Sync>(rt: &T, alloc: Global) -> Result<End, NoMemory> {
+    let mut door = door_for(alloc, 1, &ASKED, 0)?;
+    let came = answer_at(
+        rt,
+        alloc,
+        "serve 5000 1",
+        DOCUMENT,
+        NOTHING_FAILS,
+        &mut door,
+    )?;
+    if door.kept(0).is_none() && door.accept().is_err() {
         return Ok(End::Otherwise);
     }
-    Ok(end_of(status, out.bytes(), DONE, SERVED))
+    Ok(end_of(&came, DONE, SERVED))
+}
+
+/// Whether each of two runs was right, and one of them whole.
+fn are_right(first: Result<End, NoMemory>, second: Result<End, NoMemory>) -> bool {
+    let whole = Ok(End::Whole);
+    let otherwise = Ok(End::Otherwise);
+    first != otherwise && second != otherwise && (first == whole || second == whole)
+}
+
+/// Whether a session is right each time that it is run.
+fn is_right<T: Threads + Wait + Sync>(rt: &T, alloc: Global, session: &Session) -> bool {
+    let first = end_of_session(rt, alloc, session);
+    are_right(first, end_of_session(rt, alloc, session))
 }
 
 #[test]
 fn sessions_with_any_memory(rt: HostRuntime) {
-    for session in SESSIONS {
-        let mut is_whole = false;
-        for _ in 0..2 {
-            let end = run(&rt, rt.alloc(), &session).unwrap_or(End::WithoutMemory);
-            assert!(rt; end != End::Otherwise, "{}", session.text);
-            is_whole = is_whole || end == End::Whole;
-        }
-        assert!(rt; is_whole, "{}", session.text);
+    for session in &SESSIONS {
+        assert!(rt; is_right(&rt, rt.alloc(), session), "{}", session.text);
     }
 }
 
 #[test]
 fn a_client_with_any_memory(rt: HostRuntime) {
-    let mut is_whole = false;
-    for _ in 0..2 {
-        let end = serve(&rt, rt.alloc()).unwrap_or(End::WithoutMemory);
-        assert!(rt; end != End::Otherwise);
-        is_whole = is_whole || end == End::Whole;
+    let first = end_of_serving(&rt, rt.alloc());
+    assert!(rt; are_right(first, end_of_serving(&rt, rt.alloc())));
+}
+
+#[test]
+fn a_configuration_with_any_memory(rt: HostRuntime) {
+    assert!(rt; is_right(&rt, rt.alloc(), &CONFIGURATION));
+}
+
+#[test]
+fn a_recording_with_any_memory(rt: HostRuntime) {
+    assert!(rt; is_right(&rt, rt.alloc(), &RECORDING));
+}
+
+#[test]
+fn an_audit_with_any_memory(rt: HostRuntime) {
+    for session in &AUDITS {
+        assert!(rt; is_right(&rt, rt.alloc(), session), "{}", session.text);
     }
-    assert!(rt; is_whole);
 }

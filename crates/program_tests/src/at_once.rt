@@ -3,9 +3,8 @@
 ghost use Rattle.std.specs.Prelude.{◌≡◌, ◌≤◌, None, Some, option_to_list};
 ghost use Rattle.ipb_base.specs.Faults.{one_more};
 
-use crate::fixtures::FIRST;
-use crate::same::same;
-use crate::serving::{ASKED, serve};
+use crate::fixtures::{FIRST, NOTHING_FAILS, answer_at};
+use crate::serving::ASKED;
 use ipb_base::NoMemory;
 use ipb_outside::{Door, Failed, MemSink, MemSource, Sink, Source};
 use ipbus_program::DONE;
@@ -177,8 +176,9 @@ fn connections_are_served_at_once(rt: HostRuntime) -> Result<(), Fail> {
         turns_spent: AtomicU64::new(0),
     };
     let mut door = door_of(rt.alloc(), &told)?;
-    let (status, text) = serve(&rt, rt.alloc(), "serve 5000 2", FIRST, &mut door)?;
-    same(&rt, &(status, text.as_slice()), &(DONE, BOTH.as_bytes()));
+    let line = "serve 5000 2";
+    let came = answer_at(&rt, rt.alloc(), line, FIRST, NOTHING_FAILS, &mut door)?;
+    assert!(rt; came.is(DONE, BOTH));
     assert!(rt; told.turns_spent.load(Ordering::SeqCst) == 0);
     Ok(())
 }

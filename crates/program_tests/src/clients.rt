@@ -1,7 +1,6 @@
 //! `control` on sessions whose clients run at once.
 
 use crate::fixtures::{calm, shut_door, wide_sink, words_of};
-use crate::same::same;
 use crossbeam_queue::ArrayQueue;
 use ipb_base::NoMemory;
 use ipb_outside::MemSink;
@@ -146,8 +145,7 @@ fn clients_run_at_once(rt: HostRuntime) -> Result<(), Fail> {
         waits_in_vain: AtomicU64::new(0),
     };
     let (status, out) = gated(&rt, rt.alloc(), &gate)?;
-    same(&rt, &status, &DONE);
-    assert!(rt; gate.waits_in_vain.load(Ordering::SeqCst) == 0);
+    assert!(rt; status == DONE && gate.waits_in_vain.load(Ordering::SeqCst) == 0);
     assert!(rt; is_text_of_both(out.bytes()));
     assert!(rt; gate.saw_each_call());
     Ok(())

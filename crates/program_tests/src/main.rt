@@ -11,37 +11,19 @@ mod any_memory;
 #[cfg(test)]
 mod at_once;
 #[cfg(test)]
-mod audits;
-#[cfg(test)]
-mod bad_frames;
-#[cfg(test)]
-mod capture_tests;
-#[cfg(test)]
-mod changed_documents;
-#[cfg(test)]
 mod clients;
-#[cfg(test)]
-mod configurations;
 #[cfg(test)]
 mod fixtures;
 #[cfg(test)]
-mod notes_tests;
+mod links;
 #[cfg(test)]
-mod policies;
+mod notes_tests;
 #[cfg(test)]
 mod program;
 #[cfg(test)]
-mod recordings;
-#[cfg(test)]
 mod refused_again;
 #[cfg(test)]
-mod same;
-#[cfg(test)]
 mod serving;
-#[cfg(test)]
-mod single_failures;
-#[cfg(test)]
-mod timeouts;
 
 /// There is nothing to run but the tests.
 fn main() {}

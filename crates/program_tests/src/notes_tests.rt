@@ -1,159 +1,214 @@
 //! What is said on standard error at the end.
 
-use crate::fixtures::words_of;
-use crate::same::same;
-use operator_notes::{
-    Applied, Command, HELP, MOST_SHOWN, VERSION, configuration_summary, door_note, memory_note,
-    rack_note, read_note, refusal_notes, shown, usage_notes, write_note,
+use crate::fixtures::{
+    DOCUMENT, FIRST, FIRST_TRANSCRIPT, LENGTH, NOT_KEPT, POLICY, VALUE, words_of,
 };
-use std::alloc::{AllocError, Global};
-use std::test::Fail;
+use ipb_base::NoMemory;
+use operator_notes::{
+    Applied, Command, configuration_summary, denial_notes, refusal_notes, usage_notes,
+    verdict_notes,
+};
+use std::alloc::Global;
 
-/// The first line that is said of the words of a line.
-fn first_of(alloc: Global, line: &str) -> Result<String, Fail> {
-    let given = words_of(alloc, line)?;
-    let notes = usage_notes(alloc, given.as_slice())?;
-    match notes.as_slice() {
-        [first, ..] => Ok(first.clone()?),
-        [] => Err(Fail::from("nothing is said")),
-    }
+/// Of what is said: words that are no command, an input that a command refuses, what a policy denied to `run` and to
+/// `apply`, a transcript that does not fit, and the text of a configuration, where all was done or not.
+#[derive(Clone, Copy)]
+enum About {
+    Words,
+    Run,
+    Load,
+    Apply,
+    Undescribe,
+    DeniedToRun,
+    DeniedToApply,
+    Transcript,
+    Registers(bool),
 }
 
-#[test]
-fn words_that_are_no_command(rt: HostRuntime) -> Result<(), Fail> {
-    for (line, wanted) in [
-        ("serve", "a port from 1 to 65535 is missing"),
-        ("run --help", HELP[0]),
-        ("--version", VERSION),
-    ] {
-        same(&rt, &first_of(rt.alloc(), line)?.as_str(), &wanted);
-    }
-    Ok(())
-}
-
-/// Whether these lines say that the document is no TOML, and where.
-fn say_no_toml(notes: &[String]) -> bool {
-    match notes {
-        [rule, place] => {
-            rule.as_str() == "the document is no TOML" && place.starts_with("line 1, column 5: ")
-        }
-        _ => false,
-    }
-}
-
-#[test]
-fn a_refusal_in_words(rt: HostRuntime) -> Result<(), Fail> {
-    assert!(rt; say_no_toml(&refusal_notes(rt.alloc(), &Command::Run, b"a = ")?));
-    assert!(rt; refusal_notes(rt.alloc(), &Command::Load { count: 1 }, b"a = ")?.is_empty());
-    Ok(())
-}
-
-/// The last of the lines that are said of an input.
-fn last_of(alloc: Global, command: &Command, text: &str) -> Result<String, Fail> {
-    let notes = refusal_notes(alloc, command, text.as_bytes())?;
-    match notes.as_slice() {
-        [.., last] => Ok(last.clone()?),
-        [] => Err(Fail::from("nothing is said")),
-    }
-}
-
-#[test]
-fn a_description_in_words(rt: HostRuntime) -> Result<(), Fail> {
-    for (text, wanted) in [
-        ("", "line 1: what stands here describes nothing"),
-        (
-            "first 1\n> raw 200001f2\nproved 0\n",
-            "line 2: what stands here describes nothing",
-        ),
-        (
-            "first 1\n> raw -\nproved 1\n",
-            "line 3: here belongs the last line, proved 0",
-        ),
-        (
-            "first 1\n> raw -\n",
-            "line 3: here belongs the last line, proved 0",
-        ),
-    ] {
-        same(
-            &rt,
-            &last_of(rt.alloc(), &Command::Undescribe, text)?.as_str(),
-            &wanted,
-        );
-    }
-    Ok(())
-}
-
-/// Values for two registers, and what is said of a text that shows another one, and none.
+/// Values for two registers.
 const GIVEN: &str = "[state.b0]\n\"a\" = 9\n\"b\" = 1\n";
 
-const WRITTEN: &str = "[state.b0]\n\"a\" = 0x00000007\n# \"b\" unsent\n";
-
-const NOTED: &str = "registers: 2, boards: 1; not read: 1\n\
-    board b0: \"b\" unsent\n\
-    not as given: 2\n\
-    board b0: \"a\" = 0x00000007, given 0x00000009\n\
-    board b0: \"b\" not read, given 0x00000001\n";
-
-/// What is said of a text of a configuration, where all was done or not.
-fn noted_of(alloc: Global, text: &str, is_all_done: bool) -> Result<String, Fail> {
-    let applied = Applied {
-        document: GIVEN.as_bytes(),
-        is_all_done,
-    };
-    let mut noted = String::new(alloc);
-    for note in configuration_summary(alloc, text.as_bytes(), Some(&applied))? {
-        noted.push_str(note.as_str())?;
-        noted.push('\n')?;
+fn notes_about(alloc: Global, about: About, text: &str) -> Result<Vec<String>, NoMemory> {
+    let bytes = text.as_bytes();
+    match about {
+        About::Words => usage_notes(alloc, words_of(alloc, text)?.as_slice()),
+        About::Run => refusal_notes(alloc, &Command::Run, bytes),
+        About::Load => refusal_notes(alloc, &Command::Load { count: 1 }, bytes),
+        About::Apply => refusal_notes(alloc, &Command::Apply, bytes),
+        About::Undescribe => refusal_notes(alloc, &Command::Undescribe, bytes),
+        About::DeniedToRun => denial_notes(alloc, &Command::Run, bytes),
+        About::DeniedToApply => denial_notes(alloc, &Command::Apply, bytes),
+        About::Transcript => verdict_notes(alloc, bytes),
+        About::Registers(is_all_done) => {
+            let document = GIVEN.as_bytes();
+            let applied = Applied {
+                document,
+                is_all_done,
+            };
+            configuration_summary(alloc, bytes, Some(&applied))
+        }
     }
-    Ok(noted)
 }
 
-#[test]
-fn registers_that_do_not_show_what_was_given(rt: HostRuntime) -> Result<(), Fail> {
-    let noted = noted_of(rt.alloc(), WRITTEN, false)?;
-    same(&rt, &noted.as_str(), &NOTED);
-    Ok(())
-}
-
-/// A text that shows what was given, and what is said of it where a write was not done.
-const AS_GIVEN: &str = "[state.b0]\n\"a\" = 0x00000009\n\"b\" = 0x00000001\n";
-
-#[test]
-fn a_write_that_was_not_done_is_told(rt: HostRuntime) -> Result<(), Fail> {
-    let done = noted_of(rt.alloc(), AS_GIVEN, true)?;
-    same(&rt, &done.as_str(), &"registers: 2, boards: 1\n");
-    let wanted = "registers: 2, boards: 1\n\
-        not done: one write or more, of registers that show the values given all the same\n";
-    let noted = noted_of(rt.alloc(), AS_GIVEN, false)?;
-    same(&rt, &noted.as_str(), &wanted);
-    Ok(())
-}
-
-/// A text of so many letters.
-fn letters(alloc: Global, count: usize) -> Result<String, AllocError> {
-    let mut letters = String::new(alloc);
-    for _ in 0..count {
-        letters.push('x')?;
+/// These lines, one below the other.
+fn joined(alloc: Global, notes: &[String]) -> Result<String, NoMemory> {
+    let mut text = String::new(alloc);
+    for note in notes {
+        text.push_str(note.as_str())?;
+        text.push('\n')?;
     }
-    Ok(letters)
+    Ok(text)
 }
 
-#[test]
-fn a_text_is_shown_in_a_line(rt: HostRuntime) -> Result<(), Fail> {
-    same(&rt, &shown(rt.alloc(), "a\nb")?.as_str(), &"a\\u{a}b");
-    let long = letters(rt.alloc(), MOST_SHOWN + 1)?;
-    same(
-        &rt,
-        &shown(rt.alloc(), long.as_str())?.len(),
-        &(MOST_SHOWN + 2),
-    );
-    Ok(())
+/// What stands in front of a text, the text, and what stands behind it.
+type Input = (&'static str, &'static str, &'static str);
+
+/// Whether this is said of an input.
+fn is_said(alloc: Global, about: About, input: Input, wanted: &str) -> Result<bool, NoMemory> {
+    let (front, text, behind) = input;
+    let text = format!(in alloc; "{front}{text}{behind}")?;
+    let notes = notes_about(alloc, about, text.as_str())?;
+    Ok(joined(alloc, &notes)?.as_str() == wanted)
 }
 
+/// A policy that allows nothing.
+const NO_RULES: &str = "policy = []\n";
+
+/// Transcripts of the first document: one that is cut, and one with another place, with another word, and with another
+/// count.
+const CUT: &str = "client 1\n1 read b0:id = 0x0000abcd @1.1\n";
+
+const ANOTHER_PLACE: &str =
+    "client 1\n1 read b0:id = 0x0000abcd @2.1\nboard b0 places 1 replied 1 timeout 0 lost 0\n";
+
+const ANOTHER_WORD: &str =
+    "client 1\n1 read b0:id = 0x0000abce @1.1\nboard b0 places 1 replied 1 timeout 0 lost 0\n";
+
+const ANOTHER_COUNT: &str =
+    "client 1\n1 read b0:id = 0x0000abcd @1.1\nboard b0 places 1 replied 0 timeout 0 lost 0\n";
+
+const NOTES: [(About, Input, &str); 19] = [
+    (
+        About::Words,
+        ("", "serve", ""),
+        "a port from 1 to 65535 is missing\n\
+        the session document is read from standard input; \
+        try: bin/ipbus run < examples/start/first.toml, or --help\n",
+    ),
+    (
+        About::Words,
+        ("", "--version", ""),
+        "version 2, for IPbus 2.0 and session documents of formats 1 and 2\n",
+    ),
+    (
+        About::Run,
+        ("", "a = ", ""),
+        "the document is no TOML\n\
+        line 1, column 5: invalid value, \
+        expected a string, number, boolean, date-time, array or inline table\n",
+    ),
+    (About::Load, ("", "a = ", ""), ""),
+    (
+        About::Apply,
+        ("", DOCUMENT, NOT_KEPT),
+        "board b0, register a: the register is not one word that is read and written, \
+        or others stand below its name\n",
+    ),
+    (
+        About::Undescribe,
+        ("", "", ""),
+        "no capture has this description\nline 1: what stands here describes nothing\n",
+    ),
+    (
+        About::Undescribe,
+        ("", "first 1\n> raw 200001f2\nproved 0\n", ""),
+        "no capture has this description\nline 2: what stands here describes nothing\n",
+    ),
+    (
+        About::Undescribe,
+        ("", "first 1\n> raw -\nproved 1\n", ""),
+        "no capture has this description\nline 3: here belongs the last line, proved 0\n",
+    ),
+    (
+        About::Undescribe,
+        ("", "first 1\n> raw -\n", ""),
+        "no capture has this description\nline 3: here belongs the last line, proved 0\n",
+    ),
+    (
+        About::DeniedToRun,
+        (NO_RULES, FIRST, ""),
+        "no rule of the policy allowed 1 operation\n",
+    ),
+    (
+        About::DeniedToApply,
+        (POLICY, DOCUMENT, VALUE),
+        "policy rule 1 denied 1 operation: deny w b0:a.top\n",
+    ),
+    (About::Transcript, (LENGTH, FIRST, FIRST_TRANSCRIPT), ""),
+    (
+        About::Transcript,
+        (LENGTH, FIRST, CUT),
+        "line 3: the transcript ends before it\nhere belongs the line of board b0\n",
+    ),
+    (
+        About::Transcript,
+        (LENGTH, FIRST, ANOTHER_PLACE),
+        "line 2: 1 read b0:id = 0x0000abcd @2.1\n\
+        each piece shows the place of its body, from 1 to the places of the board's line, and its number there; \
+        a body has one place, no two have the same, and those of a client rise\n",
+    ),
+    (
+        About::Transcript,
+        (LENGTH, FIRST, ANOTHER_WORD),
+        "line 2: 1 read b0:id = 0x0000abce @1.1\n\
+        the registers of its board give at these places: = 0x0000abcd; a timeout tells 8 rounds, \
+        and operations of one packet are answered, timed out or lost together\n",
+    ),
+    (
+        About::Transcript,
+        (LENGTH, FIRST, ANOTHER_COUNT),
+        "line 3: board b0 places 1 replied 0 timeout 0 lost 0\n\
+        a board's line counts the places that the lines above show, \
+        and these are replied, timeout and lost together\n",
+    ),
+    // a text that shows another value, and none
+    (
+        About::Registers(false),
+        ("", "[state.b0]\n\"a\" = 0x00000007\n# \"b\" unsent\n", ""),
+        "registers: 2, boards: 1; not read: 1\n\
+        board b0: \"b\" unsent\n\
+        not as given: 2\n\
+        board b0: \"a\" = 0x00000007, given 0x00000009\n\
+        board b0: \"b\" not read, given 0x00000001\n",
+    ),
+    // one that shows what was given, where all was done, and where a write was not
+    (
+        About::Registers(true),
+        (
+            "",
+            "[state.b0]\n\"a\" = 0x00000009\n\"b\" = 0x00000001\n",
+            "",
+        ),
+        "registers: 2, boards: 1\n",
+    ),
+    (
+        About::Registers(false),
+        (
+            "",
+            "[state.b0]\n\"a\" = 0x00000009\n\"b\" = 0x00000001\n",
+            "",
+        ),
+        "registers: 2, boards: 1\n\
+        not done: one write or more, of registers that show the values given all the same\n",
+    ),
+];
+
 #[test]
-fn each_status_has_its_words(rt: HostRuntime) {
-    for note in [read_note(), memory_note(), rack_note(), door_note()] {
-        assert!(rt; !note.is_empty());
+fn notes_are_said(rt: HostRuntime) {
+    for (about, input, wanted) in NOTES {
+        assert!(rt;
+            is_said(rt.alloc(), about, input, wanted) == Ok(true),
+            "{wanted}"
+        );
     }
-    assert!(rt; write_note(Some(&Command::Run), false) != write_note(Some(&Command::Run), true));
 }

@@ -1,22 +1,16 @@
-//! `control` on a source and a sink in memory.
-
-ghost use Rattle.std.specs.Prelude.{◌≤◌};
+//! `control` on texts in memory: what each command answers, and where a make, a read or a write fails.
 
 use crate::fixtures::{
-    FIRST, FIRST_TRANSCRIPT, answer, answers, calm, over, over_links, shut_door, wide_sink,
+    APPLIED, DESCRIBED, DOCUMENT, FIRST, FIRST_TRANSCRIPT, Fails, LENGTH, NOT_KEPT, NOTHING_FAILS,
+    ONE_READ, POLICY, VALUE, answer, over_links, wide_sink,
 };
-use crate::same::{same, same_items};
 use command_words::USAGE_LINE;
 use ipb_base::NoMemory;
-use ipb_outside::{CalmSource, MemSink, MemSource, read_all};
-use ipbus_program::{
-    DONE, NO_MEMORY, NOT_ALL_DONE, RACK_FAULT, READ_FAULT, REFUSED, USAGE, WRITE_FAULT,
-};
-use lossy_network::SimRack;
-use std::alloc::{AllocError, Global};
+use ipb_outside::MemSource;
+use ipbus_program::{DONE, NOT_ALL_DONE, RACK_FAULT, READ_FAULT, REFUSED, USAGE, WRITE_FAULT};
+use std::alloc::Global;
 use std::marker::Sync;
 use std::sync::Wait;
-use std::test::Fail;
 use std::thread::Threads;
 
 /// A board behind UDP, of which a rack of simulated links makes none.
@@ -25,179 +19,266 @@ board = [{ name = "b0", table = "t", link = "udp", address = "10.0.0.1:50001" }]
 tables.t = []
 "#;
 
-/// The most bytes that a document may have.
-const LONGEST: usize = 16_777_216;
+/// One board more.
+const OTHER: &str = "[[board]]\nname = 'b1'\ntable = 'main'\nranges = [{ base = 0, size = 1 }]\n";
 
-/// A source of that document, a byte at a time, whose read with this number fails.
-fn first_in_bytes(alloc: Global, fail: u64) -> Result<MemSource, AllocError> {
-    let bytes = Vec::from_slice(alloc, FIRST.as_bytes())?;
-    Ok(MemSource::new(bytes, 1, [fail].to_vec(alloc)?))
+const NO_RULES: &str = "policy = []\n";
+
+const DENIED: &str =
+    "client 1\n1 read b0:id denied by rule 0\nboard b0 places 0 replied 0 timeout 0 lost 0\n";
+
+const SAVED: &str = "[state.b0]\n\"a.top\" = 0x00000000\n";
+
+/// What stands in front of a document, the document, and what stands behind it.
+type Input = (&'static str, &'static str, &'static str);
+
+/// The words of a line, an input, the status and the text. Of a load each operation is answered the number of those
+/// before it.
+const ANSWERS: [(&str, Input, u8, &str); 29] = [
+    ("run", ("", FIRST, ""), DONE, FIRST_TRANSCRIPT),
+    ("run", (NO_RULES, FIRST, ""), NOT_ALL_DONE, DENIED),
+    (
+        "run",
+        ("", "", ""),
+        REFUSED,
+        "refused: document - NoBoards\n",
+    ),
+    ("run", ("", OVER_UDP, ""), RACK_FAULT, ""),
+    ("run x", ("", FIRST, ""), USAGE, USAGE_LINE),
+    (
+        "check main",
+        ("", FIRST, ""),
+        DONE,
+        "id 0x00000004 0xffffffff rw single 1\n",
+    ),
+    (
+        "check none",
+        ("", FIRST, ""),
+        REFUSED,
+        "refused: compile none - UnknownModule\n",
+    ),
+    ("check -main", ("", FIRST, ""), USAGE, USAGE_LINE),
+    (
+        "load 1",
+        ("", "", ""),
+        DONE,
+        "load 1\ndone 1\nwas total 0\nplaces 1\n",
+    ),
+    (
+        "load 0000000005",
+        ("", "", ""),
+        DONE,
+        "load 5\ndone 5\nwas total 10\nplaces 5\n",
+    ),
+    ("load 0", ("", "", ""), USAGE, USAGE_LINE),
+    (
+        "serve 5000 1",
+        ("", "", ""),
+        REFUSED,
+        "refused: document - NoBoards\n",
+    ),
+    (
+        "serve 5000 1",
+        (POLICY, DOCUMENT, ""),
+        REFUSED,
+        "refused: policy - NoServe\n",
+    ),
+    ("serve 0 1", ("", FIRST, ""), USAGE, USAGE_LINE),
+    ("save", ("", DOCUMENT, ""), DONE, SAVED),
+    (
+        "save",
+        ("", DOCUMENT, VALUE),
+        REFUSED,
+        "refused: document state Shape\n",
+    ),
+    ("apply", ("", DOCUMENT, VALUE), DONE, APPLIED),
+    ("apply", (POLICY, DOCUMENT, VALUE), NOT_ALL_DONE, SAVED),
+    (
+        "apply",
+        ("", DOCUMENT, NOT_KEPT),
+        REFUSED,
+        "refused: state b0 a NotKept\n",
+    ),
+    ("record", ("", DOCUMENT, ""), DONE, ONE_READ),
+    (
+        "record",
+        ("", DOCUMENT, OTHER),
+        REFUSED,
+        "refused: document - OneBoard\n",
+    ),
+    ("describe", ("", ONE_READ, ""), DONE, DESCRIBED),
+    (
+        "describe",
+        ("", "", ""),
+        REFUSED,
+        "refused: capture 1 First\n",
+    ),
+    ("undescribe", ("", DESCRIBED, ""), DONE, ONE_READ),
+    (
+        "undescribe",
+        ("", "", ""),
+        REFUSED,
+        "refused: description - NotDescription\n",
+    ),
+    (
+        "audit",
+        (LENGTH, FIRST, FIRST_TRANSCRIPT),
+        DONE,
+        "audit yes\n",
+    ),
+    (
+        "audit",
+        (LENGTH, FIRST, ""),
+        NOT_ALL_DONE,
+        "audit no 1 Form\n",
+    ),
+    (
+        "audit",
+        ("", "", ""),
+        REFUSED,
+        "refused: document - NoLength\n",
+    ),
+    ("", ("", FIRST, ""), USAGE, USAGE_LINE),
+];
+
+/// Whether the words of a line get this status and this text for an input.
+fn is_answered<T: Threads + Wait + Sync>(
+    rt: &T,
+    alloc: Global,
+    line: &str,
+    input: Input,
+    status: u8,
+    text: &str,
+) -> Result<bool, NoMemory> {
+    let (front, document, behind) = input;
+    let input = format!(in alloc; "{front}{document}{behind}")?;
+    let came = answer(rt, alloc, line, input.as_str(), NOTHING_FAILS)?;
+    Ok(came.is(status, text))
 }
 
-/// Of a load each operation is answered the number of those before it.
 #[test]
-fn each_command_is_done(rt: HostRuntime) -> Result<(), Fail> {
-    for (line, wanted) in [
-        ("run", FIRST_TRANSCRIPT),
-        ("check main", "id 0x00000004 0xffffffff rw single 1\n"),
-        ("load 1", "load 1\ndone 1\nwas total 0\nplaces 1\n"),
-        (
-            "load 0000000005",
-            "load 5\ndone 5\nwas total 10\nplaces 5\n",
-        ),
-    ] {
-        answers(&rt, rt.alloc(), line, FIRST, DONE, wanted)?;
+fn each_command_is_done_or_refused(rt: HostRuntime) {
+    for (line, input, status, text) in ANSWERS {
+        let is_answered = is_answered(&rt, rt.alloc(), line, input, status, text);
+        assert!(rt; is_answered == Ok(true), "{line}");
     }
-    Ok(())
 }
 
-#[test]
-fn words_that_are_no_command(rt: HostRuntime) -> Result<(), Fail> {
-    for line in ["", "run x", "--help", "check -main", "load 0", "serve 0 1"] {
-        answers(&rt, rt.alloc(), line, FIRST, USAGE, USAGE_LINE)?;
+/// The words of a line for the first document; the numbers of the make, of the call of the link and of the write that
+/// fail; the status and the text. The first call of a link is that of the greeting.
+const FAULTS: [(&str, u64, u64, u64, u8, &str); 8] = [
+    ("", 0, 0, 1, WRITE_FAULT, ""),
+    ("run", 0, 0, 1, WRITE_FAULT, ""),
+    ("check main", 0, 0, 1, WRITE_FAULT, ""),
+    ("check none", 0, 0, 1, WRITE_FAULT, ""),
+    ("load 1", 0, 0, 1, WRITE_FAULT, ""),
+    ("run", 1, 0, 0, RACK_FAULT, ""),
+    ("record", 1, 0, 0, RACK_FAULT, ""),
+    (
+        "load 5",
+        0,
+        1,
+        0,
+        NOT_ALL_DONE,
+        "load 5\ndone 0\nwas total 0\nplaces 0\n",
+    ),
+];
+
+/// Whether the words of a line get this status and this text for a document.
+fn comes_to<T: Threads + Wait + Sync>(
+    rt: &T,
+    alloc: Global,
+    line: &str,
+    document: &str,
+    fails: Fails,
+    wanted: (u8, &str),
+) -> bool {
+    match answer(rt, alloc, line, document, fails) {
+        Ok(came) => came.is(wanted.0, wanted.1),
+        Err(NoMemory) => false,
     }
-    Ok(())
 }
 
 #[test]
-fn documents_that_cannot_be_run(rt: HostRuntime) -> Result<(), Fail> {
-    for (line, document, wanted, text) in [
-        ("run", "", REFUSED, "refused: document - NoBoards\n"),
-        (
-            "serve 5000 1",
-            "",
-            REFUSED,
-            "refused: document - NoBoards\n",
-        ),
-        (
-            "check none",
-            FIRST,
-            REFUSED,
-            "refused: compile none - UnknownModule\n",
-        ),
-        ("run", OVER_UDP, RACK_FAULT, ""),
-    ] {
-        answers(&rt, rt.alloc(), line, document, wanted, text)?;
-    }
-    Ok(())
-}
-
-/// Whichever allocation fails, the answer is the transcript or status 6 and no text. `rt try --test --fail-alloc N`
-/// makes the Nth one fail.
-#[test]
-fn first_session_with_any_memory(rt: HostRuntime) -> Result<(), Fail> {
-    if let Ok((status, text)) = answer(&rt, rt.alloc(), "run", FIRST.as_bytes()) {
-        let wanted = if status == NO_MEMORY {
-            ""
-        } else {
-            FIRST_TRANSCRIPT
+fn a_make_a_call_or_the_first_write_fails(rt: HostRuntime) {
+    for (line, make, call, write, status, text) in FAULTS {
+        let fails = Fails {
+            make,
+            call,
+            write,
+            take: 1000,
         };
-        same_items(&rt, text.as_slice(), wanted.as_bytes());
-        assert!(rt; status == DONE || status == NO_MEMORY);
+        assert!(rt;
+            comes_to(&rt, rt.alloc(), line, FIRST, fails, (status, text)),
+            "{line}"
+        );
     }
-    Ok(())
 }
 
-/// Whichever read fails, where each gives one byte, nothing is written.
+/// Whether nothing is written where the read with this number fails and each gives one byte.
+fn is_unread<T: Threads + Wait + Sync>(rt: &T, alloc: Global, read: u64) -> Result<bool, NoMemory> {
+    let fail = [read].to_vec(alloc)?;
+    let mut input = MemSource::new(FIRST.as_bytes().to_vec(alloc)?, 1, fail);
+    let mut out = wide_sink(alloc)?;
+    let status = over_links(rt, alloc, "run", &mut input, &mut out);
+    Ok(status == READ_FAULT && out.bytes().is_empty())
+}
+
 #[test]
-fn each_read_fails_in_turn(rt: HostRuntime) -> Result<(), Fail> {
+fn each_read_fails_in_turn(rt: HostRuntime) {
     for read in 1..=FIRST.len() as u64 + 1 {
-        let mut input = first_in_bytes(rt.alloc(), read)?;
-        let mut out = wide_sink(rt.alloc())?;
-        let status = over_links(&rt, rt.alloc(), "run", &mut input, &mut out);
-        same(&rt, &(status, out.bytes().len()), &(READ_FAULT, 0));
+        assert!(rt; is_unread(&rt, rt.alloc(), read) == Ok(true));
     }
-    Ok(())
 }
 
-/// The status and what is written of the text that the words of a line get, where the write with this number fails and
-/// each takes so many bytes.
-fn cut<T: Threads + Wait + Sync>(
-    rt: &T,
-    alloc: Global,
-    line: &str,
-    take: usize,
-    fail: u64,
-) -> Result<(u8, Vec<u8>), NoMemory>
-    requires { 1 ≤ take }
-{
-    let mut input = calm(alloc, FIRST)?;
-    let mut out = MemSink::new(alloc, take, [fail].to_vec(alloc)?)?;
-    let status = over_links(rt, alloc, line, &mut input, &mut out);
-    Ok((status, Vec::from_slice(alloc, out.bytes())?))
+/// Whether the bytes before it were written where the write with this number fails and each takes so many bytes.
+fn is_written<T: Threads + Wait + Sync>(rt: &T, alloc: Global, take: usize, write: usize) -> bool {
+    let before = take.saturating_mul(write.saturating_sub(1));
+    let fails = Fails {
+        make: 0,
+        call: 0,
+        write: write as u64,
+        take,
+    };
+    let wanted = match FIRST_TRANSCRIPT.get(..before) {
+        Some(text) if before < FIRST_TRANSCRIPT.len() => (WRITE_FAULT, text),
+        _ => (DONE, FIRST_TRANSCRIPT),
+    };
+    comes_to(rt, alloc, "run", FIRST, fails, wanted)
 }
 
-/// Whichever write fails, where each takes one byte, the bytes before it were written.
+/// A byte at a time, and 16, of which the last write takes fewer. No write comes behind the last byte.
+fn is_written_in_pieces<T: Threads + Wait + Sync>(rt: &T, alloc: Global, write: usize) -> bool {
+    is_written(rt, alloc, 1, write) && is_written(rt, alloc, 16, write)
+}
+
 #[test]
-fn each_write_fails_in_turn(rt: HostRuntime) -> Result<(), Fail> {
-    for before in 0..FIRST_TRANSCRIPT.len() {
-        let (status, text) = cut(&rt, rt.alloc(), "run", 1, before as u64 + 1)?;
-        same(&rt, &status, &WRITE_FAULT);
-        same_items(&rt, &text, &FIRST_TRANSCRIPT.as_bytes()[..before]);
+fn each_write_fails_in_turn(rt: HostRuntime) {
+    for write in 1..=FIRST_TRANSCRIPT.len() {
+        assert!(rt; is_written_in_pieces(&rt, rt.alloc(), write));
     }
-    Ok(())
 }
 
-/// Where the first write fails, nothing is written, whatever the text is.
+/// The call of the link that fails, the status of `record`, and how many bytes of the capture are there then: those of
+/// the calls before. The greeting makes the calls 1 and 2, and the packet with its reply the calls 3 and 4.
+const RECORDED: [(u64, u8, usize); 5] = [
+    (1, NOT_ALL_DONE, 8),
+    (2, NOT_ALL_DONE, 139),
+    (3, NOT_ALL_DONE, 270),
+    (4, NOT_ALL_DONE, 297),
+    (5, DONE, 324),
+];
+
 #[test]
-fn the_first_write_fails(rt: HostRuntime) -> Result<(), Fail> {
-    for line in ["", "run", "check main", "check none", "load 1"] {
-        let (status, text) = cut(&rt, rt.alloc(), line, 1000, 1)?;
-        same(&rt, &(status, text.len()), &(WRITE_FAULT, 0));
+fn what_a_failing_link_carried_is_recorded(rt: HostRuntime) {
+    for (call, status, length) in RECORDED {
+        let fails = Fails {
+            make: 0,
+            call,
+            write: 0,
+            take: 1000,
+        };
+        let text = ONE_READ.get(..length).unwrap_or("");
+        assert!(rt; comes_to(&rt, rt.alloc(), "record", DOCUMENT, fails, (status, text)));
     }
-    Ok(())
-}
-
-/// Of an input two bytes too long one byte more than fits is taken, and one is left.
-#[test]
-fn an_input_too_long(rt: HostRuntime) -> Result<(), Fail> {
-    let alloc = rt.alloc();
-    let mut input = CalmSource::new(vec![in alloc; b'#'; LONGEST + 2]?);
-    let mut out = wide_sink(alloc)?;
-    let status = over_links(&rt, alloc, "run", &mut input, &mut out);
-    same(&rt, &status, &REFUSED);
-    same_items(&rt, out.bytes(), b"refused: document - TooLong\n");
-    same_items(&rt, read_all(alloc, &mut input, 2)?.as_slice(), b"#");
-    Ok(())
-}
-
-/// A rack of which the make with this number fails, and on each link the call with this one: none, where it is 0.
-fn failing_rack(alloc: Global, make: u64, call: u64) -> Result<SimRack, NoMemory> {
-    let makes = [make].to_vec(alloc)?;
-    Ok(SimRack::new(alloc, makes, [call].to_vec(alloc)?))
-}
-
-/// What the words of a line get over a rack.
-fn over_rack<T: Threads + Wait + Sync>(
-    rt: &T,
-    alloc: Global,
-    line: &str,
-    mut rack: SimRack,
-) -> Result<(u8, Vec<u8>), NoMemory> {
-    let mut input = calm(alloc, FIRST)?;
-    let mut out = wide_sink(alloc)?;
-    let mut door = shut_door(alloc)?;
-    let status = over(rt, alloc, line, &mut input, &mut out, &mut rack, &mut door);
-    Ok((status, Vec::from_slice(alloc, out.bytes())?))
-}
-
-/// A link that cannot be made, and a load over a link whose first call fails, which is that of the greeting.
-#[test]
-fn a_rack_or_a_link_fails(rt: HostRuntime) -> Result<(), Fail> {
-    for (line, make, call, wanted, text) in [
-        ("run", 1, 0, RACK_FAULT, ""),
-        (
-            "load 5",
-            0,
-            1,
-            NOT_ALL_DONE,
-            "load 5\ndone 0\nwas total 0\nplaces 0\n",
-        ),
-    ] {
-        let rack = failing_rack(rt.alloc(), make, call)?;
-        let (status, given) = over_rack(&rt, rt.alloc(), line, rack)?;
-        same(&rt, &status, &wanted);
-        same_items(&rt, &given, text.as_bytes());
-    }
-    Ok(())
 }

@@ -1,17 +1,12 @@
 //! `control` where connections are served.
 
-ghost use Rattle.std.specs.Prelude.{◌≤◌};
-
-use crate::fixtures::{FIRST, calm, over, wide_sink};
-use crate::same::{same, same_items};
+use crate::fixtures::{FIRST, NOTHING_FAILS, answer_at};
 use ipb_base::NoMemory;
-use ipb_outside::{Door, MemDoor, MemSink, MemSource};
+use ipb_outside::{MemDoor, MemSink, MemSource};
 use ipbus_program::{DONE, DOOR_FAULT, NOT_ALL_DONE, REFUSED};
-use lossy_network::SimRack;
 use std::alloc::Global;
 use std::marker::Sync;
 use std::sync::Wait;
-use std::test::Fail;
 use std::thread::Threads;
 
 /// A frame for board 0 with a read of the word at address 4, and the frame that answers it.
@@ -22,6 +17,9 @@ pub(crate) const ASKED: [u8; 20] = [
 const ANSWERED: [u8; 24] = [
     0, 0, 0, 20, 0, 0, 0, 0, 0, 0, 0, 0, 0x20, 0, 0, 0xf0, 0x20, 0, 1, 0, 0, 0, 0xab, 0xcd,
 ];
+
+/// A part of that frame.
+const PART: &[u8] = b"\0\0\0\x10\0\0\0\0\x20\0";
 
 const SERVED: &str = "connection 1 frames 1 closed\nboard b0 places 1 replied 1 timeout 0 lost 0\n";
 
@@ -34,112 +32,114 @@ board = [{ name = "b0", table = "main", ranges = [{ base = 0, size = 16 }] }]
 client = [{ script = ["reed b0:id"] }]
 "#;
 
-/// A door with this many pairs, each with so many bytes of a frame, whose call with this number fails: none, where it
-/// is 0.
+/// A door with this many pairs, each with these bytes, whose call with this number fails: none, where it is 0.
 pub(crate) fn door_for(
     alloc: Global,
     pairs: usize,
-    bytes: usize,
+    bytes: &[u8],
     fail: u64,
-) -> Result<MemDoor, NoMemory>
-    requires { bytes ≤ 20 }
-{
+) -> Result<MemDoor, NoMemory> {
     let mut waiting = Vec::new(alloc);
     for _ in 0..pairs {
-        let source = MemSource::new(ASKED[..bytes].to_vec(alloc)?, 7, Vec::new(alloc));
+        let source = MemSource::new(bytes.to_vec(alloc)?, 7, Vec::new(alloc));
         waiting.push((source, MemSink::new(alloc, 5, Vec::new(alloc))?))?;
     }
     MemDoor::new(alloc, waiting, [fail].to_vec(alloc)?)
 }
 
-/// The status and the text of `serve` with the words of this line.
-pub(crate) fn serve<D: Door, T: Threads + Wait + Sync>(
-    rt: &T,
-    alloc: Global,
-    line: &str,
-    document: &str,
-    door: &mut D,
-) -> Result<(u8, Vec<u8>), NoMemory> {
-    let mut input = calm(alloc, document)?;
-    let mut out = wide_sink(alloc)?;
-    let mut rack = SimRack::new(alloc, Vec::new(alloc), Vec::new(alloc));
-    let status = over(rt, alloc, line, &mut input, &mut out, &mut rack, door);
-    Ok((status, Vec::from_slice(alloc, out.bytes())?))
-}
+/// How many connections are served, how many come, the bytes of each, and the call of the door that fails.
+type Coming = (&'static str, usize, &'static [u8], u64);
 
-/// What became of the first connection of a door.
-#[derive(Clone, Copy, Debug, PartialEq, Eq)]
-enum First {
-    NotGivenBack,
-    NotAnswered,
-    Answered,
-    Other,
-}
+/// The status, the text, and what the first connection was answered: `None` where it was not given back.
+type Wanted = (u8, &'static str, Option<&'static [u8]>);
 
-fn first_of(door: &MemDoor) -> First {
-    match door.kept(0) {
-        None => First::NotGivenBack,
-        Some(pair) if pair.1.bytes().is_empty() => First::NotAnswered,
-        Some(pair) if pair.1.bytes() == ANSWERED.as_slice() => First::Answered,
-        Some(_) => First::Other,
+/// Whether the first connection of a door was given back with this answer.
+fn is_kept(door: &MemDoor, answer: Option<&[u8]>) -> bool {
+    match (door.kept(0), answer) {
+        (Some(pair), Some(bytes)) => pair.1.bytes() == bytes,
+        (None, None) => true,
+        _ => false,
     }
 }
+
+/// Whether connections are served so.
+fn is_served<T: Threads + Wait + Sync>(
+    rt: &T,
+    alloc: Global,
+    document: &str,
+    coming: Coming,
+    wanted: Wanted,
+) -> Result<bool, NoMemory> {
+    let (line, pairs, bytes, fail) = coming;
+    let (status, text, answer) = wanted;
+    let mut door = door_for(alloc, pairs, bytes, fail)?;
+    let came = answer_at(rt, alloc, line, document, NOTHING_FAILS, &mut door)?;
+    Ok(came.is(status, text) && is_kept(&door, answer))
+}
+
+const ONE: &str = "serve 5000 1";
+
+const TWO: &str = "serve 5000 2";
 
 /// A connection, one that ends within a frame, a door with no pair, with one pair fewer than connections, and one whose
 /// first or second call fails. Where a second one does not come, the first one is served to its end.
+const SERVINGS: [(&str, Coming, Wanted); 7] = [
+    (FIRST, (ONE, 1, &ASKED, 0), (DONE, SERVED, Some(&ANSWERED))),
+    (FIRST, (ONE, 1, PART, 0), (NOT_ALL_DONE, CUT, Some(b""))),
+    (FIRST, (TWO, 0, b"", 0), (DOOR_FAULT, "", None)),
+    (
+        FIRST,
+        (TWO, 1, &ASKED, 0),
+        (DOOR_FAULT, "", Some(&ANSWERED)),
+    ),
+    (FIRST, (TWO, 1, &ASKED, 1), (DOOR_FAULT, "", None)),
+    (FIRST, (TWO, 1, &ASKED, 2), (DOOR_FAULT, "", None)),
+    // the scripts of a document are checked, and the door is left alone where one is faulty
+    (
+        FAULTY,
+        (ONE, 1, &ASKED, 0),
+        (REFUSED, "refused: script 1 1 BadLine\n", None),
+    ),
+];
+
 #[test]
-fn connections_are_served_or_the_door_fails(rt: HostRuntime) -> Result<(), Fail> {
-    for (line, pairs, bytes, fail, wanted, text, first) in [
-        ("serve 5000 1", 1, 20, 0, DONE, SERVED, First::Answered),
-        (
-            "serve 5000 1",
-            1,
-            10,
-            0,
-            NOT_ALL_DONE,
-            CUT,
-            First::NotAnswered,
-        ),
-        ("serve 5000 2", 0, 0, 0, DOOR_FAULT, "", First::NotGivenBack),
-        ("serve 5000 2", 1, 20, 0, DOOR_FAULT, "", First::Answered),
-        (
-            "serve 5000 2",
-            1,
-            20,
-            1,
-            DOOR_FAULT,
-            "",
-            First::NotGivenBack,
-        ),
-        (
-            "serve 5000 2",
-            1,
-            20,
-            2,
-            DOOR_FAULT,
-            "",
-            First::NotGivenBack,
-        ),
-    ] {
-        assert!(rt; bytes <= 20);
-        let mut door = door_for(rt.alloc(), pairs, bytes, fail)?;
-        let (status, given) = serve(&rt, rt.alloc(), line, FIRST, &mut door)?;
-        same(&rt, &(status, first_of(&door)), &(wanted, first));
-        same_items(&rt, &given, text.as_bytes());
+fn connections_are_served_or_the_door_fails(rt: HostRuntime) {
+    for (document, coming, wanted) in SERVINGS {
+        assert!(rt; is_served(&rt, rt.alloc(), document, coming, wanted) == Ok(true));
     }
-    Ok(())
 }
 
-/// The scripts of a document are checked, and the door is left alone where one is faulty.
+const BAD_FRAME: &str =
+    "connection 1 frames 0 bad frame\nboard b0 places 0 replied 0 timeout 0 lost 0\n";
+
+const CLOSED: &str = "connection 1 frames 1 closed\nboard b0 places 0 replied 0 timeout 0 lost 0\n";
+
+/// Bytes of a client, the status, the text, and its answer, which is a code without a packet.
+const BAD_FRAMES: [(&[u8], Wanted); 4] = [
+    // lengths of 7 and of 8977
+    (
+        b"\0\0\0\x07\0\0\0\0\x20\0\0",
+        (NOT_ALL_DONE, BAD_FRAME, Some(b"")),
+    ),
+    (
+        b"\0\0\x23\x11\0\0\0\0\x20\0\0\xf0",
+        (NOT_ALL_DONE, BAD_FRAME, Some(b"")),
+    ),
+    // a status request, and a read of 255 words, whose answer is too long
+    (
+        b"\0\0\0\x08\0\0\0\0\x20\0\0\xf1",
+        (DONE, CLOSED, Some(b"\0\0\0\x08\0\0\0\0\0\x04\0\0")),
+    ),
+    (
+        b"\0\0\0\x10\0\0\0\0\x20\0\0\xf0\x20\0\xff\x0f\0\0\0\0",
+        (DONE, CLOSED, Some(b"\0\0\0\x08\0\0\0\0\0\x07\0\0")),
+    ),
+];
+
 #[test]
-fn a_document_with_a_faulty_script(rt: HostRuntime) -> Result<(), Fail> {
-    let mut door = door_for(rt.alloc(), 1, 20, 0)?;
-    let (status, text) = serve(&rt, rt.alloc(), "serve 5000 1", FAULTY, &mut door)?;
-    same(
-        &rt,
-        &(status, first_of(&door)),
-        &(REFUSED, First::NotGivenBack),
-    );
-    same_items(&rt, &text, b"refused: script 1 1 BadLine\n");
-    Ok(())
+fn bad_frames_are_answered_or_end_the_connection(rt: HostRuntime) {
+    for (bytes, wanted) in BAD_FRAMES {
+        let coming = (ONE, 1, bytes, 0);
+        assert!(rt; is_served(&rt, rt.alloc(), FIRST, coming, wanted) == Ok(true));
+    }
 }
