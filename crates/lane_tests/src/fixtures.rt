@@ -88,40 +88,37 @@ fn plan<L: Link>(alloc: Global, lane: &mut Lane<L>, client: u32) -> Result<(), F
     }
 }
 
-/// Plans a read for each client below this one.
-fn plan_each<L: Link>(alloc: Global, lane: &mut Lane<L>, end: u32) -> Result<(), Fail> {
-    for client in 1..end {
+/// Plans so many reads for a client.
+fn plan_reads<L: Link>(
+    alloc: Global,
+    lane: &mut Lane<L>,
+    client: u32,
+    reads: u32,
+) -> Result<(), Fail>
+    requires { 1 ≤ client }
+{
+    for _ in 0..reads {
         plan(alloc, lane, client)?;
     }
     Ok(())
 }
 
-/// Plans so many reads for client 1.
-fn plan_reads<L: Link>(alloc: Global, lane: &mut Lane<L>, reads: u32) -> Result<(), Fail> {
-    for _ in 0..reads {
-        plan(alloc, lane, 1)?;
+/// Plans so many reads for each client below this one.
+fn plan_each<L: Link>(alloc: Global, lane: &mut Lane<L>, end: u32, reads: u32) -> Result<(), Fail> {
+    for client in 1..end {
+        plan_reads(alloc, lane, client, reads)?;
     }
     Ok(())
 }
 
-/// The lane with a read planned for each client below this one, and with planning closed.
-pub(crate) fn planned_for_each<L: Link + Drop>(
-    alloc: Global,
-    mut lane: Lane<L>,
-    end: u32,
-) -> Result<Lane<L>, Fail> {
-    plan_each(alloc, &mut lane, end)?;
-    lane.seal();
-    Ok(lane)
-}
-
-/// The lane with so many reads planned for client 1, and with planning closed where there is any.
+/// The lane with so many reads planned for each client below this one, and with planning closed where there is any.
 pub(crate) fn planned<L: Link + Drop>(
     alloc: Global,
     mut lane: Lane<L>,
+    end: u32,
     reads: u32,
 ) -> Result<Lane<L>, Fail> {
-    plan_reads(alloc, &mut lane, reads)?;
+    plan_each(alloc, &mut lane, end, reads)?;
     if reads > 0 {
         lane.seal();
     }

@@ -35,7 +35,7 @@ fn place_and_rounds(outcome: Option<Outcome>) -> Option<(u64, u8)> {
 type Became = (Option<(u64, u8)>, u64, (u64, u64, u64));
 
 fn became<L: Link + Drop>(alloc: Global, lane: Lane<L>) -> Result<Became, Fail> {
-    let mut lane = planned(alloc, lane, 1)?;
+    let mut lane = planned(alloc, lane, 2, 1)?;
     let outcome = outcome_of(&mut lane)?;
     Ok((place_and_rounds(outcome), lane.sent(), lane.counts()))
 }

@@ -7,7 +7,7 @@ ghost use Rattle.hub_multiplexer.specs.Ends.{HasTakenIn};
 ghost use Rattle.hub_multiplexer.specs.Lanes.{shown_record};
 ghost use Rattle.hub_multiplexer.specs.Seats.{IsMasterOf, IsSeatOf};
 
-use crate::fixtures::{digit, kinds, lane, place_of, planned, planned_for_each, read_four};
+use crate::fixtures::{digit, kinds, lane, place_of, planned, read_four};
 use hub_lane::Entry;
 use hub_multiplexer::laws::a_seat_that_asked_all_may_submit;
 use hub_multiplexer::{
@@ -218,8 +218,8 @@ fn does<R: Wait, L: Link + Send>(
     }
 }
 
-/// What the client of a hub does, with so many reads planned before, and whether it can; the kinds of the lane's entries
-/// then, and how many bodies the lane sent and how many replies it received.
+/// What the client of a hub does, with so many reads planned before, and whether it can; the kinds of the lane's
+/// entries then, and how many bodies the lane sent and how many replies it received.
 #[derive(Clone, Copy)]
 struct Row {
     reads: u32,
@@ -255,7 +255,7 @@ fn is_so<R: Wait, L: Link + Send + Drop>(
     lane: Lane<L>,
     row: Row,
 ) -> Result<(bool, L), Fail> {
-    let lane = planned(alloc, lane, row.reads)?;
+    let lane = planned(alloc, lane, 2, row.reads)?;
     let (is_done, lane) = done(rt, alloc, lane, row.act)?;
     let has = has(alloc, &lane, row) == Ok(true);
     Ok((has && is_done == Some(row.can), lane.close()))
@@ -531,7 +531,7 @@ fn four_read<R: Threads + Wait + Sync, L: Link + Send + Drop>(
     alloc: Global,
     lane: Lane<L>,
 ) -> Result<bool, Fail> {
-    let lane = planned_for_each(alloc, lane, 5)?;
+    let lane = planned(alloc, lane, 5, 1)?;
     let (places, lane) = read_by_four(rt, alloc, lane)?;
     let are_whole = has_four_reads(alloc, lane.entries()) == Ok(true);
     Ok(are_whole && are_the_first_four(places) && lane.counts() == (4, 0, 0))

@@ -92,12 +92,25 @@ fn ends_of(alloc: Global, sent: Sent) -> Result<(MemSource, MemSink), Fail> {
     Ok((source, sink))
 }
 
-/// Whether a connection is served so, over a link that loses nothing.
-fn is_served<R: Wait>(rt: &R, alloc: Global, sent: Sent, wanted: Wanted) -> Result<bool, Fail> {
+/// Whether a connection to a hub over this lane is served so.
+fn is_served_over<R: Wait, L: Link + Send + Drop>(
+    rt: &R,
+    alloc: Global,
+    lane: Lane<L>,
+    sent: Sent,
+    wanted: Wanted,
+) -> Result<bool, Fail>
+    requires { lane.items ≡ [] }
+{
     let (frames, end, written) = wanted;
     let (mut source, mut sink) = ends_of(alloc, sent)?;
-    let told = served(rt, alloc, lane(alloc, "")?, &mut source, &mut sink)?;
+    let told = served(rt, alloc, lane, &mut source, &mut sink)?;
     Ok(told == (frames, end) && sink.bytes() == written)
+}
+
+/// Whether it is over a link that loses nothing.
+fn is_served<R: Wait>(rt: &R, alloc: Global, sent: Sent, wanted: Wanted) -> Result<bool, Fail> {
+    is_served_over(rt, alloc, lane(alloc, "")?, sent, wanted)
 }
 
 /// Whether it is served so in whatever pieces the input comes.
