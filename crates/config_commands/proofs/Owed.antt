@@ -37,31 +37,39 @@ written_by law session steps links status text can writes = record {
   told = writes.told;
 }
 
--- What a command leaves whose terms use boards by its documents, where what it makes of such bytes is done.
-module _ (command : ConfigCommand) (terms : Terms) (bytes : List ℕ)
-    (uses : (specs : List LinkSpec) (links : List LinkReport) → RanSomeFor command bytes specs links
-    → terms.Uses bytes specs links)
-    (done : (session : Session) (steps : List Step) (links : List LinkReport) (status : ℕ) (text : List ℕ)
-    → IsReadFor command bytes session (steps ∷ []) → CanRunSteps session (steps ∷ [])
-    → Writes session (steps ∷ []) links status text → terms.Done bytes (no_pairs links) status text)
-    (session : Session) where
-  done_by : (steps : List (List Step)) (links : List LinkReport) → IsReadFor command bytes session steps
-      → length steps ≡ 1 → CanRunSteps session steps → (status : ℕ) (text : List ℕ)
-      → Writes session steps links status text → terms.Done bytes (no_pairs links) status text
-  done_by [] links read alone can status text writes = absurd cc
-  done_by (one ∷ other ∷ others) links read alone can status text writes = absurd (omega (arith, alone))
-  done_by (steps ∷ []) links read alone can status text writes = done session steps links status text read can writes
+-- the steps of the documents of a command can be run
+abbrev pub CanLaw : ConfigCommand → Type 0
+CanLaw command = (bytes : List ℕ) (session : Session) (steps : List (List Step))
+    → IsReadFor command bytes session steps → CanRunSteps session steps
 
-  leaves_by : (steps handed : List (List Step)) (made makes : List LinkSpec) (result : Result Answer RunFault)
-      (links : List LinkReport) → IsReadFor command bytes session steps → length steps ≡ 1
-      → CanRunSteps session steps → handed ≡ steps
+-- The terms of a command go by its documents: it uses the boards of one, and what it writes of the steps of the one
+-- client is done.
+pub record GoBy (command : ConfigCommand) (terms : Terms) : Type 0 where
+  pub uses : (bytes : List ℕ) (specs : List LinkSpec) (links : List LinkReport) → RanSomeFor command bytes specs links
+      → terms.Uses bytes specs links
+  pub done : (bytes : List ℕ) (session : Session) (steps : List Step) (links : List LinkReport) (status : ℕ)
+      (text : List ℕ) → IsReadFor command bytes session (steps ∷ []) → Writes session (steps ∷ []) links status text
+      → terms.Done bytes (no_pairs links) status text
+
+-- so what it leaves is what they owe
+module _ {command : ConfigCommand} {terms : Terms} (go : GoBy command terms) {bytes : List ℕ} {session : Session} where
+  done_by : (steps : List (List Step)) (links : List LinkReport) → IsReadFor command bytes session steps
+      → length steps ≡ 1 → (status : ℕ) (text : List ℕ) → Writes session steps links status text
+      → terms.Done bytes (no_pairs links) status text
+  done_by [] links read alone status text writes = absurd cc
+  done_by (one ∷ other ∷ others) links read alone status text writes = absurd (omega (arith, alone))
+  done_by (steps ∷ []) links read alone status text writes =
+      go.done bytes session steps links status text read writes
+
+  pub leaves_by : {steps handed : List (List Step)} {made makes : List LinkSpec} {result : Result Answer RunFault}
+      {links : List LinkReport} → IsReadFor command bytes session steps → length steps ≡ 1 → handed ≡ steps
       → RunLeaves (Writes session handed) session handed made makes result links
       → Leaves NoneCame IsRunFailure Rack terms bytes made makes result (no_pairs links)
-  leaves_by steps handed made makes result links read alone can same leaves =
+  leaves_by {steps} {handed} {made} {makes} {result} {links} read alone same leaves =
       run_left (Writes session steps) session steps made makes terms bytes result links
-      (λ specs first left. uses specs links
+      (λ specs first left. go.uses bytes specs links
       (record { session = session; steps = steps; read = read; first = first; left = left }))
-      (done_by steps links read alone can)
+      (done_by steps links read alone)
       (subst (λ steps. RunLeaves (Writes session steps) session steps made makes result links) same leaves)
 
 -- ---- save
@@ -73,21 +81,18 @@ SavedLaw = (bytes : List ℕ) (session : Session) (steps : List Step) (runs : Li
     → run_status (transcript_of (steps ∷ []) runs).clients ≡ 0
     → IsOpeningText session (state_text session.boards (client_lines runs 0 steps))
 
-pub save_leaves : RunsLaw → SavedLaw → (bytes : List ℕ) (session : Session) (steps handed : List (List Step))
-    (made makes : List LinkSpec) (result : Result Answer RunFault) (links : List LinkReport)
-    → IsSavable bytes session steps → length steps ≡ 1 → CanRunSteps session steps → handed ≡ steps
-    → RunLeaves (Writes session handed) session handed made makes result links
-    → Leaves NoneCame IsRunFailure Rack save_terms bytes made makes result (no_pairs links)
-save_leaves runs law bytes session =
-    leaves_by save_command save_terms bytes (λ specs links ran. ran)
-    (λ session steps links status text is can writes. record {
-      session = session;
-      steps = steps;
-      savable = is;
-      written = written_by runs session steps links status text can writes;
-      opening = λ zero tell. subst (IsOpeningText session) (sym writes.spelled)
-          (law bytes session steps writes.runs links is writes.boards tell (sym writes.told ∙ zero));
-    }) session
+pub save_goes : RunsLaw → CanLaw save_command → SavedLaw → GoBy save_command save_terms
+save_goes runs can law = record {
+  uses = λ bytes specs links ran. ran;
+  done = λ bytes session steps links status text is writes. record {
+    session = session;
+    steps = steps;
+    savable = is;
+    written = written_by runs session steps links status text (can bytes session (steps ∷ []) is) writes;
+    opening = λ zero tell. subst (IsOpeningText session) (sym writes.spelled)
+        (law bytes session steps writes.runs links is writes.boards tell (sym writes.told ∙ zero));
+  };
+}
 
 -- ---- apply
 
@@ -99,18 +104,15 @@ AppliedLaw = (bytes : List ℕ) (session : Session) (steps : List Step) (runs : 
     → IsAppliedText session (apply_command.work is.document).values
     (state_text session.boards (client_lines runs 0 steps))
 
-pub apply_leaves : RunsLaw → AppliedLaw → (bytes : List ℕ) (session : Session) (steps handed : List (List Step))
-    (made makes : List LinkSpec) (result : Result Answer RunFault) (links : List LinkReport)
-    → IsApplicable bytes session steps → length steps ≡ 1 → CanRunSteps session steps → handed ≡ steps
-    → RunLeaves (Writes session handed) session handed made makes result links
-    → Leaves NoneCame IsRunFailure Rack apply_terms bytes made makes result (no_pairs links)
-apply_leaves runs law bytes session =
-    leaves_by apply_command apply_terms bytes (λ specs links ran. ran)
-    (λ session steps links status text is can writes. record {
-      session = session;
-      steps = steps;
-      applicable = is;
-      written = written_by runs session steps links status text can writes;
-      applied = λ zero tell. subst (IsAppliedText session (apply_command.work is.document).values) (sym writes.spelled)
-          (law bytes session steps writes.runs links is writes.boards tell (sym writes.told ∙ zero));
-    }) session
+pub apply_goes : RunsLaw → CanLaw apply_command → AppliedLaw → GoBy apply_command apply_terms
+apply_goes runs can law = record {
+  uses = λ bytes specs links ran. ran;
+  done = λ bytes session steps links status text is writes. record {
+    session = session;
+    steps = steps;
+    applicable = is;
+    written = written_by runs session steps links status text (can bytes session (steps ∷ []) is) writes;
+    applied = λ zero tell. subst (IsAppliedText session (apply_command.work is.document).values) (sym writes.spelled)
+        (law bytes session steps writes.runs links is writes.boards tell (sym writes.told ∙ zero));
+  };
+}

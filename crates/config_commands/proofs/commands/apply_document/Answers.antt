@@ -1,26 +1,17 @@
-use Rattle.std.proofs.Common.{◌<◌, ◌^◌, length, map, rules, arith}
+use Rattle.std.proofs.Common.{rules, arith}
 use Rattle.board_greeting.specs.Reports.{shown_by}
-use Rattle.run_laws.specs.Steps.{MayRun}
-use Rattle.run_laws.proofs.Leaving.{kept_unless_refused, no_memory_handed_on, no_memory_left}
-use Rattle.config_input.specs.Deserved.{BreaksInApply}
-use Rattle.config_input.specs.Work.{apply_command}
-use Rattle.config_commands.specs.Steps.{Writes}
+use Rattle.run_laws.proofs.Leaving.{no_memory_handed_on, no_memory_left, refused_left}
 use Rattle.config_commands.specs.Terms.{apply_terms}
-use Rattle.config_commands.proofs.Leaving.{is_done, refused_by_command}
-use Rattle.config_commands.proofs.Owed.{apply_leaves}
+use Rattle.config_commands.proofs.Leaving.{written_unrefused}
+use Rattle.config_commands.proofs.Owed.{leaves_by, apply_goes}
 use Rattle.config_commands.proofs.commands.apply_document.Goals as goal
 
 pub write_configuration-requires-clause-runs : goal.write_configuration-requires-clause-runs
 write_configuration-requires-clause-runs g c κs within =
-    let session = c.in-Ok.read.session in
-    let steps = c.in-Ok.read.steps.items in
-    let alone = c.in-Ok.ensures.alone in
-    let few : length steps < 2 ^ 32 = omega (arith, alone) in
-    let ready : MayRun session steps =
-    c.steps_that_fit_may_be_run.ensures session steps
-    (c.steps_for_a_command_can_be_run.ensures.apply c.args.bytes.now session steps c.in-Ok.ensures.applicable)
-    few c.in-Ok.ensures.packed c.in-Ok.ensures.few c.in-Ok.ensures.limits c.in-Ok.ensures.short in
-    rw c.deref.ensures.value ready
+    let read = c.in-Ok.ensures in
+    rw c.deref.ensures.value (c.steps_that_fit_may_be_run.ensures _ _
+    (c.steps_for_a_command_can_be_run.ensures.apply _ _ _ read.applicable) (omega (arith, read.alone)) read.packed read.few
+    read.limits read.short)
 
 pub returns-in_err-refused-in-Err-Refused-clause-leaves :
     goal.returns-in_err-refused-in-Err-Refused-clause-leaves
@@ -30,32 +21,23 @@ returns-in_err-refused-in-Err-Refused-clause-leaves g c =
 
 pub returns-in-Ok-clause-leaves : goal.returns-in-Ok-clause-leaves
 returns-in-Ok-clause-leaves g c =
-    let left = c.write_configuration.ensures.leaves in
-    let session = c.in-Ok.read.session in
-    let steps = c.in-Ok.read.steps.items in (
+    let left = c.write_configuration.ensures.leaves in (
       left.0,
       left.1,
-      apply_leaves c.runs_over_links_are_runs_of_a_session.ensures
-          c.applied_texts_are_those_of_given_and_opening_values.ensures c.args.bytes.now session steps _ _ _
-          c.write_configuration.result _ c.in-Ok.ensures.applicable c.in-Ok.ensures.alone
-          (c.steps_for_a_command_can_be_run.ensures.apply c.args.bytes.now session steps c.in-Ok.ensures.applicable)
-          c.deref.ensures.value left.2,
+      leaves_by (apply_goes c.runs_over_links_are_runs_of_a_session.ensures
+          c.steps_for_a_command_can_be_run.ensures.apply c.applied_texts_are_those_of_given_and_opening_values.ensures)
+          c.in-Ok.ensures.applicable c.in-Ok.ensures.alone c.deref.ensures.value left.2,
     )
 
 pub returns-in-Ok-clause-refused : goal.returns-in-Ok-clause-refused
-returns-in-Ok-clause-refused g c =
-    let links = map (shown_by g.R.L.Link) c.write_configuration.ensures.leaves.0 in
-    kept_unless_refused _ (Writes c.in-Ok.read.session c.deref.result.now links)
-    (is_done c.in-Ok.read.session c.deref.result.now links) c.write_configuration.result
-    c.write_configuration.ensures.leaves.2.tells
+returns-in-Ok-clause-refused g c = written_unrefused _ c.write_configuration.ensures.leaves.2
 
 pub returns-in_ok-refused-in-Err-Refused-clause-leaves :
     goal.returns-in_ok-refused-in-Err-Refused-clause-leaves
 returns-in_ok-refused-in-Err-Refused-clause-leaves g c =
-    let deserved : BreaksInApply c.args.bytes.now c.in-Err-Refused.refusal = search rules in
-    refused_by_command (shown_by g.R.L.Link) _ apply_command apply_terms c.args.bytes.now _
-    c.in_ok-refused-in-Err-Refused.field-0 c.in-Err-Refused.refusal (λ line refused. refused) deserved
-    c.in_ok-refused-in-Err-Refused.ensures.text c.in_ok-refused-in-Err-Refused.ensures.status
+    let answer = c.in_ok-refused-in-Err-Refused.ensures in
+    refused_left (shown_by g.R.L.Link) _ apply_terms c.args.bytes.now _ c.in_ok-refused-in-Err-Refused.field-0
+    (record { refusal = c.in-Err-Refused.refusal; deserved = search rules; spelled = answer.text }) answer.status
 
 pub returns-in-Err-NoMemory-clause-leaves : goal.returns-in-Err-NoMemory-clause-leaves
 returns-in-Err-NoMemory-clause-leaves g c = no_memory_left (shown_by g.R.L.Link) _ apply_terms c.args.bytes.now _
