@@ -18,7 +18,7 @@ const TOO_LONG: Heard = Heard::Dropped(DropCause::TooLong);
 /// it, and its answer.
 type Row = (bool, &'static [u8], usize, Heard, &'static [u8]);
 
-const ANSWERED_OR_DROPPED: [Row; 11] = [
+const ANSWERED_OR_DROPPED: &[Row] = &[
     (false, b"", 0, NO_PACKET, b""),
     (false, b"\x20\0\x01", 3, NO_PACKET, b""),
     (false, b"\x20\0\x01\xf3", 4, NO_PACKET, b""),
@@ -74,7 +74,7 @@ fn is_heard(alloc: Global, row: Row) -> Result<bool, Fail> {
 #[test]
 fn a_fresh_board_hears_anything(rt: HostRuntime) -> Result<(), Fail> {
     for row in ANSWERED_OR_DROPPED {
-        assert!(rt; is_heard(rt.alloc(), row)?);
+        assert!(rt; is_heard(rt.alloc(), *row)?);
     }
     Ok(())
 }

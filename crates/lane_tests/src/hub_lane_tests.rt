@@ -40,16 +40,19 @@ fn became<L: Link + Drop>(alloc: Global, lane: Lane<L>) -> Result<Became, Fail> 
     Ok((place_and_rounds(outcome), lane.sent(), lane.counts()))
 }
 
-/// The reply is lost, the request is lost, and the board is gone.
+/// The fates of a link, what became of a read, and the counts: the reply is lost, the request is lost, and the board is
+/// gone.
+const READS: &[(&str, (u64, u8), (u64, u64, u64))] = &[
+    ("dddl", (1, 0), (1, 0, 0)),
+    ("ddl", (1, 0), (1, 0, 0)),
+    ("ddllllllllllllllll", (1, 3), (0, 1, 0)),
+];
+
 #[test]
 fn a_lane_recovers_or_gives_up(rt: HostRuntime) -> Result<(), Fail> {
-    for (fates, outcome, counts) in [
-        ("dddl", (1, 0), (1, 0, 0)),
-        ("ddl", (1, 0), (1, 0, 0)),
-        ("ddllllllllllllllll", (1, 3), (0, 1, 0)),
-    ] {
+    for (fates, outcome, counts) in READS {
         let became = became(rt.alloc(), lane(rt.alloc(), fates)?)?;
-        assert!(rt; became == (Some(outcome), 1, counts));
+        assert!(rt; became == (Some(*outcome), 1, *counts));
     }
     Ok(())
 }

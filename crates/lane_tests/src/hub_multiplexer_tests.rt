@@ -274,7 +274,7 @@ fn is_so_over<R: Wait>(
 }
 
 /// The fates of a link, how many of its receives are quiet, and the rest.
-const CLIENTS: [(&str, u64, Row); 6] = [
+const CLIENTS: &[(&str, u64, Row)] = &[
     (
         "ddl",
         1,
@@ -348,7 +348,7 @@ const CLIENTS: [(&str, u64, Row); 6] = [
 
 #[test]
 fn a_call_of_a_hub_does_what_it_says_and_no_more(rt: HostRuntime) -> Result<(), Fail> {
-    for (fates, quiets, row) in &CLIENTS {
+    for (fates, quiets, row) in CLIENTS {
         assert!(rt; is_so_over(&rt, rt.alloc(), fates, *quiets, *row)?);
     }
     Ok(())

@@ -129,7 +129,7 @@ fn is_served_in_pieces<R: Wait>(
 }
 
 /// What is sent, in whatever pieces it comes, and what is wanted.
-const FRAMES: [(&[u8], Wanted); 4] = [
+const FRAMES: &[(&[u8], Wanted)] = &[
     (READ, (1, SessionEnd::Closed, ANSWER)),
     (READ_OF_7_AND_0, (2, SessionEnd::Closed, ANSWERS_OF_7_AND_0)),
     (PART, (0, SessionEnd::CutFrame, b"")),
@@ -139,12 +139,12 @@ const FRAMES: [(&[u8], Wanted); 4] = [
 #[test]
 fn frames_are_answered(rt: HostRuntime) -> Result<(), Fail> {
     for (input, wanted) in FRAMES {
-        assert!(rt; is_served_in_pieces(&rt, rt.alloc(), input, wanted)?);
+        assert!(rt; is_served_in_pieces(&rt, rt.alloc(), input, *wanted)?);
     }
     Ok(())
 }
 
-const FAULTS: [(Sent, Wanted); 5] = [
+const FAULTS: &[(Sent, Wanted)] = &[
     (
         (READ_TWICE, 20, 5, (2, 0)),
         (1, SessionEnd::ReadFault, ANSWER),
@@ -173,7 +173,7 @@ const FAULTS: [(Sent, Wanted); 5] = [
 #[test]
 fn faults_end_a_connection(rt: HostRuntime) -> Result<(), Fail> {
     for (sent, wanted) in FAULTS {
-        assert!(rt; is_served(&rt, rt.alloc(), sent, wanted)?);
+        assert!(rt; is_served(&rt, rt.alloc(), *sent, *wanted)?);
     }
     Ok(())
 }

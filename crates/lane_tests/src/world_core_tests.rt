@@ -127,7 +127,7 @@ fn come_to(
 }
 
 /// Rounds, a window, moves, and what they come to.
-const RUNS: [(u8, u8, &[Step], Wanted); 6] = [
+const RUNS: &[(u8, u8, &[Step], Wanted)] = &[
     // the request comes twice
     (
         255,
@@ -175,7 +175,7 @@ const RUNS: [(u8, u8, &[Step], Wanted); 6] = [
 
 #[test]
 fn moves_are_run(rt: HostRuntime) -> Result<(), Fail> {
-    for (rounds, window, steps, wanted) in &RUNS {
+    for (rounds, window, steps, wanted) in RUNS {
         assert!(rt; come_to(rt.alloc(), *rounds, *window, steps, *wanted)?);
     }
     Ok(())
