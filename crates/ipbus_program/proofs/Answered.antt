@@ -25,8 +25,9 @@ use Rattle.ipbus_program.specs.declared.no_answer.NoAnswer.{NoAnswer}
 use Rattle.ipbus_program.specs.declared.no_answer.NoAnswer.TheVariants.{NoMemory, RackFault}
 use Rattle.ipbus_program.specs.Ended.{Ended}
 use Rattle.ipbus_program.specs.Owed.{AreCommand}
-use Rattle.ipbus_program.specs.Steps.{InputLeaves, IsFailure, no_answer_of}
-use Rattle.ipbus_program.proofs.Ending.{failed, outside, status_of, untouched}
+use Rattle.ipbus_program.specs.Outputs.{Delivers}
+use Rattle.ipbus_program.specs.Steps.{InputLeaves, IsFailure, no_answer_of, status_of}
+use Rattle.ipbus_program.proofs.Ending.{Untouched, delivered, failed, outside}
 use Rattle.ipbus_program.proofs.Faults.{run_behind, run_rack}
 use Rattle.ipbus_program.proofs.Served.{none_as_served}
 
@@ -97,14 +98,14 @@ module _ {L I O : Type 0} (shown : L → LinkReport) (source : SourceGhosts I) (
 
 module _ {L I O : Type 0} (shown : L → LinkReport) (source : SourceGhosts I) (sink : SinkGhosts O) where
   -- no link was made and no pair came
-  pub nothing_given : (old : List L) (coming kept : Option (List (I × O))) (words : List (String Global))
-      (left : Option (List ℕ)) (made : List LinkSpec) (written written_now : Option (List ℕ)) (status : ℕ)
-      → Ended words (untouched words left made written written_now) status
+  pub nothing_given : (old : List L) (coming kept : Option (List (I × O))) → {words : List (String Global)}
+      {left written written_now : Option (List ℕ)} {made : List LinkSpec} {status : ℕ}
+      → Untouched words left made written written_now status
       → Together shown source sink old old coming coming kept kept
-      (λ given. Ended words (record (untouched words left made written written_now) { given_back = given }) status)
-  nothing_given old coming kept words left made written written_now status ended =
+      (λ given. Ended words (outside left left made made written written_now given) status)
+  nothing_given old coming kept {words} {left} {written} {written_now} {made} {status} ended =
       without_pairs shown source sink old old coming coming kept kept refl refl
-      (λ given. Ended words (record (untouched words left made written written_now) { given_back = given }) status)
+      (λ given. Ended words (outside left left made made written written_now given) status)
       ([], sym (append-nil old), ended)
 
   -- nor did a board execute anything that was in no frame
@@ -115,20 +116,40 @@ module _ {L I O : Type 0} (shown : L → LinkReport) (source : SourceGhosts I) (
       without_pairs shown source sink old old coming coming kept kept refl refl
       (λ given. CameInFrames given.links given.came given.back) ([], sym (append-nil old), none_executed [] tt)
 
-  -- the command has no answer
-  pub unanswered : (old new : List L) (coming coming_now kept kept_now : Option (List (I × O)))
-      (words : List (String Global)) (command : Command) (laws : AreTerms (terms_of command))
-      (are : AreCommand words command) (before now : Option (List ℕ)) (made makes : List LinkSpec)
-      (written : Option (List ℕ)) (result : Result Answer NoAnswer) (why : NoAnswer) → result ≡ Err why
-      → Together shown source sink old new coming coming_now kept kept_now
-      (InputLeaves (terms_of command) before now made makes result)
-      → Together shown source sink old new coming coming_now kept kept_now
-      (λ given. Ended words (outside words command laws are before now made makes written written given)
-      (status_of why))
-  unanswered old new coming coming_now kept kept_now words command laws are before now made makes written result why
-      is =
-      therefore shown source sink old new coming coming_now kept kept_now
-      (InputLeaves (terms_of command) before now made makes result)
-      (λ given. Ended words (outside words command laws are before now made makes written written given)
-      (status_of why))
-      (λ given. failed words command laws are before now made makes written written given result why is)
+  -- the words are this command
+  module _ (old new : List L) (coming coming_now kept kept_now : Option (List (I × O))) (words : List (String Global))
+      {command : Command} (laws : AreTerms (terms_of command)) (are : AreCommand words command)
+      {before now : Option (List ℕ)} {made makes : List LinkSpec} (written written_now : Option (List ℕ)) where
+    -- so a call ends by what the command left
+    ended_by : (result : Result Answer NoAnswer) (status : ℕ)
+        → ((given : GivenBack) → InputLeaves (terms_of command) before now made makes result given
+        → Ended words (outside before now made makes written written_now given) status)
+        → Together shown source sink old new coming coming_now kept kept_now
+        (InputLeaves (terms_of command) before now made makes result)
+        → Together shown source sink old new coming coming_now kept kept_now
+        (λ given. Ended words (outside before now made makes written written_now given) status)
+    ended_by result status =
+        therefore shown source sink old new coming coming_now kept kept_now
+        (InputLeaves (terms_of command) before now made makes result)
+        (λ given. Ended words (outside before now made makes written written_now given) status)
+
+    -- it has no answer
+    pub unanswered : {result : Result Answer NoAnswer} {why : NoAnswer} → result ≡ Err why
+        → Together shown source sink old new coming coming_now kept kept_now
+        (InputLeaves (terms_of command) before now made makes result)
+        → Together shown source sink old new coming coming_now kept kept_now
+        (λ given. Ended words (outside before now made makes written written_now given) (status_of why))
+    unanswered {result} {why} is =
+        ended_by result (status_of why)
+        (λ given. failed words laws are before now made makes written written_now given why is)
+
+    -- it has one, which was handed to the output
+    pub answered : {answer : Answer} {handed : List ℕ} → handed ≡ answer.text.items → (met meets : ℕ) → {result : ℕ}
+        → Delivers answer.status handed written written_now met meets result
+        → Together shown source sink old new coming coming_now kept kept_now
+        (InputLeaves (terms_of command) before now made makes (Ok answer))
+        → Together shown source sink old new coming coming_now kept kept_now
+        (λ given. Ended words (outside before now made makes written written_now given) result)
+    answered {answer} same met meets {result} delivers =
+        ended_by (Ok answer) result
+        (λ given. delivered words laws are before now made makes written written_now given same met meets delivers)

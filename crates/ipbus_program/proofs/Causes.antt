@@ -14,14 +14,21 @@ use Rattle.ipbus_program.specs.Owed.{Wrote, WroteOwed, WroteOwedPart}
 use Rattle.ipbus_program.specs.Outputs.{Delivers}
 use Rattle.ipbus_program.specs.Steps.{IsTooLong}
 
-pub done_small_status : (n : ℕ) → IsDoneStatus n → n ≤ 1
-done_small_status n (inl zero) = omega (arith, zero)
-done_small_status n (inr one) = omega (arith, one)
+pub done_small_status : {n : ℕ} → IsDoneStatus n → n ≤ 1
+done_small_status (inl zero) = omega (arith, zero)
+done_small_status (inr one) = omega (arith, one)
 
 -- the statuses of an answer to bytes that break no rule
-pub done_small : (terms : Terms) → AreTerms terms → (bytes : List ℕ) (given : GivenBack) (status : ℕ) (text : List ℕ)
-    → terms.Done bytes given status text → status ≤ 1
-done_small terms laws bytes given status text done = done_small_status status (laws.told bytes given status text done)
+pub done_small : {terms : Terms} → AreTerms terms → {before now : Option (List ℕ)} {given : GivenBack} {status : ℕ}
+    {text : List ℕ} → IsDone terms before now given status text → status ≤ 1
+done_small laws {status = status} {text = text} done =
+    done_small_status (laws.told done.bytes _ status text done.done)
+
+-- and to any
+pub answer_status : {terms : Terms} → AreTerms terms → {before now : Option (List ℕ)} {given : GivenBack} {status : ℕ}
+    {text : List ℕ} → AnswersInput terms before now given status text → (status ≤ 1) ⊎ (status ≡ refused_status)
+answer_status laws (inl done) = inl (done_small laws done)
+answer_status laws (inr (refused, why)) = inr refused
 
 -- ---- a command that reads
 
@@ -79,16 +86,45 @@ long_answered terms laws before now given status text is refused line =
 pub small_is : (n : ℕ) → n ≤ 1 → (n ≡ 0) ⊎ (n ≡ 1)
 small_is n small = grind arith
 
-pub is_status : (result : ℕ) → (result ≤ 1) ⊎ ((result ≡ refused_status) ⊎ (result ≡ write_fault_status)) → IsStatus result
-is_status result (inl small) = ⊎_elim (λ zero. inl zero) (λ one. inr (inl one)) (small_is result small)
-is_status result (inr (inl refused)) = inr (inr (inr (inl refused)))
-is_status result (inr (inr fault)) = inr (inr (inr (inr (inr (inl fault)))))
+-- the statuses with which a text was handed to the output
+abbrev pub HasText : ℕ → Type 0
+HasText result = (result ≤ 1) ⊎ ((result ≡ refused_status) ⊎ (result ≡ write_fault_status))
 
--- where a status was answered that is no fault of the output, it is that of the text
-pub status_is : (status result s : ℕ) (text : List ℕ) (old new : Option (List ℕ)) (met meets : ℕ)
-    → Delivers status text old new met meets result → result ≡ s → (s ≡ write_fault_status → ⊥) → status ≡ s
-status_is status result s text old new met meets (inl (is, wrote)) told other = sym is ∙ told
-status_is status result s text old new met meets (inr (is, part)) told other = absurd (other (sym told ∙ is))
+pub is_status : {result : ℕ} → HasText result → IsStatus result
+is_status (inl small) = ⊎_elim (λ zero. inl zero) (λ one. inr (inl one)) (small_is _ small)
+is_status (inr (inl refused)) = inr (inr (inr (inl refused)))
+is_status (inr (inr fault)) = inr (inr (inr (inr (inr (inl fault)))))
+
+-- ---- what was written
+
+-- it was the status of the text that was answered, or that of a fault of the output
+pub delivered_status : {status result : ℕ} {Whole Part : Type 0}
+    → ((result ≡ status) × Whole) ⊎ ((result ≡ write_fault_status) × Part)
+    → (result ≡ status) ⊎ (result ≡ write_fault_status)
+delivered_status (inl (is, wrote)) = inl is
+delivered_status (inr (is, part)) = inr is
+
+-- where the output met no fault, the text was written whole
+pub delivered_whole : {status result : ℕ} {Whole Risen Part : Type 0}
+    → ((result ≡ status) × Whole) ⊎ ((result ≡ write_fault_status) × (Risen × Part)) → (Risen → ⊥)
+    → (result ≡ status) × Whole
+delivered_whole (inl whole) calm = whole
+delivered_whole (inr (is, (rose, part))) calm = absurd (calm rose)
+
+-- where its status was answered, it met one
+pub delivered_fault : {status result : ℕ} {Whole Risen Part : Type 0}
+    → ((result ≡ status) × Whole) ⊎ ((result ≡ write_fault_status) × (Risen × Part))
+    → (status ≡ write_fault_status → ⊥) → result ≡ write_fault_status → Risen
+delivered_fault (inl (is, whole)) other told = absurd (other (sym is ∙ told))
+delivered_fault (inr (is, (rose, part))) other told = rose
+
+-- by the status, what was written of an answer
+pub record WroteAnswer (words : List (String Global)) (before now : Option (List ℕ)) (given : GivenBack)
+    (old new : Option (List ℕ)) (result : ℕ) : Type 0 where
+  pub has_text : HasText result
+  pub done : IsDoneStatus result → WroteOwed (OwesDone words before now given result) old new
+  pub refused : result ≡ refused_status → WroteOwed (OwesRefusal words before now) old new
+  pub cut : result ≡ write_fault_status → WroteOwedPart (OwesText words before now given) old new
 
 -- `handed` is the text as it was handed to the output, `old` and `new` are what the output has, and `met` and `meets`
 -- its faults
@@ -96,42 +132,32 @@ module _ (words : List (String Global)) (command : Command) (laws : AreTerms (te
     (are : AreCommand words command)
     (before now : Option (List ℕ)) (given : GivenBack) (status : ℕ) (text handed : List ℕ) (same : handed ≡ text)
     (old new : Option (List ℕ)) (met meets result : ℕ) where
-  -- 0, 1, 3 or 5
-  pub result_is : AnswersInput (terms_of command) before now given status text → Delivers status handed old new met meets result
-      → (result ≤ 1) ⊎ ((result ≡ refused_status) ⊎ (result ≡ write_fault_status))
-  result_is answers (inr (is, part)) = inr (inr is)
-  result_is (inl done) (inl (is, wrote)) =
-      let small = done_small (terms_of command) laws done.bytes given status text done.done in inl (omega (arith, is, small))
-  result_is (inr (refused, why)) (inl (is, wrote)) = inr (inl (is ∙ refused))
-
-  pub done_whole : (s : ℕ) → s ≤ 1 → AnswersInput (terms_of command) before now given status text
-      → Delivers status handed old new met meets result
-      → result ≡ s → WroteOwed (OwesDone words before now given s) old new
-  done_whole s small answers (inr (is, part)) told = absurd (omega (arith, is, told, small))
-  done_whole s small (inr (refused, why)) (inl (is, wrote)) told = absurd (omega (arith, is, told, small, refused))
-  done_whole s small (inl done) (inl (is, wrote)) told = (
-    text,
-    (command, are, subst (λ n. IsDone (terms_of command) before now given n text) (sym is ∙ told) done),
-    subst
-        (Wrote old new) same wrote,
-  )
-
-  pub refused_whole : AnswersInput (terms_of command) before now given status text → Delivers status handed old new met meets result
-      → result ≡ refused_status → WroteOwed (OwesRefusal words before now) old new
-  refused_whole answers (inr (is, part)) told = absurd (omega (arith, is, told))
-  refused_whole (inl done) (inl (is, wrote)) told =
-      let small = done_small (terms_of command) laws done.bytes given status text done.done in absurd (omega (arith, is, told, small))
-  refused_whole (inr (refused, why)) (inl (is, wrote)) told =
-      (text, (command, are, why), subst (Wrote old new) same wrote)
-
   owes : AnswersInput (terms_of command) before now given status text → OwesWords words before now given status text
   owes (inl done) = inl (command, are, done)
   owes (inr (refused, why)) = inr (inl (refused, (command, are, why)))
 
-  pub part_written : AnswersInput (terms_of command) before now given status text → Delivers status handed old new met meets result
-      → result ≡ write_fault_status → WroteOwedPart (OwesText words before now given) old new
-  part_written answers (inr (is, (rose, part))) told =
-      (text, (status, owes answers), subst (AppendsPart old new) same part)
-  part_written (inl done) (inl (is, wrote)) told =
-      let small = done_small (terms_of command) laws done.bytes given status text done.done in absurd (omega (arith, is, told, small))
-  part_written (inr (refused, why)) (inl (is, wrote)) told = absurd (omega (arith, is, told, refused))
+  pub wrote_answer : AnswersInput (terms_of command) before now given status text
+      → Delivers status handed old new met meets result → WroteAnswer words before now given old new result
+  wrote_answer answers (inr (is, (rose, part))) = record {
+    has_text = inr (inr is);
+    done = λ told. absurd (omega (arith, is, told));
+    refused = λ told. absurd (omega (arith, is, told));
+    cut = λ told. (text, (status, owes answers), subst (AppendsPart old new) same part);
+  }
+  wrote_answer (inl done) (inl (is, wrote)) =
+      let small = done_small laws done in record {
+        has_text = inl (omega (arith, is, small));
+        done = λ told. (
+          text,
+          (command, are, subst (λ n. IsDone (terms_of command) before now given n text) (sym is) done),
+          subst (Wrote old new) same wrote,
+        );
+        refused = λ told. absurd (omega (arith, is, told, small));
+        cut = λ told. absurd (omega (arith, is, told, small));
+      }
+  wrote_answer (inr (refused, why)) (inl (is, wrote)) = record {
+    has_text = inr (inl (is ∙ refused));
+    done = λ told. absurd (omega (arith, is, told, refused));
+    refused = λ told. (text, (command, are, why), subst (Wrote old new) same wrote);
+    cut = λ told. absurd (omega (arith, is, told, refused));
+  }

@@ -11,7 +11,8 @@ use Rattle.session_serve.specs.declared.report.ServeFault.{ServeFault}
 use Rattle.session_serve.specs.declared.report.ServeFault.TheVariants as serve
 use Rattle.session_serve.specs.Serving.{AreBack}
 use Rattle.command_terms.specs.declared.answer.Answer.{Answer}
-use Rattle.command_terms.specs.Numbers.{refused_status}
+use Rattle.command_terms.specs.Numbers.{refused_status, read_fault_status, no_memory_status, rack_fault_status}
+use Rattle.command_terms.specs.Numbers.{door_fault_status}
 use Rattle.command_terms.specs.Outside.{GivenBack}
 use Rattle.command_terms.specs.Terms.{Reads, Terms, most_bytes}
 use Rattle.ipbus_program.specs.declared.no_answer.NoAnswer.{NoAnswer}
@@ -34,6 +35,13 @@ abbrev pub no_answer_served : ServeFault → NoAnswer
 no_answer_served serve.Rack = RackFault
 no_answer_served serve.Door = DoorFault
 no_answer_served serve.NoMemory = NoMemory
+
+-- the status of a call that has no answer
+abbrev pub status_of : NoAnswer → ℕ
+status_of ReadFault = read_fault_status
+status_of RackFault = rack_fault_status
+status_of DoorFault = door_fault_status
+status_of NoMemory = no_memory_status
 
 -- these bytes were read whole for a command of these terms
 pub record IsInputOf (terms : Terms) (before now : Option (List ℕ)) (bytes : List ℕ) : Type 0 where

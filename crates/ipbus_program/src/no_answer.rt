@@ -1,5 +1,6 @@
 //! Why there is no answer to an input.
 
+use command_terms::{DOOR_FAULT, NO_MEMORY, RACK_FAULT, READ_FAULT};
 use ipb_base::NoMemory;
 use session_run::RunFault;
 use session_serve::ServeFault;
@@ -11,6 +12,23 @@ pub(crate) enum NoAnswer {
     RackFault,
     DoorFault,
     NoMemory,
+}
+
+impl NoAnswer {
+    ghost use Rattle.std.specs.Prelude.{◌≡◌};
+    ghost use Rattle.ipbus_program.specs.Steps.{status_of};
+
+    /// The status of a call that has no answer.
+    pub(crate) fn status(self) -> u8
+        ensures { result ≡ status_of self }
+    {
+        match self {
+            NoAnswer::ReadFault => READ_FAULT,
+            NoAnswer::RackFault => RACK_FAULT,
+            NoAnswer::DoorFault => DOOR_FAULT,
+            NoAnswer::NoMemory => NO_MEMORY,
+        }
+    }
 }
 
 impl From<NoMemory> for NoAnswer {

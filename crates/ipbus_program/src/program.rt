@@ -26,7 +26,7 @@ ghost use Rattle.ipbus_program.specs.Steps.{InputLeaves, IsFailure, IsInputOf, I
 use crate::answering::{answer_to, limit_of, terms_are_terms, too_long};
 use crate::no_answer::NoAnswer;
 use client_threads::Gate;
-use command_terms::{Answer, DOOR_FAULT, NO_MEMORY, RACK_FAULT, READ_FAULT, USAGE, WRITE_FAULT};
+use command_terms::{Answer, NO_MEMORY, USAGE, WRITE_FAULT};
 use command_words::laws::a_load_has_a_bound;
 use command_words::{Command, USAGE_LINE, command_of};
 use ipb_base::NoMemory;
@@ -211,9 +211,6 @@ pub fn control<S: Source, O: Sink, R: Rack, D: Door, T: Threads + Wait + Sync, G
     };
     match answer_command(rt, alloc, &command, input, rack, door, gate) {
         Ok(answer) => deliver(out, answer.text.as_slice(), answer.status),
-        Err(NoAnswer::ReadFault) => READ_FAULT,
-        Err(NoAnswer::RackFault) => RACK_FAULT,
-        Err(NoAnswer::DoorFault) => DOOR_FAULT,
-        Err(NoAnswer::NoMemory) => NO_MEMORY,
+        Err(why) => why.status(),
     }
 }
