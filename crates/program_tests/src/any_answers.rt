@@ -100,17 +100,20 @@ fn comes_to<T: Threads + Wait + Sync>(
     Ok(given == status && are_handed && has_result(alloc, out.bytes(), outcome, board)?)
 }
 
+/// The answers of the board, the result of the read, the line of the board, and the status.
+const BOARDS: &[(&str, (&str, &str, u8))] = &[
+    ("sc", ("garbled @1.1", REPLIED, NOT_ALL_DONE)),
+    ("sar", ("= 0x00000007 @1.1", REPLIED, DONE)),
+    ("", ("unsent", "board b0 silent\n", NOT_ALL_DONE)),
+    ("mt-sr", ("= 0x00000007 @1.1", REPLIED, DONE)),
+    ("se-r", ("= 0x00000007 @1.1", REPLIED, DONE)),
+    ("sf", ("garbled @1.1", REPLIED, NOT_ALL_DONE)),
+];
+
 #[test]
 fn a_board_answers_anything(rt: HostRuntime) -> Result<(), Fail> {
-    for (letters, wanted) in [
-        ("sc", ("garbled @1.1", REPLIED, NOT_ALL_DONE)),
-        ("sar", ("= 0x00000007 @1.1", REPLIED, DONE)),
-        ("", ("unsent", "board b0 silent\n", NOT_ALL_DONE)),
-        ("mt-sr", ("= 0x00000007 @1.1", REPLIED, DONE)),
-        ("se-r", ("= 0x00000007 @1.1", REPLIED, DONE)),
-        ("sf", ("garbled @1.1", REPLIED, NOT_ALL_DONE)),
-    ] {
-        assert!(rt; comes_to(&rt, rt.alloc(), letters, wanted)?, "{letters}");
+    for (letters, wanted) in BOARDS {
+        assert!(rt; comes_to(&rt, rt.alloc(), letters, *wanted)?, "{letters}");
     }
     Ok(())
 }

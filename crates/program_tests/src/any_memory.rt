@@ -106,7 +106,7 @@ struct Session {
 
 /// A link that loses nothing, twice; one that loses, repeats and delays; one that loses what the hub gives up; and two
 /// such links at once.
-const SESSIONS: [Session; 5] = [
+const SESSIONS: &[Session] = &[
     Session {
         line: "run",
         parts: ("", FIRST, ""),
@@ -168,7 +168,7 @@ const RECORDING: Session = Session {
 };
 
 /// A transcript of the first document that fits, and one that breaks each rule which it can break.
-const AUDITS: [Session; 5] = [
+const AUDITS: &[Session] = &[
     Session {
         line: "audit",
         parts: (LENGTH, FIRST, FIRST_TRANSCRIPT),
@@ -283,7 +283,7 @@ fn is_right<T: Threads + Wait + Sync>(rt: &T, alloc: Global, session: &Session) 
 
 #[test]
 fn sessions_with_any_memory(rt: HostRuntime) {
-    for session in &SESSIONS {
+    for session in SESSIONS {
         assert!(rt; is_right(&rt, rt.alloc(), session), "{}", session.text);
     }
 }
@@ -306,7 +306,7 @@ fn a_recording_with_any_memory(rt: HostRuntime) {
 
 #[test]
 fn an_audit_with_any_memory(rt: HostRuntime) {
-    for session in &AUDITS {
+    for session in AUDITS {
         assert!(rt; is_right(&rt, rt.alloc(), session), "{}", session.text);
     }
 }

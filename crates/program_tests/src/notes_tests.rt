@@ -87,7 +87,7 @@ const ANOTHER_WORD: &str =
 const ANOTHER_COUNT: &str =
     "client 1\n1 read b0:id = 0x0000abcd @1.1\nboard b0 places 1 replied 0 timeout 0 lost 0\n";
 
-const NOTES: [(About, Input, &str); 19] = [
+const NOTES: &[(About, Input, &str)] = &[
     (
         About::Words,
         ("", "serve", ""),
@@ -207,7 +207,7 @@ const NOTES: [(About, Input, &str); 19] = [
 fn notes_are_said(rt: HostRuntime) {
     for (about, input, wanted) in NOTES {
         assert!(rt;
-            is_said(rt.alloc(), about, input, wanted) == Ok(true),
+            is_said(rt.alloc(), *about, *input, wanted) == Ok(true),
             "{wanted}"
         );
     }

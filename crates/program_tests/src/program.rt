@@ -34,7 +34,7 @@ type Input = (&'static str, &'static str, &'static str);
 
 /// The words of a line, an input, the status and the text. Of a load each operation is answered the number of those
 /// before it.
-const ANSWERS: [(&str, Input, u8, &str); 29] = [
+const ANSWERS: &[(&str, Input, u8, &str)] = &[
     ("run", ("", FIRST, ""), DONE, FIRST_TRANSCRIPT),
     ("run", (NO_RULES, FIRST, ""), NOT_ALL_DONE, DENIED),
     (
@@ -159,14 +159,14 @@ fn is_answered<T: Threads + Wait + Sync>(
 #[test]
 fn each_command_is_done_or_refused(rt: HostRuntime) {
     for (line, input, status, text) in ANSWERS {
-        let is_answered = is_answered(&rt, rt.alloc(), line, input, status, text);
+        let is_answered = is_answered(&rt, rt.alloc(), line, *input, *status, text);
         assert!(rt; is_answered == Ok(true), "{line}");
     }
 }
 
 /// The words of a line for the first document; the numbers of the make, of the call of the link and of the write that
 /// fail; the status and the text. The first call of a link is that of the greeting.
-const FAULTS: [(&str, u64, u64, u64, u8, &str); 8] = [
+const FAULTS: &[(&str, u64, u64, u64, u8, &str)] = &[
     ("", 0, 0, 1, WRITE_FAULT, ""),
     ("run", 0, 0, 1, WRITE_FAULT, ""),
     ("check main", 0, 0, 1, WRITE_FAULT, ""),
@@ -203,13 +203,13 @@ fn comes_to<T: Threads + Wait + Sync>(
 fn a_make_a_call_or_the_first_write_fails(rt: HostRuntime) {
     for (line, make, call, write, status, text) in FAULTS {
         let fails = Fails {
-            make,
-            call,
-            write,
+            make: *make,
+            call: *call,
+            write: *write,
             take: 1000,
         };
         assert!(rt;
-            comes_to(&rt, rt.alloc(), line, FIRST, fails, (status, text)),
+            comes_to(&rt, rt.alloc(), line, FIRST, fails, (*status, text)),
             "{line}"
         );
     }
@@ -261,7 +261,7 @@ fn each_write_fails_in_turn(rt: HostRuntime) {
 
 /// The call of the link that fails, the status of `record`, and how many bytes of the capture are there then: those of
 /// the calls before. The greeting makes the calls 1 and 2, and the packet with its reply the calls 3 and 4.
-const RECORDED: [(u64, u8, usize); 5] = [
+const RECORDED: &[(u64, u8, usize)] = &[
     (1, NOT_ALL_DONE, 8),
     (2, NOT_ALL_DONE, 139),
     (3, NOT_ALL_DONE, 270),
@@ -274,11 +274,11 @@ fn what_a_failing_link_carried_is_recorded(rt: HostRuntime) {
     for (call, status, length) in RECORDED {
         let fails = Fails {
             make: 0,
-            call,
+            call: *call,
             write: 0,
             take: 1000,
         };
-        let text = ONE_READ.get(..length).unwrap_or("");
-        assert!(rt; comes_to(&rt, rt.alloc(), "record", DOCUMENT, fails, (status, text)));
+        let text = ONE_READ.get(..*length).unwrap_or("");
+        assert!(rt; comes_to(&rt, rt.alloc(), "record", DOCUMENT, fails, (*status, text)));
     }
 }

@@ -9,7 +9,7 @@ use session_input::{Unread, read_for_check, read_for_run};
 use std::alloc::Global;
 
 /// Words that are no command.
-const NO_COMMANDS: [&str; 18] = [
+const NO_COMMANDS: &[&str] = &[
     "",
     "x",
     "Run",
@@ -55,7 +55,7 @@ const LINE: &str = "read b0:sys.id";
 /// What stands in front of the document, a text of it, the text that takes its place, and what is told of the refusal.
 type Change = (&'static [u8], &'static str, &'static str, &'static str);
 
-const CHANGES: [Change; 20] = [
+const CHANGES: &[Change] = &[
     (b"window = 17\n", "", "", "document window Shape"),
     (b"x = 1\n", "", "", "document x Shape"),
     (b"rounds = 1.0\n", "", "", "document rounds Shape"),
@@ -171,7 +171,7 @@ fn is_change_refused(alloc: Global, change: Change) -> Result<bool, NoMemory> {
 fn documents_are_refused_again(rt: HostRuntime) {
     for change in CHANGES {
         assert!(rt;
-            is_change_refused(rt.alloc(), change) == Ok(true),
+            is_change_refused(rt.alloc(), *change) == Ok(true),
             "{}",
             change.3
         );
@@ -179,7 +179,7 @@ fn documents_are_refused_again(rt: HostRuntime) {
 }
 
 /// Texts that are refused, by `describe` or else by `undescribe`, and the rule that is told.
-const CAPTURES: [(bool, &str, &str); 9] = [
+const CAPTURES: &[(bool, &str, &str)] = &[
     (true, "", "capture 1 First"),
     (true, "first 0\n", "capture 1 First"),
     (true, "first 65536\n", "capture 1 First"),
@@ -228,7 +228,7 @@ fn is_capture_refused(
 fn captures_are_refused_again(rt: HostRuntime) {
     for (is_capture, text, rule) in CAPTURES {
         assert!(rt;
-            is_capture_refused(rt.alloc(), is_capture, text, rule) == Ok(true),
+            is_capture_refused(rt.alloc(), *is_capture, text, rule) == Ok(true),
             "{rule}"
         );
     }

@@ -14,7 +14,7 @@ pub(crate) const ASKED: [u8; 20] = [
     0, 0, 0, 16, 0, 0, 0, 0, 0x20, 0, 0, 0xf0, 0x20, 0, 1, 0x0f, 0, 0, 0, 4,
 ];
 
-const ANSWERED: [u8; 24] = [
+const ANSWERED: &[u8] = &[
     0, 0, 0, 20, 0, 0, 0, 0, 0, 0, 0, 0, 0x20, 0, 0, 0xf0, 0x20, 0, 1, 0, 0, 0, 0xab, 0xcd,
 ];
 
@@ -83,15 +83,11 @@ const TWO: &str = "serve 5000 2";
 
 /// A connection, one that ends within a frame, a door with no pair, with one pair fewer than connections, and one whose
 /// first or second call fails. Where a second one does not come, the first one is served to its end.
-const SERVINGS: [(&str, Coming, Wanted); 7] = [
-    (FIRST, (ONE, 1, &ASKED, 0), (DONE, SERVED, Some(&ANSWERED))),
+const SERVINGS: &[(&str, Coming, Wanted)] = &[
+    (FIRST, (ONE, 1, &ASKED, 0), (DONE, SERVED, Some(ANSWERED))),
     (FIRST, (ONE, 1, PART, 0), (NOT_ALL_DONE, CUT, Some(b""))),
     (FIRST, (TWO, 0, b"", 0), (DOOR_FAULT, "", None)),
-    (
-        FIRST,
-        (TWO, 1, &ASKED, 0),
-        (DOOR_FAULT, "", Some(&ANSWERED)),
-    ),
+    (FIRST, (TWO, 1, &ASKED, 0), (DOOR_FAULT, "", Some(ANSWERED))),
     (FIRST, (TWO, 1, &ASKED, 1), (DOOR_FAULT, "", None)),
     (FIRST, (TWO, 1, &ASKED, 2), (DOOR_FAULT, "", None)),
     // the scripts of a document are checked, and the door is left alone where one is faulty
@@ -105,7 +101,7 @@ const SERVINGS: [(&str, Coming, Wanted); 7] = [
 #[test]
 fn connections_are_served_or_the_door_fails(rt: HostRuntime) {
     for (document, coming, wanted) in SERVINGS {
-        assert!(rt; is_served(&rt, rt.alloc(), document, coming, wanted) == Ok(true));
+        assert!(rt; is_served(&rt, rt.alloc(), document, *coming, *wanted) == Ok(true));
     }
 }
 
@@ -115,7 +111,7 @@ const BAD_FRAME: &str =
 const CLOSED: &str = "connection 1 frames 1 closed\nboard b0 places 0 replied 0 timeout 0 lost 0\n";
 
 /// Bytes of a client, the status, the text, and its answer, which is a code without a packet.
-const BAD_FRAMES: [(&[u8], Wanted); 4] = [
+const BAD_FRAMES: &[(&[u8], Wanted)] = &[
     // lengths of 7 and of 8977
     (
         b"\0\0\0\x07\0\0\0\0\x20\0\0",
@@ -139,7 +135,7 @@ const BAD_FRAMES: [(&[u8], Wanted); 4] = [
 #[test]
 fn bad_frames_are_answered_or_end_the_connection(rt: HostRuntime) {
     for (bytes, wanted) in BAD_FRAMES {
-        let coming = (ONE, 1, bytes, 0);
-        assert!(rt; is_served(&rt, rt.alloc(), FIRST, coming, wanted) == Ok(true));
+        let coming = (ONE, 1, *bytes, 0);
+        assert!(rt; is_served(&rt, rt.alloc(), FIRST, coming, *wanted) == Ok(true));
     }
 }
