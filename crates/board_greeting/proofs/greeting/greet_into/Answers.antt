@@ -1,4 +1,5 @@
 use Rattle.std.proofs.Common.{◌≡◌, ◌∙◌, ◌∷◌, ◌+◌, ℕ, [], Some, ap, length, length-append, refl, subst, sym, arith}
+use Rattle.std.proofs.lemmas.Grind.{common_steps}
 use Rattle.std.specs.List.{AllByRecursion, slice_get}
 use Rattle.std.proofs.lemmas.Option.{slice_get-get_or}
 use Rattle.board_node.specs.declared.spec.BoardSpec.{BoardSpec}
@@ -94,3 +95,18 @@ loop-spec-preserved g c =
           let before = c.loop-spec.invariant.place in let test = c.loop-spec-test.true in
           omega (arith, len, cap, before, test));
     }
+
+pub returns-in_err-board-clause-room : goal.returns-in_err-board-clause-room
+returns-in_err-board-clause-room g c = grind (arith, common_steps)
+
+pub returns-then-is_last-clause-faults : goal.returns-then-is_last-clause-faults
+returns-then-is_last-clause-faults g c = grind (arith, common_steps)
+
+pub returns-clause-faults : goal.returns-clause-faults
+returns-clause-faults g c = grind (arith, common_steps)
+
+pub loop-spec-init : goal.loop-spec-init
+loop-spec-init g c = grind (arith, common_steps)
+
+pub push_reserved-requires : goal.push_reserved-requires
+push_reserved-requires g c = grind (arith, common_steps)
