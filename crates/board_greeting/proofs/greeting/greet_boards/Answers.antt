@@ -1,9 +1,8 @@
-use Rattle.std.proofs.Common.{◌∙◌, ◌++◌, ℕ, [], ap, append-nil, arith, length, map, subst, sym}
-use Rattle.std.proofs.lemmas.Grind.{common_steps}
+use Rattle.std.proofs.Common.{◌≤◌, ◌∙◌, ◌++◌, [], ap, append-nil, length, map, subst, sym}
 use Rattle.std.proofs.lemmas.List.{length-map}
+use Rattle.ipb_base.specs.Faults.{Rose}
 use Rattle.hub_lane.specs.Greeting.{link_of}
 use Rattle.board_greeting.specs.Boards.{HasRoom}
-use Rattle.board_greeting.specs.Links.{AreMadeFor}
 use Rattle.board_greeting.specs.Reports.{shown_by}
 use Rattle.board_greeting.proofs.Boards.{fresh_links, made_still, none_made}
 use Rattle.board_greeting.proofs.greeting.greet_boards.Goals as goal
@@ -30,26 +29,20 @@ returns-in-Err-clause-left g c =
       ),
     )
 
-pub greet_into-requires : goal.greet_into-requires
-greet_into-requires g c = grind (arith, common_steps)
-
-pub keep_all-requires : goal.keep_all-requires
-keep_all-requires g c = grind (arith, common_steps)
-
-pub returns-in-Ok-greet_into-clause-made : goal.returns-in-Ok-greet_into-clause-made
-returns-in-Ok-greet_into-clause-made g c =
-    subst (λ (n : ℕ). AreMadeFor c.args.specs.now n (g.R.Rack.made c.args.rack.now) (g.R.Rack.made c.greet_into.new.rack))
-    c.in-Ok-greet_into.ensures.all c.greet_into.ensures.made
-
 pub returns-in-Ok-greet_into-clause-room : goal.returns-in-Ok-greet_into-clause-room
 returns-in-Ok-greet_into-clause-room g c =
     subst (HasRoom g.R.Rack c.greet_into.new.rack) c.in-Ok-greet_into.ensures.all c.greet_into.ensures.room
 
 pub returns-in-Ok-greet_into-clause-faults : goal.returns-in-Ok-greet_into-clause-faults
-returns-in-Ok-greet_into-clause-faults g c = grind (arith, common_steps)
+returns-in-Ok-greet_into-clause-faults g c =
+    let faults = c.in-Ok-greet_into.ensures.faults in (λ e. faults.0 cc, faults.1, λ _. faults.2 (λ e. cc))
 
 pub returns-in-Err-clause-faults : goal.returns-in-Err-clause-faults
-returns-in-Err-clause-faults g c = grind (arith, common_steps)
-
-pub returns-in_default-clause-faults : goal.returns-in_default-clause-faults
-returns-in_default-clause-faults g c = grind (arith, common_steps)
+returns-in-Err-clause-faults g c =
+    let before = g.R.Rack.faults c.args.rack.now in
+    let faults = c.in-Err.ensures.faults in
+    let still = c.keep_all.ensures.faults in (
+      λ e. subst (Rose before) (sym still) (faults.0 cc),
+      subst (λ now. before ≤ now) (sym still) faults.1,
+      λ other. still ∙ faults.2 (λ e. other cc),
+    )

@@ -96,17 +96,11 @@ loop-spec-preserved g c =
           omega (arith, len, cap, before, test));
     }
 
-pub returns-in_err-board-clause-room : goal.returns-in_err-board-clause-room
-returns-in_err-board-clause-room g c = grind (arith, common_steps)
-
 pub returns-then-is_last-clause-faults : goal.returns-then-is_last-clause-faults
 returns-then-is_last-clause-faults g c = grind (arith, common_steps)
-
-pub returns-clause-faults : goal.returns-clause-faults
-returns-clause-faults g c = grind (arith, common_steps)
 
 pub loop-spec-init : goal.loop-spec-init
 loop-spec-init g c = grind (arith, common_steps)
 
-pub push_reserved-requires : goal.push_reserved-requires
-push_reserved-requires g c = grind (arith, common_steps)
+pub greet_board-requires : goal.greet_board-requires
+greet_board-requires g c = grind (arith, common_steps)

@@ -51,8 +51,5 @@ loop-board-init g c =
           (length (g.R.Rack.made c.args.rack.now)) (length bs)) (sym same) c.requires.room;
     }
 
-pub loop-board-smaller : goal.loop-board-smaller
-loop-board-smaller g c = grind (arith, common_steps)
-
 pub returns-clause-kept : goal.returns-clause-kept
 returns-clause-kept g c = grind (arith, common_steps)
