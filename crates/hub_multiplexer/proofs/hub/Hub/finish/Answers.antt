@@ -15,7 +15,8 @@ close_all-requires-clause-last g c κs within =
 
 pub close-requires-clause-turn : goal.close-requires-clause-turn
 close-requires-clause-turn g c κs within =
-    ap (λ (m : MasterState). m.room) c.master.view_is ∙ (c.requires.hub.1 ∙ sym (ap (λ (h : HubState). h.room) c.self.view_is))
+    ap (λ (m : MasterState). m.room) c.master.view_is
+    ∙ (c.requires.hub.1 ∙ sym (ap (λ (h : HubState). h.room) c.self.view_is))
 
 pub close-requires-clause-idle : goal.close-requires-clause-idle
 close-requires-clause-idle g c κs within = grind (arith, common_steps)
