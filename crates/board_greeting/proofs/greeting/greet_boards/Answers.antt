@@ -1,6 +1,8 @@
-use Rattle.std.proofs.Common.{◌∙◌, ◌++◌, [], ap, append-nil, length, map, sym}
+use Rattle.std.proofs.Common.{◌≤◌, ◌∙◌, ◌++◌, [], ap, append-nil, length, map, subst, sym}
 use Rattle.std.proofs.lemmas.List.{length-map}
+use Rattle.ipb_base.specs.Faults.{Rose}
 use Rattle.hub_lane.specs.Greeting.{link_of}
+use Rattle.board_greeting.specs.Boards.{HasRoom}
 use Rattle.board_greeting.specs.Reports.{shown_by}
 use Rattle.board_greeting.proofs.Boards.{fresh_links, made_still, none_made}
 use Rattle.board_greeting.proofs.greeting.greet_boards.Goals as goal
@@ -25,4 +27,22 @@ returns-in-Err-clause-left g c =
             (g.R.Rack.made c.greet_into.new.rack) (g.R.Rack.made c.keep_all.new.rack) c.greet_into.ensures.made
             (length-map links shows ∙ length-map boards (λ board. link_of board)) c.keep_all.ensures.made,
       ),
+    )
+
+pub returns-in-Ok-greet_into-clause-room : goal.returns-in-Ok-greet_into-clause-room
+returns-in-Ok-greet_into-clause-room g c =
+    subst (HasRoom g.R.Rack c.greet_into.new.rack) c.in-Ok-greet_into.ensures.all c.greet_into.ensures.room
+
+pub returns-in-Ok-greet_into-clause-faults : goal.returns-in-Ok-greet_into-clause-faults
+returns-in-Ok-greet_into-clause-faults g c =
+    let faults = c.in-Ok-greet_into.ensures.faults in (λ e. faults.0 cc, faults.1, λ _. faults.2 (λ e. cc))
+
+pub returns-in-Err-clause-faults : goal.returns-in-Err-clause-faults
+returns-in-Err-clause-faults g c =
+    let before = g.R.Rack.faults c.args.rack.now in
+    let faults = c.in-Err.ensures.faults in
+    let still = c.keep_all.ensures.faults in (
+      λ e. subst (Rose before) (sym still) (faults.0 cc),
+      subst (λ now. before ≤ now) (sym still) faults.1,
+      λ other. still ∙ faults.2 (λ e. other cc),
     )

@@ -1,4 +1,5 @@
 use Rattle.std.proofs.Common.{◌≡◌, ◌∙◌, ◌∷◌, ◌+◌, ℕ, [], Some, ap, length, length-append, refl, subst, sym, arith}
+use Rattle.std.proofs.lemmas.Grind.{common_steps}
 use Rattle.std.specs.List.{AllByRecursion, slice_get}
 use Rattle.std.proofs.lemmas.Option.{slice_get-get_or}
 use Rattle.board_node.specs.declared.spec.BoardSpec.{BoardSpec}
@@ -94,3 +95,12 @@ loop-spec-preserved g c =
           let before = c.loop-spec.invariant.place in let test = c.loop-spec-test.true in
           omega (arith, len, cap, before, test));
     }
+
+pub returns-then-is_last-clause-faults : goal.returns-then-is_last-clause-faults
+returns-then-is_last-clause-faults g c = grind (arith, common_steps)
+
+pub loop-spec-init : goal.loop-spec-init
+loop-spec-init g c = grind (arith, common_steps)
+
+pub greet_board-requires : goal.greet_board-requires
+greet_board-requires g c = grind (arith, common_steps)

@@ -1,5 +1,6 @@
 use Rattle.std.proofs.Common.{◌≡◌, ◌∙◌, ◌++◌, ◌∷◌, ◌+◌, ℕ, List, [], ap, length, length-append, map, refl, subst, sym}
 use Rattle.std.proofs.Common.{arith}
+use Rattle.std.proofs.lemmas.Grind.{common_steps}
 use Rattle.std.specs.Vec.Iter.{into_iter_items}
 use Rattle.hub_lane.specs.declared.greeting.Greeted.{Greeted}
 use Rattle.hub_lane.specs.Greeting.{link_of}
@@ -49,3 +50,6 @@ loop-board-init g c =
       room = subst (λ (bs : List (Greeted _)). LeavesRoom (length (g.R.Rack.kept c.args.rack.now))
           (length (g.R.Rack.made c.args.rack.now)) (length bs)) (sym same) c.requires.room;
     }
+
+pub returns-clause-kept : goal.returns-clause-kept
+returns-clause-kept g c = grind (arith, common_steps)

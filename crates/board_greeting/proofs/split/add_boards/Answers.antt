@@ -1,9 +1,13 @@
-use Rattle.std.proofs.Common.{◌∷◌, [], List, ap, arith, length, length-append, rules, sym}
-use Rattle.std.specs.Vec.Iter.{into_iter_items}
+use Rattle.std.proofs.Common.{◌≡◌, ◌∷◌, [], List, ap, arith, length, length-append, sym}
+use Rattle.std.specs.Vec.Iter.{into_iter_items, into_iter_len}
+use Rattle.std.specs.declared.vec.IntoIter.{IntoIter}
 use Rattle.board_greeting.specs.Places.{place_of}
 use Rattle.board_greeting.specs.declared.split.Place.{Place}
 use Rattle.board_greeting.proofs.Splitting.{few_places, memory_first, room_first, split_all, split_more, split_none}
 use Rattle.board_greeting.proofs.split.add_boards.Goals as goal
+
+none_left : {X Z : Type 0} (it : IntoIter X Z) → into_iter_len it ≡ 0 → length (into_iter_items it) ≡ 0
+none_left it none = grind arith
 
 pub loop-board-init : goal.loop-board-init
 loop-board-init g c = record {
@@ -46,4 +50,4 @@ loop-board-preserved g c =
 
 pub returns : goal.returns
 returns g c = split_all c.args.boards.items (into_iter_items c.loop-board.board-iterator) c.loop-board.split
-    c.loop-board.invariant.so_far (search rules)
+    c.loop-board.invariant.so_far (none_left c.loop-board.board-iterator c.in-None.ensures.steps.0)

@@ -1,4 +1,5 @@
-use Rattle.std.proofs.Common.{rules, sym, ◌∙◌}
+use Rattle.std.proofs.Common.{rules, sym, ◌∙◌, arith}
+use Rattle.std.proofs.lemmas.Grind.{common_steps}
 use Rattle.hub_multiplexer.proofs.Joins.{board_inside, board_joined, same_length}
 use Rattle.hub_multiplexer.proofs.passes.join_all.Goals as goal
 
@@ -12,3 +13,21 @@ loop-other-preserved g c =
     c.pop.new.self.items c.len-board.result c.index_mut.result.now c.in-Some.other c.join.new.pass
     c.in-Some.ensures.items c.loop-other.invariant.0 c.loop-other.invariant.1 inside
     (c.len-board.ensures ∙ search rules) c.index_mut.ensures.value c.join.ensures
+
+pub loop-other-init : goal.loop-other-init
+loop-other-init g c = grind (arith, common_steps)
+
+pub offset_bounds-turns-board : goal.offset_bounds-turns-board
+offset_bounds-turns-board g c = grind (arith, common_steps)
+
+pub bounds-turns-board : goal.bounds-turns-board
+bounds-turns-board g c = grind (arith, common_steps)
+
+pub index_mut-requires : goal.index_mut-requires
+index_mut-requires g c = grind (arith, common_steps)
+
+pub join-requires-clause-turn : goal.join-requires-clause-turn
+join-requires-clause-turn g c κs within = grind (arith, common_steps)
+
+pub join-requires-clause-idle : goal.join-requires-clause-idle
+join-requires-clause-idle g c κs within = grind (arith, common_steps)

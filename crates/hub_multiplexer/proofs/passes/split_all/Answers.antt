@@ -1,4 +1,5 @@
 use Rattle.std.proofs.Common.{length, ap, ◌∙◌, arith}
+use Rattle.std.proofs.lemmas.Grind.{common_steps}
 use Rattle.std.proofs.lemmas.List.{length-map}
 use Rattle.turn_pass.specs.Pass.{PassState}
 use Rattle.hub_multiplexer.specs.Seats.{after_split, split_off}
@@ -18,3 +19,15 @@ loop-i-preserved g c =
       omega (arith, c.push_reserved.ensures.len, c.loop-i.invariant.2),
       c.push_reserved.ensures.capacity ∙ c.loop-i.invariant.3,
     )
+
+pub index_mut-requires : goal.index_mut-requires
+index_mut-requires g c = grind (arith, common_steps)
+
+pub split-requires : goal.split-requires
+split-requires g c = grind (arith, common_steps)
+
+pub returns-clause-firsts : goal.returns-clause-firsts
+returns-clause-firsts g c = grind (arith, common_steps)
+
+pub returns-clause-made : goal.returns-clause-made
+returns-clause-made g c = grind (arith, common_steps)

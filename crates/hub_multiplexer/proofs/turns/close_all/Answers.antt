@@ -1,4 +1,5 @@
 use Rattle.std.proofs.Common.{rules, ◌≡◌, ◌<◌, ◌++◌, ◌∷◌, [], map, length, ap, sym, subst, ◌∙◌, arith, vec_len}
+use Rattle.std.proofs.lemmas.Grind.{common_steps}
 use Rattle.std.proofs.lemmas.List.{map-append}
 use Rattle.hub_multiplexer.specs.Ends.{AreEnded}
 use Rattle.hub_multiplexer.proofs.Ends.{one_closed}
@@ -23,3 +24,6 @@ loop-turns-preserved g c =
       omega (arith, c.push_reserved.ensures.len, c.push_reserved.ensures.capacity, c.remove-turn.ensures.len, inv.2),
       (all.2.0, all.2.1, subst (AreEnded all.2.0) (sym finals) all.2.2),
     )
+
+pub remove-pass-requires : goal.remove-pass-requires
+remove-pass-requires g c = grind (arith, common_steps)

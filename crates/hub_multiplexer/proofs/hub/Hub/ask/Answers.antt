@@ -1,3 +1,5 @@
+use Rattle.std.proofs.Common.{arith}
+use Rattle.std.proofs.lemmas.Grind.{common_steps}
 use Rattle.std.proofs.lemmas.Result.{IfOk-weaker, on_err_weaker}
 use Rattle.hub_multiplexer.specs.Calls.{AskMeans, IsNone, MadeInTime}
 use Rattle.hub_multiplexer.proofs.Boards.{changes_at}
@@ -17,3 +19,15 @@ returns-clause-looked g c =
     c.args.self.now.turns c.args.board c.index_mut.result.now c.ask.new.pass (λ k. MadeInTime k IsNone)
     c.seat.view_is c.requires.seat c.requires.board c.index_mut.ensures.value c.ask.ensures.same relation)
     c.ask.ensures.looked
+
+pub index-requires : goal.index-requires
+index-requires g c = grind (arith, common_steps)
+
+pub index_mut-requires : goal.index_mut-requires
+index_mut-requires g c = grind (arith, common_steps)
+
+pub ask-requires : goal.ask-requires
+ask-requires g c = grind (arith, common_steps)
+
+pub invariant_of-seat : goal.invariant_of-seat
+invariant_of-seat g c = grind (arith, common_steps)

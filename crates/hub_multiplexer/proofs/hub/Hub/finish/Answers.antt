@@ -1,6 +1,7 @@
-use Rattle.std.proofs.Common.{◌+◌, sym, subst}
+use Rattle.std.proofs.Common.{◌+◌, ◌∙◌, ap, arith, sym, subst}
+use Rattle.std.proofs.lemmas.Grind.{common_steps}
 use Rattle.hub_multiplexer.specs.Ends.{HasTakenIn}
-use Rattle.hub_multiplexer.specs.Seats.{MasterState}
+use Rattle.hub_multiplexer.specs.Seats.{HubState, MasterState}
 use Rattle.hub_multiplexer.proofs.Everyone.{all_taken_in}
 use Rattle.hub_multiplexer.proofs.Seats.{last_of}
 use Rattle.hub_multiplexer.proofs.hub.Hub.finish.Goals as goal
@@ -11,3 +12,11 @@ close_all-requires-clause-last g c κs within =
     last_of (c.master.inside.seats + 1) c.master.inside.passes.items master.firsts master.no_entries
     (all_taken_in c.master.inside.seats c.master.inside.passes.items master.firsts
     (subst (λ (m : MasterState). HasTakenIn (m.seats + 1) m) (sym c.master.view_is) c.requires.joined))
+
+pub close-requires-clause-turn : goal.close-requires-clause-turn
+close-requires-clause-turn g c κs within =
+    ap (λ (m : MasterState). m.room) c.master.view_is
+    ∙ (c.requires.hub.1 ∙ sym (ap (λ (h : HubState). h.room) c.self.view_is))
+
+pub close-requires-clause-idle : goal.close-requires-clause-idle
+close-requires-clause-idle g c κs within = grind (arith, common_steps)

@@ -1,3 +1,5 @@
+use Rattle.std.proofs.Common.{arith}
+use Rattle.std.proofs.lemmas.Grind.{common_steps}
 use Rattle.std.proofs.lemmas.Result.{IfOk-weaker, on_err_weaker}
 use Rattle.hub_multiplexer.specs.Calls.{IsNone, MadeInTime, PerformMeans}
 use Rattle.hub_multiplexer.proofs.Boards.{changes_at}
@@ -18,3 +20,12 @@ returns-clause-looked g c =
     (λ k. MadeInTime k IsNone)
     c.seat.view_is c.requires.seat c.requires.board c.index_mut.ensures.value c.perform.ensures.same relation)
     c.perform.ensures.looked
+
+pub index_mut-requires : goal.index_mut-requires
+index_mut-requires g c = grind (arith, common_steps)
+
+pub perform-requires : goal.perform-requires
+perform-requires g c = grind (arith, common_steps)
+
+pub invariant_of-seat : goal.invariant_of-seat
+invariant_of-seat g c = grind (arith, common_steps)

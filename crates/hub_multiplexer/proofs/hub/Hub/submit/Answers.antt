@@ -1,3 +1,5 @@
+use Rattle.std.proofs.Common.{arith}
+use Rattle.std.proofs.lemmas.Grind.{common_steps}
 use Rattle.std.proofs.lemmas.Result.{IfOk-weaker, IfErr-weaker}
 use Rattle.hub_multiplexer.specs.Calls.{HasSubmitted, MadeInTime, SubmitRefused}
 use Rattle.hub_multiplexer.proofs.Boards.{changes_at}
@@ -18,3 +20,9 @@ returns-clause-refused g c =
     (λ k. MadeInTime k (SubmitRefused k c.args.body why))
     c.seat.view_is c.requires.seat c.requires.board c.index_mut.ensures.value c.submit.ensures.same relation)
     c.submit.ensures.refused
+
+pub index_mut-requires : goal.index_mut-requires
+index_mut-requires g c = grind (arith, common_steps)
+
+pub invariant_of-seat : goal.invariant_of-seat
+invariant_of-seat g c = grind (arith, common_steps)

@@ -1,3 +1,5 @@
+use Rattle.std.proofs.Common.{arith}
+use Rattle.std.proofs.lemmas.Grind.{common_steps}
 use Rattle.std.proofs.lemmas.Result.{IfOk-weaker, on_err_weaker}
 use Rattle.hub_multiplexer.specs.Calls.{AskTried, IsNone, Made}
 use Rattle.hub_multiplexer.proofs.Boards.{changes_at}
@@ -18,3 +20,12 @@ returns-clause-looked g c =
     (λ k. Made k IsNone)
     c.seat.view_is c.requires.seat c.requires.board c.index_mut.ensures.value c.try_ask.ensures.same relation)
     c.try_ask.ensures.looked
+
+pub index_mut-requires : goal.index_mut-requires
+index_mut-requires g c = grind (arith, common_steps)
+
+pub try_ask-requires : goal.try_ask-requires
+try_ask-requires g c = grind (arith, common_steps)
+
+pub invariant_of-seat : goal.invariant_of-seat
+invariant_of-seat g c = grind (arith, common_steps)

@@ -1,3 +1,5 @@
+use Rattle.std.proofs.Common.{arith}
+use Rattle.std.proofs.lemmas.Grind.{common_steps}
 use Rattle.std.proofs.lemmas.Result.{IfOk-weaker, on_err_weaker}
 use Rattle.hub_multiplexer.specs.Calls.{IsNone, Made, StepTried}
 use Rattle.hub_multiplexer.proofs.Boards.{changes_at}
@@ -18,3 +20,9 @@ returns-clause-looked g c =
     (λ k. Made k IsNone)
     c.seat.view_is c.requires.seat c.requires.board c.index_mut.ensures.value c.try_step.ensures.same relation)
     c.try_step.ensures.looked
+
+pub index_mut-requires : goal.index_mut-requires
+index_mut-requires g c = grind (arith, common_steps)
+
+pub try_step-requires : goal.try_step-requires
+try_step-requires g c = grind (arith, common_steps)
