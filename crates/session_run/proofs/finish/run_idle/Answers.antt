@@ -1,4 +1,5 @@
-use Rattle.std.proofs.Common.{◌∙◌, Some, ap, map, sym, subst}
+use Rattle.std.proofs.Common.{◌∙◌, Some, ap, map, sym, subst, arith}
+use Rattle.std.proofs.lemmas.Grind.{common_steps}
 use Rattle.std.proofs.lemmas.Option.{same_Some}
 use Rattle.std.proofs.lemmas.Result.{IfOk-weaker}
 use Rattle.std.specs.List.{AllByRecursion}
@@ -34,3 +35,12 @@ returns-clause-lates c =
     (sym (sym (same_Some c.from_vec.result run.parts named.parts') ∙ c.from_vec.ensures))
     c.loop-steps.invariant.nothing))
     c.named.ensures
+
+pub loop-steps-init : goal.loop-steps-init
+loop-steps-init c = grind (arith, common_steps)
+
+pub loop-steps-preserved : goal.loop-steps-preserved
+loop-steps-preserved c = grind (arith, common_steps)
+
+pub returns-clause-greeting : goal.returns-clause-greeting
+returns-clause-greeting c = grind (arith, common_steps)

@@ -1,4 +1,5 @@
-use Rattle.std.proofs.Common.{◌∙◌, refl}
+use Rattle.std.proofs.Common.{◌∙◌, refl, arith}
+use Rattle.std.proofs.lemmas.Grind.{common_steps}
 use Rattle.std.specs.Vec.Iter.{into_iter_items}
 use Rattle.session_run.proofs.PartLists.{client_done}
 use Rattle.session_run.proofs.parts.parts_on_next.Goals as goal
@@ -11,3 +12,12 @@ loop-client-preserved c =
     c.push.new.self.items c.loop-client.invariant c.in-Some.ensures.items c.loop-client-test.true c.client-item.is
     (c.client-item.is ∙ c.next-outcomes.ensures) (c.from_vec-lates.ensures ∙ c.new.ensures.items)
     c.in_ok-push.ensures.items refl
+
+pub loop-client-init : goal.loop-client-init
+loop-client-init c = grind (arith, common_steps)
+
+pub returns-clause-parts : goal.returns-clause-parts
+returns-clause-parts c = grind (arith, common_steps)
+
+pub returns-clause-others : goal.returns-clause-others
+returns-clause-others c = grind (arith, common_steps)

@@ -1,5 +1,6 @@
-use Rattle.std.proofs.Common.{ℕ, List, ◌∙◌, ◌+◌, ap, subst, sym}
+use Rattle.std.proofs.Common.{ℕ, List, ◌∙◌, ◌+◌, ap, subst, sym, arith}
 use Rattle.std.specs.List.{AllByRecursion}
+use Rattle.std.proofs.lemmas.Grind.{common_steps}
 use Rattle.std.proofs.lemmas.List.{take_all}
 use Rattle.lane_record.specs.Items.{is_sealed}
 use Rattle.lane_record.specs.Dispatches.{all_plans_from}
@@ -108,3 +109,33 @@ returns-clause-few g c =
     ∙ ap (plans_on c.args.position (Live payload)) (take_all c.loop-steps.steps-index scripts c.loop-steps-test.false)))
     (few_planned c.plans_are_short.ensures.bodies payload c.args.position scripts limits.0 limits.1
     c.requires.can.executable c.requires.can.limits)
+
+pub returns-in_err-plans-clause-keeps : goal.returns-in_err-plans-clause-keeps
+returns-in_err-plans-clause-keeps g c = grind (arith, common_steps)
+
+pub returns-in_err-planned-clause-keeps : goal.returns-in_err-planned-clause-keeps
+returns-in_err-planned-clause-keeps g c = grind (arith, common_steps)
+
+pub returns-in_err-plan_bodies-clause-keeps : goal.returns-in_err-plan_bodies-clause-keeps
+returns-in_err-plan_bodies-clause-keeps g c = grind (arith, common_steps)
+
+pub returns-in_err-push-clause-keeps : goal.returns-in_err-push-clause-keeps
+returns-in_err-push-clause-keeps g c = grind (arith, common_steps)
+
+pub returns-clause-keeps : goal.returns-clause-keeps
+returns-clause-keeps g c = grind (arith, common_steps)
+
+pub returns-clause-plans : goal.returns-clause-plans
+returns-clause-plans g c = grind (arith, common_steps)
+
+pub returns-clause-some : goal.returns-clause-some
+returns-clause-some g c = grind (arith, common_steps)
+
+pub loop-steps-init : goal.loop-steps-init
+loop-steps-init g c = grind (arith, common_steps)
+
+pub plan_bodies-requires-clause-fit : goal.plan_bodies-requires-clause-fit
+plan_bodies-requires-clause-fit g c = grind (arith, common_steps)
+
+pub plan_bodies-requires-clause-client : goal.plan_bodies-requires-clause-client
+plan_bodies-requires-clause-client g c = grind (arith, common_steps)

@@ -1,4 +1,5 @@
-use Rattle.std.proofs.Common.{◌∙◌, ◌++◌, ap, length, map}
+use Rattle.std.proofs.Common.{◌∙◌, ◌++◌, ap, length, map, arith}
+use Rattle.std.proofs.lemmas.Grind.{common_steps}
 use Rattle.board_greeting.specs.Reports.{shown_by}
 use Rattle.board_greeting.proofs.Boards.{made_still}
 use Rattle.session_run.proofs.Sessions.{fresh_are_left, untouched_all}
@@ -39,3 +40,9 @@ returns-clause-made g c =
           (g.R.Rack.made c.args.rack.now) (g.R.Rack.made c.greet_boards.new.rack)
           (g.R.Rack.made c.run_greeted.new.rack) c.in_ok-boards.ensures.made left.2.1 c.run_greeted.ensures.made,
     )
+
+pub returns-in_err-boards-clause-rack_faults : goal.returns-in_err-boards-clause-rack_faults
+returns-in_err-boards-clause-rack_faults g c = grind (arith, common_steps)
+
+pub returns-clause-untouched : goal.returns-clause-untouched
+returns-clause-untouched g c = grind (arith, common_steps)

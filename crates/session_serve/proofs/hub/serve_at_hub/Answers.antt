@@ -1,4 +1,5 @@
-use Rattle.std.proofs.Common.{[], ℕ, List, Vec, Global, length, subst, sym}
+use Rattle.std.proofs.Common.{[], ℕ, List, Vec, Global, length, subst, sym, arith}
+use Rattle.std.proofs.lemmas.Grind.{common_steps}
 use Rattle.std.specs.List.{AllByRecursion}
 use Rattle.ipb_outside.specs.Pairs.{GivesBack, pair_shown}
 use Rattle.hub_multiplexer.specs.Seats.{SeatState}
@@ -100,3 +101,30 @@ returns-in-Err-clause-planned g c =
     (ArePlannedAt c.args.states.now olds news)
     (planned_none c.a_record_tells_its_lane.ensures g.L.Link.telling c.args.states.now olds news c.requires.unused
     c.in-Err.ensures.returned)
+
+pub returns-in-Ok-clause-all : goal.returns-in-Ok-clause-all
+returns-in-Ok-clause-all g c = c.serve_under_seats-served.ensures.all
+
+pub returns-in-Ok-clause-had_memory : goal.returns-in-Ok-clause-had_memory
+returns-in-Ok-clause-had_memory g c = c.serve_under_seats-served.ensures.had_memory
+
+pub returns-in-Ok-clause-none_out : goal.returns-in-Ok-clause-none_out
+returns-in-Ok-clause-none_out g c = c.serve_under_seats-served.ensures.none_out
+
+pub returns-in-Ok-clause-listens : goal.returns-in-Ok-clause-listens
+returns-in-Ok-clause-listens g c = c.serve_under_seats-served.ensures.listens
+
+pub returns-in-Ok-clause-door_faults : goal.returns-in-Ok-clause-door_faults
+returns-in-Ok-clause-door_faults g c = c.serve_under_seats-served.ensures.door_faults
+
+pub returns-in-Ok-clause-not_rack : goal.returns-in-Ok-clause-not_rack
+returns-in-Ok-clause-not_rack g c = c.serve_under_seats-served.ensures.not_rack
+
+pub returns-in-Err-clause-listens : goal.returns-in-Err-clause-listens
+returns-in-Err-clause-listens g c = grind (arith, common_steps)
+
+pub returns-in-Err-clause-door_faults : goal.returns-in-Err-clause-door_faults
+returns-in-Err-clause-door_faults g c = grind (arith, common_steps)
+
+pub returns-in-Err-clause-not_rack : goal.returns-in-Err-clause-not_rack
+returns-in-Err-clause-not_rack g c = grind (arith, common_steps)

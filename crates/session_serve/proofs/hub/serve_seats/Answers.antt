@@ -1,4 +1,5 @@
-use Rattle.std.proofs.Common.{◌≡◌, ◌≤◌, ◌∙◌, ℕ, inr, true, List, Vec, Global, ap, length}
+use Rattle.std.proofs.Common.{◌≡◌, ◌≤◌, ◌∙◌, ℕ, inr, true, List, Vec, Global, ap, length, arith}
+use Rattle.std.proofs.lemmas.Grind.{common_steps}
 use Rattle.std.proofs.Common.{subst, sym, arith}
 use Rattle.std.specs.List.{AllByRecursion}
 use Rattle.std.proofs.lemmas.List.{length-map}
@@ -106,3 +107,27 @@ returns-clause-listens g c =
     ∙ opened_of c.args.port (g.D.Door.ports c.args.door.now) (g.D.Door.ports c.listen.new.self) c.listen.result
     c.listen.ensures.opened c.is_err.ensures.value c.if-is_err.false) in
     (λ done. opened, inr opened)
+
+pub returns-clause-had_memory : goal.returns-clause-had_memory
+returns-clause-had_memory g c = c.conclude.ensures.had_memory
+
+pub returns-clause-not_rack : goal.returns-clause-not_rack
+returns-clause-not_rack g c = c.conclude.ensures.not_rack
+
+pub returns-clause-none_out : goal.returns-clause-none_out
+returns-clause-none_out g c = grind (arith, common_steps)
+
+pub returns-then-is_err-clause-taken_in : goal.returns-then-is_err-clause-taken_in
+returns-then-is_err-clause-taken_in g c = grind (arith, common_steps)
+
+pub returns-then-is_err-clause-none_out : goal.returns-then-is_err-clause-none_out
+returns-then-is_err-clause-none_out g c = grind (arith, common_steps)
+
+pub returns-then-is_err-clause-listens : goal.returns-then-is_err-clause-listens
+returns-then-is_err-clause-listens g c = grind (arith, common_steps)
+
+pub returns-then-is_err-clause-door_faults : goal.returns-then-is_err-clause-door_faults
+returns-then-is_err-clause-door_faults g c = grind (arith, common_steps)
+
+pub returns-then-is_err-clause-not_rack : goal.returns-then-is_err-clause-not_rack
+returns-then-is_err-clause-not_rack g c = grind (arith, common_steps)

@@ -1,4 +1,5 @@
 use Rattle.std.proofs.Common.{[], List, ap, length, refl, subst, sym, arith}
+use Rattle.std.proofs.lemmas.Grind.{common_steps}
 use Rattle.std.specs.List.{AllByRecursion}
 use Rattle.ipb_outside.specs.Pairs.{pair_shown}
 use Rattle.hub_multiplexer.specs.Ends.{HasTakenIn}
@@ -68,3 +69,39 @@ returns-in-Err-clause-taken_in g c =
     λ from. subst (λ n. HasTakenIn n c.join_all.new.master) (omega (arith, long, seats, made, none))
     (c.join_all.ensures.taken_in 1 (subst (λ l. AreOfClientsFrom 1 l) (sym rest) c.seat_all.ensures.clients)
     (c.seat_all.ensures.taken_in 1 from))
+
+pub returns-in-Ok-clause-had_memory : goal.returns-in-Ok-clause-had_memory
+returns-in-Ok-clause-had_memory g c = c.serve_seats.ensures.had_memory
+
+pub returns-in-Ok-clause-none_out : goal.returns-in-Ok-clause-none_out
+returns-in-Ok-clause-none_out g c = c.serve_seats.ensures.none_out
+
+pub returns-in-Ok-clause-listens : goal.returns-in-Ok-clause-listens
+returns-in-Ok-clause-listens g c = c.serve_seats.ensures.listens
+
+pub returns-in-Ok-clause-door_faults : goal.returns-in-Ok-clause-door_faults
+returns-in-Ok-clause-door_faults g c = c.serve_seats.ensures.door_faults
+
+pub returns-in-Ok-clause-not_rack : goal.returns-in-Ok-clause-not_rack
+returns-in-Ok-clause-not_rack g c = c.serve_seats.ensures.not_rack
+
+pub returns-in-Err-clause-listens : goal.returns-in-Err-clause-listens
+returns-in-Err-clause-listens g c = grind (arith, common_steps)
+
+pub returns-in-Err-clause-door_faults : goal.returns-in-Err-clause-door_faults
+returns-in-Err-clause-door_faults g c = grind (arith, common_steps)
+
+pub returns-in-Err-clause-not_rack : goal.returns-in-Err-clause-not_rack
+returns-in-Err-clause-not_rack g c = grind (arith, common_steps)
+
+pub returns-in_err-room-clause-taken_in : goal.returns-in_err-room-clause-taken_in
+returns-in_err-room-clause-taken_in g c = grind (arith, common_steps)
+
+pub returns-in_err-room-clause-listens : goal.returns-in_err-room-clause-listens
+returns-in_err-room-clause-listens g c = grind (arith, common_steps)
+
+pub returns-in_err-room-clause-door_faults : goal.returns-in_err-room-clause-door_faults
+returns-in_err-room-clause-door_faults g c = grind (arith, common_steps)
+
+pub returns-in_err-room-clause-not_rack : goal.returns-in_err-room-clause-not_rack
+returns-in_err-room-clause-not_rack g c = grind (arith, common_steps)

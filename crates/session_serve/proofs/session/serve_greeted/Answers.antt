@@ -1,4 +1,5 @@
-use Rattle.std.proofs.Common.{◌≡◌, ◌∙◌, ℕ, List, Vec, ap, length, map, subst, sym}
+use Rattle.std.proofs.Common.{◌≡◌, ◌∙◌, ℕ, List, Vec, ap, length, map, subst, sym, arith}
+use Rattle.std.proofs.lemmas.Grind.{common_steps}
 use Rattle.hub_lane.specs.declared.greeting.Greeted.{Greeted}
 use Rattle.hub_lane.specs.Greeting.{link_of}
 use Rattle.board_greeting.specs.Boards.{AreReached, LeavesRoom}
@@ -88,3 +89,39 @@ returns-in-Err-clause-in_frames g c =
           (none_executed (map shows links) (greeted_untouched shows c.args.settings c.args.specs.now boards
           (subst (AreReached shows c.args.settings c.args.specs.now) (sym same) c.requires.reached))),
     )
+
+pub returns-in_default-clause-none_out : goal.returns-in_default-clause-none_out
+returns-in_default-clause-none_out g c = grind (arith, common_steps)
+
+pub returns-in_default-clause-listens : goal.returns-in_default-clause-listens
+returns-in_default-clause-listens g c = grind (arith, common_steps)
+
+pub returns-in_default-clause-made : goal.returns-in_default-clause-made
+returns-in_default-clause-made g c = grind (arith, common_steps)
+
+pub returns-in_default-clause-rack_faults : goal.returns-in_default-clause-rack_faults
+returns-in_default-clause-rack_faults g c = grind (arith, common_steps)
+
+pub returns-in_default-clause-door_faults : goal.returns-in_default-clause-door_faults
+returns-in_default-clause-door_faults g c = grind (arith, common_steps)
+
+pub returns-in_default-clause-not_rack : goal.returns-in_default-clause-not_rack
+returns-in_default-clause-not_rack g c = grind (arith, common_steps)
+
+pub returns-in-Err-clause-none_out : goal.returns-in-Err-clause-none_out
+returns-in-Err-clause-none_out g c = grind (arith, common_steps)
+
+pub returns-in-Err-clause-listens : goal.returns-in-Err-clause-listens
+returns-in-Err-clause-listens g c = grind (arith, common_steps)
+
+pub returns-in-Err-clause-made : goal.returns-in-Err-clause-made
+returns-in-Err-clause-made g c = grind (arith, common_steps)
+
+pub returns-in-Err-clause-rack_faults : goal.returns-in-Err-clause-rack_faults
+returns-in-Err-clause-rack_faults g c = grind (arith, common_steps)
+
+pub returns-in-Err-clause-door_faults : goal.returns-in-Err-clause-door_faults
+returns-in-Err-clause-door_faults g c = grind (arith, common_steps)
+
+pub returns-in-Err-clause-not_rack : goal.returns-in-Err-clause-not_rack
+returns-in-Err-clause-not_rack g c = grind (arith, common_steps)

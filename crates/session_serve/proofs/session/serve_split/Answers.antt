@@ -1,4 +1,5 @@
-use Rattle.std.proofs.Common.{◌≡◌, ◌∙◌, ℕ, List, Vec, Global, Err, ap, length, map, subst, sym}
+use Rattle.std.proofs.Common.{◌≡◌, ◌∙◌, ℕ, List, Vec, Global, Err, ap, length, map, subst, sym, arith}
+use Rattle.std.proofs.lemmas.Grind.{common_steps}
 use Rattle.std.specs.List.{AllByRecursion}
 use Rattle.std.specs.Prelude.{IfOk}
 use Rattle.std.proofs.lemmas.List.{length-map}
@@ -150,3 +151,27 @@ returns-in-Err-clause-in_frames g c =
         came_in_frames c.laws_of_reports.ensures link ready _ _ back c.finish_boards.ensures.sound planned.4,
       ),
     )
+
+pub returns-in-Ok-clause-none_out : goal.returns-in-Ok-clause-none_out
+returns-in-Ok-clause-none_out g c = grind (arith, common_steps)
+
+pub returns-in-Ok-clause-made : goal.returns-in-Ok-clause-made
+returns-in-Ok-clause-made g c = grind (arith, common_steps)
+
+pub returns-in-Ok-clause-rack_faults : goal.returns-in-Ok-clause-rack_faults
+returns-in-Ok-clause-rack_faults g c = grind (arith, common_steps)
+
+pub returns-in-Ok-clause-not_rack : goal.returns-in-Ok-clause-not_rack
+returns-in-Ok-clause-not_rack g c = grind (arith, common_steps)
+
+pub returns-in-Err-clause-none_out : goal.returns-in-Err-clause-none_out
+returns-in-Err-clause-none_out g c = grind (arith, common_steps)
+
+pub returns-in-Err-clause-made : goal.returns-in-Err-clause-made
+returns-in-Err-clause-made g c = grind (arith, common_steps)
+
+pub returns-in-Err-clause-rack_faults : goal.returns-in-Err-clause-rack_faults
+returns-in-Err-clause-rack_faults g c = grind (arith, common_steps)
+
+pub returns-in-Err-clause-not_rack : goal.returns-in-Err-clause-not_rack
+returns-in-Err-clause-not_rack g c = grind (arith, common_steps)
