@@ -1,10 +1,17 @@
 use Rattle.std.proofs.Common.{◌≡◌, false, length, sym, ◌∙◌, arith}
+use Rattle.std.proofs.lemmas.Grind.{common_steps}
 use Rattle.access_policy.proofs.Lengths.{all_matched, long_enough, wrong_length}
 use Rattle.access_policy.proofs.matching.parts_match.Goals as goal
 
 pub returns-then-not-has_length : goal.returns-then-not-has_length
 returns-then-not-has_length c =
     sym (wrong_length c.args.patterns.now c.args.rest c.args.parts.now (sym c.has_length.ensures ∙ cc))
+
+pub returns-then-not-item_matches : goal.returns-then-not-item_matches
+returns-then-not-item_matches c = grind (arith, common_steps)
+
+pub loop-i-preserved : goal.loop-i-preserved
+loop-i-preserved c = grind (arith, common_steps)
 
 pub returns : goal.returns
 returns c =

@@ -8,6 +8,9 @@ use Rattle.transcript.proofs.lines.add_line.Goals as goal
 pub returns-in_default-clause-lines : goal.returns-in_default-clause-lines
 returns-in_default-clause-lines c = grind (arith, common_steps, gets, append-nil)
 
+pub bounds-ends-board : goal.bounds-ends-board
+bounds-ends-board c = grind (arith, common_steps)
+
 pub line_on-requires : goal.line_on-requires
 line_on-requires c =
     c.as_slice-ends.ensures.value

@@ -1,10 +1,17 @@
-use Rattle.std.proofs.Common.{◌+◌, sym, subst}
+use Rattle.std.proofs.Common.{◌+◌, sym, subst, arith}
+use Rattle.std.proofs.lemmas.Grind.{common_steps}
 use Rattle.transcript.specs.declared.lines.Progress.{Progress}
 use Rattle.transcript.specs.Steps.{IsProgress}
 use Rattle.transcript.proofs.LineLemmas.{after_denied, after_dispatch, after_operation, counts_below, lines_at_end}
 use Rattle.transcript.proofs.lines.client_lines.Goals as goal
 use Rattle.transcript.proofs.lines.client_lines.Goals.{in-Denied+in_ok-add_denied_line-in-Denied, in-Dispatch}
 use Rattle.transcript.proofs.lines.client_lines.Goals.{in-Do+in_ok-add_line-in-Do}
+
+pub loop-step-init : goal.loop-step-init
+loop-step-init c = grind (arith, common_steps)
+
+pub returns-in_err-add_denied_line-in-Denied : goal.returns-in_err-add_denied_line-in-Denied
+returns-in_err-add_denied_line-in-Denied c = grind (arith, common_steps)
 
 pub loop-step-preserved : goal.loop-step-preserved
 loop-step-preserved c =

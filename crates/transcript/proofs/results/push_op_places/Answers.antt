@@ -1,4 +1,5 @@
-use Rattle.std.proofs.Common.{◌∙◌}
+use Rattle.std.proofs.Common.{◌∙◌, arith}
+use Rattle.std.proofs.lemmas.Grind.{common_steps}
 use Rattle.script_plans.specs.declared.planned.PieceAt.{PieceAt}
 use Rattle.script_plans.specs.Plan.{IsWithinBody}
 use Rattle.transcript.specs.Ends.{piece_place}
@@ -21,3 +22,6 @@ loop-piece-preserved c =
           c.loop-piece-test.true ∙ before.invariant.places);
       within = (all_left IsWithinBody pieces before.piece-index past c.loop-piece-test.true before.invariant.within).1;
     }
+
+pub returns : goal.returns
+returns c = grind (arith, common_steps)

@@ -1,9 +1,13 @@
 use Rattle.std.proofs.Common.{◌∙◌, arith, length, refl}
+use Rattle.std.proofs.lemmas.Grind.{common_steps}
 use Rattle.std.proofs.lemmas.Option.{slice_get_past, slice_get_read}
 use Rattle.transcript.specs.Steps.{ends_on}
 use Rattle.script_plans.proofs.Lookups.{same_read}
 use Rattle.transcript.proofs.PrintedLines.{line_printed, none_printed}
 use Rattle.transcript.proofs.printing.Printer.print_next.Goals as goal
+
+pub bounds-ends-board : goal.bounds-ends-board
+bounds-ends-board c = grind (arith, common_steps)
 
 pub print_line-requires : goal.print_line-requires
 print_line-requires c =
