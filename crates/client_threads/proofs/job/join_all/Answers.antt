@@ -1,4 +1,5 @@
-use Rattle.std.proofs.Common.{◌≡◌, ◌∷◌, [], ◌++◌, true, false, refl, ap, ◌∙◌, sym, append_assoc}
+use Rattle.std.proofs.Common.{◌≡◌, ◌∷◌, [], ◌++◌, true, false, refl, ap, ◌∙◌, sym, append_assoc, arith}
+use Rattle.std.proofs.lemmas.Grind.{common_steps}
 use Rattle.client_threads.specs.Jobs.{HasEnded}
 use Rattle.client_threads.proofs.Jobs.{all_middle, as_long, joined_pushed}
 use Rattle.client_threads.proofs.job.join_all.Goals as goal
@@ -38,3 +39,9 @@ loop-job-preserved g c =
           c.push_reserved.ensures.items i.2,
       c.push_reserved.ensures.capacity ∙ i.3,
     )
+
+pub loop-job-init : goal.loop-job-init
+loop-job-init g c = grind (arith, common_steps)
+
+pub returns : goal.returns
+returns g c = grind (arith, common_steps)

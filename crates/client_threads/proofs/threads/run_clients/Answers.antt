@@ -1,4 +1,5 @@
-use Rattle.std.proofs.Common.{◌+◌}
+use Rattle.std.proofs.Common.{◌+◌, arith}
+use Rattle.std.proofs.lemmas.Grind.{common_steps}
 use Rattle.hub_multiplexer.specs.Ends.{HasTakenIn}
 use Rattle.client_threads.specs.Clients.{WereTakenIn}
 use Rattle.client_threads.proofs.Ran.{all_joined, have_run, none_taken_in, were_taken_in}
@@ -58,3 +59,9 @@ returns-then-ran-clause-ran g c =
     let seated = c.seat_and_run-seated.ensures in
     have_run c.args.plans.now c.args.master.now seated.plans seated.master c.join_all-ran.ensures
     c.in_ok-seated.ensures.all c.if-ran.true
+
+pub returns-else-ran-clause-ran : goal.returns-else-ran-clause-ran
+returns-else-ran-clause-ran g c = grind (arith, common_steps)
+
+pub returns-else-ran-clause-results : goal.returns-else-ran-clause-results
+returns-else-ran-clause-results g c = grind (arith, common_steps)

@@ -1,4 +1,5 @@
-use Rattle.std.proofs.Common.{◌≡◌, ℕ, List, ◌++◌, Option, Some, rules, sym, ap, ◌∙◌, subst, inr}
+use Rattle.std.proofs.Common.{◌≡◌, ℕ, List, ◌++◌, Option, Some, rules, sym, ap, ◌∙◌, subst, inr, arith}
+use Rattle.std.proofs.lemmas.Grind.{common_steps}
 use Rattle.std.specs.List.{slice_get}
 use Rattle.packet_codec.specs.declared.packet.Packet.{Packet}
 use Rattle.hub_lane.specs.declared.answers.BoardState.{BoardState}
@@ -58,3 +59,21 @@ returns-in-Some-clause-stands g c =
     let is : c.state_at-state.result ≡ slice_get map frame.board = search rules in
     on_err_follows c.answer_packet.result c.answer_packet.ensures.reached
     (stands_by map frame c.in-Some.packet c.state_at-state.result c.args.seat.now c.answer_packet.new.seat read is)
+
+pub returns-in_err-packet-clause-settled : goal.returns-in_err-packet-clause-settled
+returns-in_err-packet-clause-settled g c = grind (arith, common_steps)
+
+pub returns-in_err-packet-clause-stands : goal.returns-in_err-packet-clause-stands
+returns-in_err-packet-clause-stands g c = grind (arith, common_steps)
+
+pub returns-in-Some-clause-settled : goal.returns-in-Some-clause-settled
+returns-in-Some-clause-settled g c = grind (arith, common_steps)
+
+pub returns-in-None-clause-answered : goal.returns-in-None-clause-answered
+returns-in-None-clause-answered g c = grind (arith, common_steps)
+
+pub returns-in-None-clause-settled : goal.returns-in-None-clause-settled
+returns-in-None-clause-settled g c = grind (arith, common_steps)
+
+pub returns-in-None-clause-stands : goal.returns-in-None-clause-stands
+returns-in-None-clause-stands g c = grind (arith, common_steps)

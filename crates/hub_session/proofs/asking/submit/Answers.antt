@@ -1,4 +1,5 @@
-use Rattle.std.proofs.Common.{sym, subst}
+use Rattle.std.proofs.Common.{sym, subst, arith}
+use Rattle.std.proofs.lemmas.Grind.{common_steps}
 use Rattle.hub_multiplexer.specs.Seats.{ChangesAt}
 use Rattle.hub_multiplexer.specs.Calls.{HasSubmitted, IsNone, MadeInTime, PerformMeans, SubmitRefused}
 use Rattle.hub_multiplexer.specs.OwnItems.{HasTakenAllOf}
@@ -80,3 +81,15 @@ returns-in_ok-rule_of-in-Err g c =
           (λ k after w s. settled_looked k after s w.grew) c.requires.settled;
       reached = tt;
     }
+
+pub returns-in_err-take-in-Ok-clause-got : goal.returns-in_err-take-in-Ok-clause-got
+returns-in_err-take-in-Ok-clause-got g c = grind (arith, common_steps)
+
+pub returns-in_err-take-in-Ok-clause-settled : goal.returns-in_err-take-in-Ok-clause-settled
+returns-in_err-take-in-Ok-clause-settled g c = grind (arith, common_steps)
+
+pub returns-in_err-rule_of-in-Err-clause-got : goal.returns-in_err-rule_of-in-Err-clause-got
+returns-in_err-rule_of-in-Err-clause-got g c = grind (arith, common_steps)
+
+pub returns-in_ok-take-in-Ok-clause-reached : goal.returns-in_ok-take-in-Ok-clause-reached
+returns-in_ok-take-in-Ok-clause-reached g c = grind (arith, common_steps)

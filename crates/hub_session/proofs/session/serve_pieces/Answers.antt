@@ -1,4 +1,5 @@
 use Rattle.std.proofs.Common.{[], rules, refl, sym, subst, arith}
+use Rattle.std.proofs.lemmas.Grind.{common_steps}
 use Rattle.hub_framing.specs.Frames.{IsBegun}
 use Rattle.hub_session.specs.Inside.{Opening, standing}
 use Rattle.hub_session.proofs.Connections.{begins}
@@ -48,3 +49,15 @@ returns-in-Err-answer_waiting-clause-served g c =
     c.in-Err-answer_waiting.ensures.ends (g.S.Source.left c.read_piece.new.src) start
     (c.in_default.ensures.goes_on c.args.boards.now.map.now c.loop.seat (g.O.Sink.written c.loop.sink) start
     c.loop.invariant.5)
+
+pub returns-in-Err-clause-settled : goal.returns-in-Err-clause-settled
+returns-in-Err-clause-settled g c = grind (arith, common_steps)
+
+pub returns-in-Err-clause-read_faults : goal.returns-in-Err-clause-read_faults
+returns-in-Err-clause-read_faults g c = grind (arith, common_steps)
+
+pub returns-in-Err-clause-write_faults : goal.returns-in-Err-clause-write_faults
+returns-in-Err-clause-write_faults g c = grind (arith, common_steps)
+
+pub loop-preserved : goal.loop-preserved
+loop-preserved g c = grind (arith, common_steps)
