@@ -1,4 +1,5 @@
 use Rattle.std.proofs.Common.{◌∙◌, List, ap, length, map, refl, subst, arith}
+use Rattle.std.proofs.lemmas.Grind.{common_steps}
 use Rattle.std.proofs.lemmas.List.{take_all}
 use Rattle.board_node.specs.declared.spec.BoardSpec.{BoardSpec}
 use Rattle.board_node.specs.declared.spec.LinkSpec.{LinkSpec}
@@ -72,3 +73,21 @@ returns-then-is_whole-clause-ran g c =
           (map shows so_far.links)) (take_all c.loop-position.position c.args.specs.now c.loop-position-test.false)
           (so_far.ran c.if-is_whole.true),
     )
+
+pub returns-then-is_whole-clause-left : goal.returns-then-is_whole-clause-left
+returns-then-is_whole-clause-left g c = grind (arith, common_steps)
+
+pub returns-then-is_whole-clause-made : goal.returns-then-is_whole-clause-made
+returns-then-is_whole-clause-made g c = c.loop-position.invariant.made
+
+pub returns-then-is_whole-clause-faults : goal.returns-then-is_whole-clause-faults
+returns-then-is_whole-clause-faults g c = c.loop-position.invariant.faults
+
+pub returns-clause-left : goal.returns-clause-left
+returns-clause-left g c = grind (arith, common_steps)
+
+pub returns-clause-made : goal.returns-clause-made
+returns-clause-made g c = c.loop-position.invariant.made
+
+pub returns-clause-faults : goal.returns-clause-faults
+returns-clause-faults g c = c.loop-position.invariant.faults

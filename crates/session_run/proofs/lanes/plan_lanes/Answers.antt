@@ -1,4 +1,5 @@
-use Rattle.std.proofs.Common.{◌∙◌, ◌++◌, ◌∷◌, [], List, ap, refl}
+use Rattle.std.proofs.Common.{◌∙◌, ◌++◌, ◌∷◌, [], List, ap, refl, arith}
+use Rattle.std.proofs.lemmas.Grind.{common_steps}
 use Rattle.script_plans.specs.Plan.{ClientBodies}
 use Rattle.session_run.proofs.PlanningLanes.{all_planned, gone_between, gone_within, lane_planned, next_lane}
 use Rattle.session_run.proofs.PlanningLanes.{next_unused, none_planned, unused_gone}
@@ -52,3 +53,12 @@ loop-index-preserved g c =
     ∙ ap (λ (p : List ClientBodies). c.loop-index.boards.items ++ p ∷ []) c.from_vec.ensures)
     (record { plans = made.plans; few = made.few; lane' = made.planned }) c.plan_clients.ensures.keeps
     c.plan_clients.ensures.some
+
+pub returns-in_err-boards-clause-planned : goal.returns-in_err-boards-clause-planned
+returns-in_err-boards-clause-planned g c = grind (arith, common_steps)
+
+pub plan_clients-requires-clause-can : goal.plan_clients-requires-clause-can
+plan_clients-requires-clause-can g c = grind (arith, common_steps)
+
+pub bounds-positions-index : goal.bounds-positions-index
+bounds-positions-index g c = grind (arith, common_steps)

@@ -1,4 +1,5 @@
-use Rattle.std.proofs.Common.{◌≡◌, ◌∙◌, ℕ, List, ap, length, subst, sym}
+use Rattle.std.proofs.Common.{◌≡◌, ◌∙◌, ℕ, List, ap, length, subst, sym, arith}
+use Rattle.std.proofs.lemmas.Grind.{common_steps}
 use Rattle.std.specs.List.{AllByRecursion}
 use Rattle.std.specs.Prelude.{IfOk}
 use Rattle.std.proofs.lemmas.Result.{IfOk-weaker}
@@ -73,3 +74,9 @@ returns-in-Ok-clause-ran g c =
     (λ parts there is ran. parts_ran c.a_lane_comes_back_with_its_record.ensures
     c.clients_of_a_hub_leave_a_clients_record.ensures on c.deref.ensures.value parts.items c.in-Ok.ensures.clients
     c.requires.unused c.in-Ok.ensures.counts gone ran is)
+
+pub returns-in-Err-clause-gone_on : goal.returns-in-Err-clause-gone_on
+returns-in-Err-clause-gone_on g c = grind (arith, common_steps)
+
+pub plan_all-requires : goal.plan_all-requires
+plan_all-requires g c = grind (arith, common_steps)

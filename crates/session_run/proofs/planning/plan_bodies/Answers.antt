@@ -1,4 +1,5 @@
-use Rattle.std.proofs.Common.{◌∙◌, ◌∷◌, [], List, ap, subst, sym, take}
+use Rattle.std.proofs.Common.{◌∙◌, ◌∷◌, [], List, ap, subst, sym, take, arith}
+use Rattle.std.proofs.lemmas.Grind.{common_steps}
 use Rattle.lane_record.specs.declared.item.Item.{Item}
 use Rattle.lane_record.specs.Items.{is_sealed}
 use Rattle.hub_lane.specs.Lanes.{LaneState}
@@ -31,3 +32,21 @@ plan_body-requires-clause-room g c =
     (sym (ap (λ (l : LaneState _). l.items) c.loop-body.invariant))
     (room_for_next c.args.lane.now.items c.args.client c.loop-body.body-index c.args.bodies.now c.body-item.result
     c.requires.room c.loop-body-test.true c.body-item.is)
+
+pub loop-body-init : goal.loop-body-init
+loop-body-init g c = grind (arith, common_steps)
+
+pub returns-clause-planned : goal.returns-clause-planned
+returns-clause-planned g c = grind (arith, common_steps)
+
+pub returns-clause-some : goal.returns-clause-some
+returns-clause-some g c = grind (arith, common_steps)
+
+pub returns-in_err-plan_body-clause-planned : goal.returns-in_err-plan_body-clause-planned
+returns-in_err-plan_body-clause-planned g c = grind (arith, common_steps)
+
+pub plan_body-requires-clause-client : goal.plan_body-requires-clause-client
+plan_body-requires-clause-client g c = grind (arith, common_steps)
+
+pub plan_body-requires-clause-fits : goal.plan_body-requires-clause-fits
+plan_body-requires-clause-fits g c = grind (arith, common_steps)

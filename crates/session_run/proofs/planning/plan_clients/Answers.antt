@@ -1,10 +1,13 @@
-use Rattle.std.proofs.Common.{ℕ, List, ◌∙◌, ◌+◌, ap, subst, sym, arith}
-use Rattle.std.specs.List.{AllByRecursion}
+use Rattle.std.proofs.Common.{ℕ, List, ◌∙◌, ◌∷◌, ◌++◌, [], ◌+◌, ap, refl, subst, sym, arith}
 use Rattle.std.proofs.lemmas.Grind.{common_steps}
+use Rattle.std.specs.List.{AllByRecursion}
 use Rattle.std.proofs.lemmas.List.{take_all}
+use Rattle.lane_record.specs.declared.item.Item.{Item}
 use Rattle.lane_record.specs.Items.{is_sealed}
+use Rattle.lane_record.specs.NextEntry.{the_seal}
 use Rattle.lane_record.specs.Dispatches.{all_plans_from}
 use Rattle.lane_history.specs.Records.{IsPartlyPlanned}
+use Rattle.hub_lane.specs.Lanes.{board_of}
 use Rattle.script_plans.specs.declared.greeting.Greeting.TheVariants.{Live}
 use Rattle.script_plans.specs.Plan.{ClientBodies, plans_on}
 use Rattle.session_run.specs.Clients.{bodies_of_plans}
@@ -122,15 +125,6 @@ returns-in_err-plan_bodies-clause-keeps g c = grind (arith, common_steps)
 pub returns-in_err-push-clause-keeps : goal.returns-in_err-push-clause-keeps
 returns-in_err-push-clause-keeps g c = grind (arith, common_steps)
 
-pub returns-clause-keeps : goal.returns-clause-keeps
-returns-clause-keeps g c = grind (arith, common_steps)
-
-pub returns-clause-plans : goal.returns-clause-plans
-returns-clause-plans g c = grind (arith, common_steps)
-
-pub returns-clause-some : goal.returns-clause-some
-returns-clause-some g c = grind (arith, common_steps)
-
 pub loop-steps-init : goal.loop-steps-init
 loop-steps-init g c = grind (arith, common_steps)
 
@@ -139,3 +133,31 @@ plan_bodies-requires-clause-fit g c = grind (arith, common_steps)
 
 pub plan_bodies-requires-clause-client : goal.plan_bodies-requires-clause-client
 plan_bodies-requires-clause-client g c = grind (arith, common_steps)
+
+pub returns-clause-keeps : goal.returns-clause-keeps
+returns-clause-keeps g c =
+    let same = returns-clause-planned g c in
+    record {
+      settings = ap (λ l. l.settings) same;
+      status = ap (λ l. l.status) same;
+      board = ap (λ l. board_of (g.L.Link.telling l.link)) same;
+    }
+
+pub returns-clause-plans : goal.returns-clause-plans
+returns-clause-plans g c =
+    let scripts = c.args.scripts.now in
+    c.loop-steps.invariant.plans'
+    ∙ (ap (plans_on c.args.position (Live c.payload-payload.result)) (take_all c.loop-steps.steps-index scripts
+    c.loop-steps-test.false)
+    ∙ ap (λ (n : ℕ). plans_on c.args.position (Live n) scripts) c.payload-payload.ensures)
+
+pub returns-clause-some : goal.returns-clause-some
+returns-clause-some g c =
+    let law = c.a_record_is_partly_planned_on_its_way.ensures in
+    let bodies = bodies_of_plans c.loop-steps.plans.items in
+    let all = all_plans_from 1 bodies in
+    let items = ap (λ l. l.items) (returns-clause-planned g c)
+    ∙ ap (λ (l : List Item). l ++ (all ++ the_seal ∷ [])) c.requires.unused in
+    subst (λ (p : List ClientBodies). IsPartlyPlanned (bodies_of_plans p) c.seal.new.self.items)
+    (returns-clause-plans g c)
+    (subst (IsPartlyPlanned bodies) (sym items) (law.more bodies all the_seal refl (omega arith) (law.plans bodies)))

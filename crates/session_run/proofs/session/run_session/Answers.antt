@@ -45,4 +45,14 @@ pub returns-in_err-boards-clause-rack_faults : goal.returns-in_err-boards-clause
 returns-in_err-boards-clause-rack_faults g c = grind (arith, common_steps)
 
 pub returns-clause-untouched : goal.returns-clause-untouched
-returns-clause-untouched g c = grind (arith, common_steps)
+returns-clause-untouched g c = λ failed. absurd cc
+
+pub returns-clause-ran : goal.returns-clause-ran
+returns-clause-ran g c =
+    let ran = c.in_ok-run_greeted.ensures.ran in
+    (ran.0, ran.1 ∙ ap (λ kept. kept ++ ran.0) c.in_ok-boards.ensures.kept, ran.2)
+
+pub returns-clause-rack_faults : goal.returns-clause-rack_faults
+returns-clause-rack_faults g c =
+    let same = c.run_greeted.ensures.faults ∙ c.in_ok-boards.ensures.faults.2 (λ e. cc) in
+    (λ failed. absurd cc, omega (arith, same), λ other. same)

@@ -1,6 +1,7 @@
 use denote.Param.Send.{param_send, shr_send}
 use mir.Syntax.{named}
-use Rattle.std.proofs.Common.{[], ◌∷◌}
+use Rattle.std.proofs.Common.{[], ◌∷◌, arith}
+use Rattle.std.proofs.lemmas.Grind.{common_steps}
 use Rattle.std.proofs.Crossing.{send}
 use Rattle.hub_multiplexer.proofs.Shares.{hub_sync}
 use Rattle.session_serve.proofs.Shares.{fields_go}
@@ -33,3 +34,9 @@ spawn_with-requires-send-F g c κs within =
 
 pub spawn_with-requires-in-Err-clause-lanes : goal.spawn_with-requires-in-Err-clause-lanes
 spawn_with-requires-in-Err-clause-lanes g c κs within = rw c.in-Err.ensures.err c.requires.lanes
+
+pub returns-in-Ok : goal.returns-in-Ok
+returns-in-Ok g c = grind (arith, common_steps)
+
+pub returns-in-Err : goal.returns-in-Err
+returns-in-Err g c = grind (arith, common_steps)

@@ -1,5 +1,6 @@
 use Rattle.std.proofs.Common.{◌≡◌, ◌∙◌, ◌∷◌, ◌++◌, ◌+◌, [], ℕ, List, ap, append_assoc, length, length-append, refl}
 use Rattle.std.proofs.Common.{subst, sym, arith}
+use Rattle.std.proofs.lemmas.Grind.{common_steps}
 use Rattle.std.proofs.lemmas.List.{length-map, map-append}
 use Rattle.ipb_outside.specs.Pairs.{Went}
 use Rattle.hub_multiplexer.specs.Ends.{HasTakenIn}
@@ -94,3 +95,21 @@ returns-clause-went g c = rw (← all_back g c) c.loop-one.invariant.went
 
 pub returns-clause-out : goal.returns-clause-out
 returns-clause-out g c = rw (← all_back g c) c.loop-one.invariant.out
+
+pub returns-clause-coming : goal.returns-clause-coming
+returns-clause-coming g c = c.loop-one.invariant.coming
+
+pub returns-clause-ports : goal.returns-clause-ports
+returns-clause-ports g c = c.loop-one.invariant.ports
+
+pub returns-clause-faults : goal.returns-clause-faults
+returns-clause-faults g c = c.loop-one.invariant.faults
+
+pub push_reserved-requires : goal.push_reserved-requires
+push_reserved-requires g c = grind (arith, common_steps)
+
+pub join-requires-clause-hub : goal.join-requires-clause-hub
+join-requires-clause-hub g c κs within = grind (arith, common_steps)
+
+pub keep-requires : goal.keep-requires
+keep-requires g c = grind (arith, common_steps)

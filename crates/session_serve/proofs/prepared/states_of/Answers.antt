@@ -1,4 +1,5 @@
 use Rattle.std.proofs.Common.{arith}
+use Rattle.std.proofs.lemmas.Grind.{common_steps}
 use Rattle.session_serve.proofs.Standing.{lane_fits, one_more_state}
 use Rattle.session_serve.proofs.prepared.states_of.Goals as goal
 
@@ -20,3 +21,15 @@ loop-board-preserved g c =
       many = omega (arith, len, many);
       room = (let cap = c.push_reserved.ensures.capacity in let room = i.room in omega (arith, cap, room));
     }
+
+pub loop-board-init : goal.loop-board-init
+loop-board-init g c = grind (arith, common_steps)
+
+pub returns : goal.returns
+returns g c = grind (arith, common_steps)
+
+pub push_reserved-requires : goal.push_reserved-requires
+push_reserved-requires g c = grind (arith, common_steps)
+
+pub state_of-state-requires : goal.state_of-state-requires
+state_of-state-requires g c = grind (arith, common_steps)

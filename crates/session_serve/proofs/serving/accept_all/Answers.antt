@@ -1,5 +1,6 @@
 use Rattle.std.proofs.Common.{◌≡◌, ◌∙◌, ◌∷◌, ◌++◌, [], List, ap, append_assoc, length, length-append, map, subst, sym}
 use Rattle.std.proofs.Common.{arith}
+use Rattle.std.proofs.lemmas.Grind.{common_steps}
 use Rattle.std.specs.List.{AllByRecursion}
 use Rattle.std.specs.Vec.Iter.{into_iter_items}
 use Rattle.std.proofs.lemmas.List.{map-append}
@@ -57,3 +58,57 @@ loop-preserved g c =
       ports = c.accept.ensures.ports_kept ∙ i.ports;
       faults = c.in-Ok.ensures.faults.2 (λ e. cc) ∙ i.faults;
     }
+
+pub loop-init : goal.loop-init
+loop-init g c = grind (arith, common_steps)
+
+pub returns-in_default-clause-came : goal.returns-in_default-clause-came
+returns-in_default-clause-came g c = grind (arith, common_steps)
+
+pub returns-in_default-clause-seats : goal.returns-in_default-clause-seats
+returns-in_default-clause-seats g c = grind (arith, common_steps)
+
+pub returns-in_default-clause-boards : goal.returns-in_default-clause-boards
+returns-in_default-clause-boards g c = grind (arith, common_steps)
+
+pub returns-in_default-clause-all : goal.returns-in_default-clause-all
+returns-in_default-clause-all g c = grind (arith, common_steps)
+
+pub returns-in_default-clause-door_faults : goal.returns-in_default-clause-door_faults
+returns-in_default-clause-door_faults g c = grind (arith, common_steps)
+
+pub returns-in_default-clause-out : goal.returns-in_default-clause-out
+returns-in_default-clause-out g c = grind (arith, common_steps)
+
+pub returns-in_default-clause-kept : goal.returns-in_default-clause-kept
+returns-in_default-clause-kept g c = grind (arith, common_steps)
+
+pub returns-in_default-clause-ports : goal.returns-in_default-clause-ports
+returns-in_default-clause-ports g c = grind (arith, common_steps)
+
+pub returns-clause-came : goal.returns-clause-came
+returns-clause-came g c = c.loop.invariant.came
+
+pub returns-clause-seats : goal.returns-clause-seats
+returns-clause-seats g c = c.loop.invariant.seats'
+
+pub returns-clause-boards : goal.returns-clause-boards
+returns-clause-boards g c = c.loop.invariant.boards
+
+pub returns-clause-all : goal.returns-clause-all
+returns-clause-all g c = grind (arith, common_steps)
+
+pub returns-clause-door_faults : goal.returns-clause-door_faults
+returns-clause-door_faults g c = grind (arith, common_steps)
+
+pub returns-clause-out : goal.returns-clause-out
+returns-clause-out g c = c.loop.invariant.out
+
+pub returns-clause-kept : goal.returns-clause-kept
+returns-clause-kept g c = c.loop.invariant.kept
+
+pub returns-clause-ports : goal.returns-clause-ports
+returns-clause-ports g c = c.loop.invariant.ports
+
+pub push_reserved-requires : goal.push_reserved-requires
+push_reserved-requires g c = grind (arith, common_steps)

@@ -1,4 +1,5 @@
-use Rattle.std.proofs.Common.{rules, subst, ◌≡◌, ℕ, false, Option, List}
+use Rattle.std.proofs.Common.{rules, subst, ◌≡◌, ◌+◌, length, ℕ, false, Option, List, arith}
+use Rattle.std.proofs.lemmas.Grind.{common_steps}
 use Rattle.std.specs.Vec.Iter.{into_iter_items}
 use Rattle.ipb_outside.specs.Faults.{RisesExactlyIf}
 use Rattle.ipb_outside.specs.Pairs.{pair_shown}
@@ -15,3 +16,16 @@ pub returns-clause-door_faults : goal.returns-clause-door_faults
 returns-clause-door_faults g c =
     subst (λ (now : ℕ). RisesExactlyIf (c.scoped-back.result.1.is_whole ≡ false) (g.D.Door.faults c.args.door.now) now)
     (search rules) c.scoped-back.ensures.1.1.1.0
+
+pub returns-clause-out : goal.returns-clause-out
+returns-clause-out g c =
+    subst (λ (now : ℕ). now ≡ g.D.Door.out c.args.door.now + length c.scoped-back.result.1.done.items) (search rules)
+    c.scoped-back.ensures.1.1.1.1.0
+
+pub returns-clause-kept : goal.returns-clause-kept
+returns-clause-kept g c = grind (arith, common_steps)
+
+pub returns-clause-ports : goal.returns-clause-ports
+returns-clause-ports g c =
+    subst (λ (now : List ℕ). now ≡ g.D.Door.ports c.args.door.now) (search rules)
+    c.scoped-back.ensures.1.1.1.1.1.1

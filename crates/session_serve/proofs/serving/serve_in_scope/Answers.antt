@@ -33,3 +33,12 @@ returns-clause-out g c =
     let long = zip_long (IsDoneOf shows) c.accept_all-is_whole.new.running.items c.wait_for_all.new.done.items
     c.wait_for_all.ensures in
     omega (arith, out, long)
+
+pub returns-clause-door_faults : goal.returns-clause-door_faults
+returns-clause-door_faults g c = c.accept_all-is_whole.ensures.door_faults
+
+pub returns-clause-kept : goal.returns-clause-kept
+returns-clause-kept g c = c.accept_all-is_whole.ensures.kept
+
+pub returns-clause-ports : goal.returns-clause-ports
+returns-clause-ports g c = c.accept_all-is_whole.ensures.ports

@@ -1,4 +1,5 @@
 use Rattle.std.proofs.Common.{◌∙◌, ◌∷◌, ◌++◌, [], ap, append_assoc, length-append, subst, sym, arith}
+use Rattle.std.proofs.lemmas.Grind.{common_steps}
 use Rattle.std.specs.List.{AllZip}
 use Rattle.ipb_outside.specs.Pairs.{pair_shown}
 use Rattle.session_serve.specs.Seats.{IsDoneOf}
@@ -23,3 +24,12 @@ loop-one-preserved g c =
       room = c.push_reserved.ensures.capacity ∙ i.room;
       so_many = omega (arith, longer, many, len);
     }
+
+pub loop-one-init : goal.loop-one-init
+loop-one-init g c = grind (arith, common_steps)
+
+pub push_reserved-requires : goal.push_reserved-requires
+push_reserved-requires g c = grind (arith, common_steps)
+
+pub returns : goal.returns
+returns g c = grind (arith, common_steps)

@@ -1,4 +1,5 @@
 use Rattle.std.proofs.Common.{◌≡◌, ◌∙◌, ◌++◌, List, ap, arith, length, map}
+use Rattle.std.proofs.lemmas.Grind.{common_steps}
 use Rattle.std.proofs.lemmas.Result.{IfOk-weaker}
 use Rattle.board_greeting.specs.Reports.{shown_by}
 use Rattle.board_greeting.proofs.Boards.{made_still}
@@ -69,3 +70,42 @@ pub returns-clause-in_frames : goal.returns-clause-in_frames
 returns-clause-in_frames g c =
     let is = c.serve_greeted.ensures.in_frames in
     (is.0, since_then _ _ _ is.0 is.1 c.in_ok-boards.ensures.kept, is.2)
+
+pub returns-in_err-boards-clause-none_out : goal.returns-in_err-boards-clause-none_out
+returns-in_err-boards-clause-none_out g c = grind (arith, common_steps)
+
+pub returns-in_err-boards-clause-listens : goal.returns-in_err-boards-clause-listens
+returns-in_err-boards-clause-listens g c = grind (arith, common_steps)
+
+pub returns-in_err-boards-clause-rack_faults : goal.returns-in_err-boards-clause-rack_faults
+returns-in_err-boards-clause-rack_faults g c = grind (arith, common_steps)
+
+pub returns-in_err-boards-clause-not_listened : goal.returns-in_err-boards-clause-not_listened
+returns-in_err-boards-clause-not_listened g c = grind (arith, common_steps)
+
+pub returns-in_err-boards-clause-door_faults : goal.returns-in_err-boards-clause-door_faults
+returns-in_err-boards-clause-door_faults g c = grind (arith, common_steps)
+
+pub returns-clause-all : goal.returns-clause-all
+returns-clause-all g c = c.serve_greeted.ensures.all
+
+pub returns-clause-had_memory : goal.returns-clause-had_memory
+returns-clause-had_memory g c = c.serve_greeted.ensures.had_memory
+
+pub returns-clause-pairs : goal.returns-clause-pairs
+returns-clause-pairs g c = c.serve_greeted.ensures.pairs
+
+pub returns-clause-none_out : goal.returns-clause-none_out
+returns-clause-none_out g c = c.serve_greeted.ensures.none_out
+
+pub returns-clause-listens : goal.returns-clause-listens
+returns-clause-listens g c = c.serve_greeted.ensures.listens
+
+pub returns-clause-door_faults : goal.returns-clause-door_faults
+returns-clause-door_faults g c = c.serve_greeted.ensures.door_faults
+
+pub returns-clause-untouched : goal.returns-clause-untouched
+returns-clause-untouched g c = λ failed. absurd (c.serve_greeted.ensures.not_rack failed)
+
+pub returns-clause-not_listened : goal.returns-clause-not_listened
+returns-clause-not_listened g c = λ failed. absurd (c.serve_greeted.ensures.not_rack failed)
