@@ -1,4 +1,5 @@
-use Rattle.std.proofs.Common.{◌≡◌, ℕ, ◌+◌, ◌++◌, [], List, ap, sym, ◌∙◌, drop, append-nil}
+use Rattle.std.proofs.Common.{◌≡◌, ℕ, ◌+◌, ◌++◌, [], List, ap, sym, ◌∙◌, drop, append-nil, arith}
+use Rattle.std.proofs.lemmas.Grind.{common_steps}
 use Rattle.std.proofs.lemmas.List.{drop_all}
 use Rattle.board_node.specs.declared.spec.BoardSpec.{BoardSpec}
 use Rattle.transcript_reader.specs.Entries.{lines_of, told_from}
@@ -6,6 +7,15 @@ use Rattle.transcript_reader.specs.Walks.{HasRoom}
 use Rattle.transcript_reader.proofs.Lists.{all_push}
 use Rattle.transcript_reader.proofs.Told.{next_item, told_more, told_past}
 use Rattle.transcript_reader.proofs.greeting.told_boards.Goals as goal
+
+pub told_first-requires : goal.told_first-requires
+told_first-requires c = grind (arith, common_steps)
+
+pub returns-in_err-push-clause-greetings : goal.returns-in_err-push-clause-greetings
+returns-in_err-push-clause-greetings c = grind (arith, common_steps)
+
+pub returns-in_err-push-clause-room : goal.returns-in_err-push-clause-room
+returns-in_err-push-clause-room c = grind (arith, common_steps)
 
 pub loop-board-preserved : goal.loop-board-preserved
 loop-board-preserved c =

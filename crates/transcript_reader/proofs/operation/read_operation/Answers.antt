@@ -1,4 +1,5 @@
-use Rattle.std.proofs.Common.{◌≡◌, ℕ, List, ◌++◌, ap, ◌∙◌}
+use Rattle.std.proofs.Common.{◌≡◌, ℕ, List, ◌++◌, ap, ◌∙◌, arith}
+use Rattle.std.proofs.lemmas.Grind.{common_steps}
 use Rattle.script_steps.specs.Rulings.{Asked}
 use Rattle.transcript.specs.Lines.{line_with, never_sent}
 use Rattle.transcript.specs.Text.{asked_text}
@@ -16,6 +17,9 @@ returns-in_default-behind c shows can e =
     c.clear.ensures.bytes
     ∙ ap (λ (name : List ℕ). asked_text (line_with c.args.number c.args.op.now name never_sent)) c.name_at.ensures)) in
     no_front c.args.boards.now c.args.number ask c.args.line.now shows (rw front at c.in_default-behind.ensures) e
+
+pub read_shown-requires-clause-room : goal.read_shown-requires-clause-room
+read_shown-requires-clause-room c = grind (arith, common_steps)
 
 pub returns : goal.returns
 returns c =

@@ -1,8 +1,12 @@
-use Rattle.std.proofs.Common.{◌∙◌, [], refl}
+use Rattle.std.proofs.Common.{◌∙◌, [], refl, arith}
+use Rattle.std.proofs.lemmas.Grind.{common_steps}
 use Rattle.std.proofs.lemmas.Result.{err_from_is_err_and}
 use Rattle.transcript_reader.specs.declared.reading.Reader.{Reader}
 use Rattle.transcript_reader.proofs.Whole.{boards_unshown, clients_unshown, found, left_unshown}
 use Rattle.transcript_reader.proofs.reading.read_transcript.Goals as goal
+
+pub told_boards-requires-clause-few : goal.told_boards-requires-clause-few
+told_boards-requires-clause-few c = grind (arith, common_steps)
 
 pub returns-in_err-clients-clause-refused : goal.returns-in_err-clients-clause-refused
 returns-in_err-clients-clause-refused c =

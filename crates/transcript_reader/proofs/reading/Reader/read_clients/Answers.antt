@@ -1,9 +1,16 @@
 use Rattle.std.proofs.Common.{◌≡◌, ◌+◌, take, length, arith}
+use Rattle.std.proofs.lemmas.Grind.{common_steps}
 use Rattle.std.proofs.lemmas.List.{length-take-le}
 use Rattle.std.proofs.lemmas.Result.{err_from_is_err_and}
 use Rattle.transcript_reader.proofs.Told.{next_item}
 use Rattle.transcript_reader.proofs.Walked.{clients_more, clients_stuck, parts_at, take_next}
 use Rattle.transcript_reader.proofs.reading.Reader.read_clients.Goals as goal
+
+pub read_client-requires-clause-packed : goal.read_client-requires-clause-packed
+read_client-requires-clause-packed c = grind (arith, common_steps)
+
+pub returns-in_err-shows-clause-shows : goal.returns-in_err-shows-clause-shows
+returns-in_err-shows-clause-shows c = grind (arith, common_steps)
 
 pub returns-in_err-shows-clause-stuck : goal.returns-in_err-shows-clause-stuck
 returns-in_err-shows-clause-stuck c =
@@ -35,3 +42,6 @@ loop-i-preserved c =
           c.as_slice.ensures c.in_ok-shows.ensures.shows);
       packed = (rw is at c.loop-i.invariant.packed).1;
     }
+
+pub returns-clause-shows : goal.returns-clause-shows
+returns-clause-shows c = grind (arith, common_steps)

@@ -1,4 +1,5 @@
 use Rattle.std.proofs.Common.{◌∷◌, [], take, length, length-append, ap, arith}
+use Rattle.std.proofs.lemmas.Grind.{common_steps}
 use Rattle.std.proofs.lemmas.Result.{err_from_is_err_and}
 use Rattle.script_steps.specs.Rulings.{Asked, asked_operations}
 use Rattle.transcript_reader.specs.Walks.{asking}
@@ -16,6 +17,9 @@ loop-step-preserved-in_default c =
       numbered = rw same c.loop-step.invariant.numbered;
       packed = (rw is at c.loop-step.invariant.packed).1;
     }
+
+pub read_next-requires-clause-sound : goal.read_next-requires-clause-sound
+read_next-requires-clause-sound c = grind (arith, common_steps)
 
 pub returns-in_err-shown-clause-stuck : goal.returns-in_err-shown-clause-stuck
 returns-in_err-shown-clause-stuck c =
@@ -45,3 +49,6 @@ loop-step-preserved c =
       numbered = omega (arith, c.in_ok-number.ensures, c.loop-step.invariant.numbered, ap length more, length-append before (ask ∷ []));
       packed = (rw is at c.loop-step.invariant.packed).1;
     }
+
+pub returns-clause-shows : goal.returns-clause-shows
+returns-clause-shows c = grind (arith, common_steps)
