@@ -10,7 +10,7 @@ use Rattle.node_tree.specs.Maps.{RegisterMap, TableMap}
 use Rattle.script_lang.specs.declared.session.Session.{Session}
 use Rattle.script_lang.specs.Scripts.{script_faults, steps_of}
 use Rattle.session_input.specs.declared.reading.Runnable.{Runnable}
-use Rattle.session_input.specs.Deserved.{HasIndex, HaveBuses}
+use Rattle.session_input.specs.Deserved.{HasIndex, HaveBuses, TellsLine}
 use Rattle.config_store.specs.Kept.{indexed_boards}
 use Rattle.config_store.specs.Order.{AreInOrder}
 use Rattle.config_store.specs.Refusals.{TellsFirst}
@@ -18,9 +18,10 @@ use Rattle.config_store.specs.States.{StoreFault}
 use Rattle.config_store.specs.declared.refusal.StoreRefusal.{StoreRefusal}
 use Rattle.config_store.specs.declared.refusal.StoreRefusal.TheVariants.{At, NoMemory}
 use Rattle.config_input.specs.declared.refusal.ConfigRefusal.{ConfigRefusal}
+use Rattle.config_input.specs.declared.refusal.ConfigRefusal.TheVariants.{OfSession, OfState}
 use Rattle.config_input.specs.declared.refusal.ConfigUnread.{ConfigUnread}
 use Rattle.config_input.specs.declared.refusal.ConfigUnread.TheVariants as unread
-use Rattle.config_input.specs.Deserved.{BreaksInWork, IsAsked, Tells, of_store}
+use Rattle.config_input.specs.Deserved.{BreaksInWork, IsAsked, Tells, TellsSession, of_store}
 use Rattle.config_input.specs.Work.{Work}
 
 as_many : (tables : TableMap) (boards : List BoardSpec) (indexes : List RegisterMap)
@@ -66,6 +67,32 @@ pub told_by : {T : Type 0} (result : Result T ConfigUnread) (P Q : ConfigRefusal
     → ((r : ConfigRefusal) → P r → Q r) → IfErr result (Tells P) → IfErr result (Tells Q)
 told_by (Ok value) P Q gives told = tt
 told_by (Err why) P Q gives told = weaker P Q gives why told
+
+-- ---- a faulty line of the session's own scripts
+
+own_breaks : (work : Work) (session : Session) (indexes : List RegisterMap) → HaveBuses session indexes
+    → work.faults (indexed_boards session.boards indexes) ≡ [] → (r : ConfigRefusal)
+    → TellsSession (TellsLine (script_faults session.boards indexes session.scripts)) r → BreaksInWork work session r
+own_breaks work session indexes have right (OfSession refusal) told =
+    inr (inr (record {
+      indexes = indexes;
+      boards = have;
+      right = right;
+      first = told;
+    }))
+own_breaks work session indexes have right (OfState board name why) told = absurd told
+
+-- `shown` are the indexes as they are lent to a call
+pub own_told : (work : Work) (session : Session) (indexes shown : List RegisterMap)
+    (result : Result Runnable ConfigUnread) → shown ≡ indexes → HaveBuses session indexes
+    → work.faults (indexed_boards session.boards indexes) ≡ []
+    → IfErr result (Tells (TellsSession (TellsLine (script_faults session.boards shown session.scripts))))
+    → IfErr result (Tells (BreaksInWork work session))
+own_told work session indexes shown result same have right told =
+    told_by result (TellsSession (TellsLine (script_faults session.boards indexes session.scripts)))
+    (BreaksInWork work session) (own_breaks work session indexes have right)
+    (subst (λ xs. IfErr result (Tells (TellsSession (TellsLine (script_faults session.boards xs session.scripts)))))
+    same told)
 
 -- ---- the first fault of a configuration
 
