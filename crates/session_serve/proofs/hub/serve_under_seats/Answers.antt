@@ -105,3 +105,36 @@ returns-in_err-room-clause-door_faults g c = grind (arith, common_steps)
 
 pub returns-in_err-room-clause-not_rack : goal.returns-in_err-room-clause-not_rack
 returns-in_err-room-clause-not_rack g c = grind (arith, common_steps)
+
+pub serve_seats-requires-clause-hub : goal.serve_seats-requires-clause-hub
+serve_seats-requires-clause-hub g c = grind (arith, common_steps)
+
+pub serve_seats-requires-clause-known : goal.serve_seats-requires-clause-known
+serve_seats-requires-clause-known g c = grind (arith, common_steps)
+
+pub serve_seats-requires-clause-lanes : goal.serve_seats-requires-clause-lanes
+serve_seats-requires-clause-lanes g c = grind (arith, common_steps)
+
+pub serve_seats-requires-clause-seats : goal.serve_seats-requires-clause-seats
+serve_seats-requires-clause-seats g c = grind (arith, common_steps)
+
+pub join_all-requires-clause-hub : goal.join_all-requires-clause-hub
+join_all-requires-clause-hub g c = grind (arith, common_steps)
+
+pub join_all-requires-clause-known : goal.join_all-requires-clause-known
+join_all-requires-clause-known g c = grind (arith, common_steps)
+
+pub seat_all-requires-clause-hub : goal.seat_all-requires-clause-hub
+seat_all-requires-clause-hub g c = grind (arith, common_steps)
+
+pub seat_all-requires-clause-none : goal.seat_all-requires-clause-none
+seat_all-requires-clause-none g c = grind (arith, common_steps)
+
+pub seat_all-requires-clause-opens : goal.seat_all-requires-clause-opens
+seat_all-requires-clause-opens g c = grind (arith, common_steps)
+
+pub seat_all-requires-clause-empty : goal.seat_all-requires-clause-empty
+seat_all-requires-clause-empty g c = grind (arith, common_steps)
+
+pub seat_all-requires-clause-room : goal.seat_all-requires-clause-room
+seat_all-requires-clause-room g c = grind (arith, common_steps)

@@ -1,5 +1,4 @@
-use Rattle.std.proofs.Common.{rules, subst, ◌≡◌, ◌+◌, length, ℕ, false, Option, List, arith}
-use Rattle.std.proofs.lemmas.Grind.{common_steps}
+use Rattle.std.proofs.Common.{rules, subst, ◌≡◌, ◌+◌, length, ℕ, false, Option, List}
 use Rattle.std.specs.Vec.Iter.{into_iter_items}
 use Rattle.ipb_outside.specs.Faults.{RisesExactlyIf}
 use Rattle.ipb_outside.specs.Pairs.{pair_shown}
@@ -23,7 +22,9 @@ returns-clause-out g c =
     c.scoped-back.ensures.1.1.1.1.0
 
 pub returns-clause-kept : goal.returns-clause-kept
-returns-clause-kept g c = grind (arith, common_steps)
+returns-clause-kept g c =
+    subst (λ (now : Option (List _)). now ≡ g.D.Door.kept c.args.door.now) (search rules)
+    c.scoped-back.ensures.1.1.1.1.1.0
 
 pub returns-clause-ports : goal.returns-clause-ports
 returns-clause-ports g c =

@@ -1,3 +1,4 @@
+use Rattle.std.proofs.lemmas.Grind.{common_steps}
 use Rattle.std.proofs.Common.{rules, ◌≡◌, ◌∙◌, List, map, subst, sym, arith}
 use Rattle.std.specs.List.{AllByRecursion}
 use Rattle.std.specs.Vec.Iter.{into_iter_items}
@@ -42,3 +43,15 @@ returns-clause-kept g c = c.accept_all-is_whole.ensures.kept
 
 pub returns-clause-ports : goal.returns-clause-ports
 returns-clause-ports g c = c.accept_all-is_whole.ensures.ports
+
+pub accept_all-is_whole-requires-clause-room : goal.accept_all-is_whole-requires-clause-room
+accept_all-is_whole-requires-clause-room g c = grind (arith, common_steps)
+
+pub accept_all-is_whole-requires-clause-lanes : goal.accept_all-is_whole-requires-clause-lanes
+accept_all-is_whole-requires-clause-lanes g c = grind (arith, common_steps)
+
+pub accept_all-is_whole-requires-clause-fresh : goal.accept_all-is_whole-requires-clause-fresh
+accept_all-is_whole-requires-clause-fresh g c = grind (arith, common_steps)
+
+pub accept_all-is_whole-requires-clause-empty : goal.accept_all-is_whole-requires-clause-empty
+accept_all-is_whole-requires-clause-empty g c = grind (arith, common_steps)
