@@ -1,4 +1,5 @@
-use Rattle.std.proofs.Common.{inr, subst}
+use Rattle.std.proofs.Common.{inr, subst, arith}
+use Rattle.std.proofs.lemmas.Grind.{common_steps}
 use Rattle.std.proofs.lemmas.Result.{IfOk-weaker, on_err_weaker}
 use Rattle.hub_multiplexer.specs.Calls.{IsNone, MadeInTime}
 use Rattle.hub_multiplexer.specs.Waiting.{FindMeans}
@@ -22,3 +23,21 @@ returns-clause-looked g c =
     c.in_ok-performed.ensures.found in
     on_err_weaker c.visit-2.result (after_looking (λ _. IsNone) k now c.visit-2.new.pass.knows (inr made)
     (none_before k)) c.visit-2.ensures.looked
+
+pub returns-in_err-performed-clause-found : goal.returns-in_err-performed-clause-found
+returns-in_err-performed-clause-found g c = grind (arith, common_steps)
+
+pub returns-in_err-performed-clause-looked : goal.returns-in_err-performed-clause-looked
+returns-in_err-performed-clause-looked g c = grind (arith, common_steps)
+
+pub returns-in-Some-clause-found : goal.returns-in-Some-clause-found
+returns-in-Some-clause-found g c = grind (arith, common_steps)
+
+pub returns-in-Some-clause-looked : goal.returns-in-Some-clause-looked
+returns-in-Some-clause-looked g c = grind (arith, common_steps)
+
+pub returns-then-not-wait-clause-found : goal.returns-then-not-wait-clause-found
+returns-then-not-wait-clause-found g c = grind (arith, common_steps)
+
+pub returns-then-not-wait-clause-looked : goal.returns-then-not-wait-clause-looked
+returns-then-not-wait-clause-looked g c = grind (arith, common_steps)

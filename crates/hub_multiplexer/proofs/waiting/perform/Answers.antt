@@ -1,4 +1,5 @@
-use Rattle.std.proofs.Common.{ap, subst, ◌∙◌}
+use Rattle.std.proofs.Common.{ap, subst, ◌∙◌, arith}
+use Rattle.std.proofs.lemmas.Grind.{common_steps}
 use Rattle.turn_pass.specs.Pass.{PassState}
 use Rattle.hub_multiplexer.specs.Calls.{IsNone, MadeInTime, PerformMeans}
 use Rattle.hub_multiplexer.specs.Waiting.{FindMeans}
@@ -32,3 +33,9 @@ pub returns-in_err-performed-clause-looked : goal.returns-in_err-performed-claus
 returns-in_err-performed-clause-looked g c =
     on_err_holds c.from_residual.result (after_looking (λ _. IsNone) c.args.pass.now.knows c.loop.pass.knows
     c.wait_once.new.pass.knows c.loop.invariant.3 (none_before c.args.pass.now.knows) c.in_err-performed.ensures.looked)
+
+pub returns-in_err-performed-clause-performed : goal.returns-in_err-performed-clause-performed
+returns-in_err-performed-clause-performed g c = grind (arith, common_steps)
+
+pub returns-in-Some-2-clause-looked : goal.returns-in-Some-2-clause-looked
+returns-in-Some-2-clause-looked g c = grind (arith, common_steps)

@@ -1,4 +1,5 @@
-use Rattle.std.proofs.Common.{rules, ◌≡◌, length, map, vec_len, ap, sym, ◌∙◌}
+use Rattle.std.proofs.Common.{rules, ◌≡◌, length, map, vec_len, ap, sym, arith, ◌∙◌}
+use Rattle.std.proofs.lemmas.Grind.{common_steps, elements}
 use Rattle.std.proofs.lemmas.List.{length-map}
 use Rattle.turn_pass.specs.Pass.{first_knowledge}
 use Rattle.hub_multiplexer.specs.Lanes.{shown_record}
@@ -27,3 +28,12 @@ invariant_of-hub g c =
     c.in-Ok-bells_of.ensures.bells
     ∙ sym (turns_opened _ _ _ c.in-Ok-open_all.ensures.opened
     ∙ (ap length c.bells_of.ensures.shown ∙ length-map c.args.lanes.items (shown_record g.L.Link.telling)))
+
+pub returns-clause-hub : goal.returns-clause-hub
+returns-clause-hub g c = grind (arith, common_steps)
+
+pub returns-clause-returned : goal.returns-clause-returned
+returns-clause-returned g c = grind (arith, common_steps)
+
+pub returns-clause-no_seats : goal.returns-clause-no_seats
+returns-clause-no_seats g c = grind (arith, elements)
