@@ -131,3 +131,45 @@ returns-then-is_err-clause-door_faults g c = grind (arith, common_steps)
 
 pub returns-then-is_err-clause-not_rack : goal.returns-then-is_err-clause-not_rack
 returns-then-is_err-clause-not_rack g c = grind (arith, common_steps)
+
+pub give_back-requires-clause-hub : goal.give_back-requires-clause-hub
+give_back-requires-clause-hub g c = grind (arith, common_steps)
+
+pub give_back-requires-clause-known : goal.give_back-requires-clause-known
+give_back-requires-clause-known g c = grind (arith, common_steps)
+
+pub give_back-requires-clause-out : goal.give_back-requires-clause-out
+give_back-requires-clause-out g c = grind (arith, common_steps)
+
+pub give_back-requires-clause-empty : goal.give_back-requires-clause-empty
+give_back-requires-clause-empty g c = grind (arith, common_steps)
+
+pub serve_all-ended-requires-clause-lanes : goal.serve_all-ended-requires-clause-lanes
+serve_all-ended-requires-clause-lanes g c = grind (arith, common_steps)
+
+pub serve_all-ended-requires-clause-fresh : goal.serve_all-ended-requires-clause-fresh
+serve_all-ended-requires-clause-fresh g c = grind (arith, common_steps)
+
+pub serve_all-ended-requires-clause-none_running : goal.serve_all-ended-requires-clause-none_running
+serve_all-ended-requires-clause-none_running g c = grind (arith, common_steps)
+
+pub serve_all-ended-requires-clause-none_done : goal.serve_all-ended-requires-clause-none_done
+serve_all-ended-requires-clause-none_done g c = grind (arith, common_steps)
+
+pub serve_all-ended-requires-clause-room_running : goal.serve_all-ended-requires-clause-room_running
+serve_all-ended-requires-clause-room_running g c = grind (arith, common_steps)
+
+pub serve_all-ended-requires-clause-room_done : goal.serve_all-ended-requires-clause-room_done
+serve_all-ended-requires-clause-room_done g c = grind (arith, common_steps)
+
+pub join_all-requires-clause-hub : goal.join_all-requires-clause-hub
+join_all-requires-clause-hub g c = grind (arith, common_steps)
+
+pub join_all-requires-clause-known : goal.join_all-requires-clause-known
+join_all-requires-clause-known g c = grind (arith, common_steps)
+
+pub join_all-requires-2-clause-hub : goal.join_all-requires-2-clause-hub
+join_all-requires-2-clause-hub g c = grind (arith, common_steps)
+
+pub join_all-requires-2-clause-known : goal.join_all-requires-2-clause-known
+join_all-requires-2-clause-known g c = grind (arith, common_steps)
