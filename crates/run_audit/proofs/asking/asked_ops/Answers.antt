@@ -1,3 +1,4 @@
+use Rattle.std.proofs.lemmas.Grind.{common_steps}
 use Rattle.std.proofs.Common.{◌≡◌, ◌+◌, arith, append_assoc, length, ap, sym}
 use Rattle.script_steps.specs.Rulings.{asked_operations}
 use Rattle.script_plans.proofs.Lookups.{drop_at}
@@ -36,3 +37,12 @@ loop-client-preserved c =
           (rw (rest, there) at c.loop-client.invariant.lines);
       left = omega (arith, next, long, c.loop-client.invariant.left);
     }
+
+pub returns-in_default : goal.returns-in_default
+returns-in_default c = grind (arith, common_steps)
+
+pub overflow_add-first : goal.overflow_add-first
+overflow_add-first c = grind (arith, common_steps)
+
+pub returns : goal.returns
+returns c = grind (arith, common_steps)

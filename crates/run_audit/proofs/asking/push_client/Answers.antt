@@ -1,3 +1,4 @@
+use Rattle.std.proofs.lemmas.Grind.{common_steps}
 use Rattle.std.proofs.Common.{◌≡◌, ℕ, ◌-◌, ◌++◌, ◌∷◌, [], List, Some, None, arith, get_or, length, map, take, ap}
 use Rattle.std.proofs.Common.{subst, refl, ◌∙◌, ◌≤◌, Vec, Global, not}
 use Rattle.std.specs.List.{slice_get}
@@ -76,3 +77,9 @@ loop-step-preserved c =
             c.step-item.result c.loop-step-test.true c.step-item.is ask some denied.0 denied.1)
       ];
     }
+
+pub returns-clause-lines : goal.returns-clause-lines
+returns-clause-lines c = grind (arith, common_steps)
+
+pub returns-clause-next : goal.returns-clause-next
+returns-clause-next c = grind (arith, common_steps)

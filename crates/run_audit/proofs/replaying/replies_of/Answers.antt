@@ -1,3 +1,5 @@
+use Rattle.std.proofs.Common.{arith}
+use Rattle.std.proofs.lemmas.Grind.{common_steps}
 use Rattle.std.proofs.Common.{append_assoc}
 use Rattle.run_audit.proofs.Walking.{drop_here}
 use Rattle.run_audit.proofs.replaying.replies_of.Goals as goal
@@ -20,3 +22,9 @@ loop-placed-preserved c =
           (rw rest at c.loop-placed.invariant.replies);
       short = (rw rest at c.loop-placed.invariant.short).1;
     }
+
+pub execute-requires : goal.execute-requires
+execute-requires c = grind (arith, common_steps)
+
+pub returns : goal.returns
+returns c = grind (arith, common_steps)

@@ -1,3 +1,5 @@
+use Rattle.std.proofs.Common.{arith}
+use Rattle.std.proofs.lemmas.Grind.{common_steps}
 use Rattle.std.proofs.Common.{append-nil, append_assoc}
 use Rattle.std.proofs.lemmas.List.{drop_all}
 use Rattle.run_audit.proofs.Walking.{drop_here}
@@ -19,3 +21,12 @@ loop-i-preserved c =
 
 pub returns : goal.returns
 returns c = rw (drop_all c.loop-i.i c.args.boards.now c.loop-i-test.false, append-nil) at c.loop-i.invariant.runs
+
+pub returns-in_default : goal.returns-in_default
+returns-in_default c = grind (arith, common_steps)
+
+pub returns-in_default-get : goal.returns-in_default-get
+returns-in_default-get c = grind (arith, common_steps)
+
+pub replayed_run-requires-clause-here : goal.replayed_run-requires-clause-here
+replayed_run-requires-clause-here c = grind (arith, common_steps)

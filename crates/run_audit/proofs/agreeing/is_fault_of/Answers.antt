@@ -1,0 +1,21 @@
+use Rattle.std.proofs.Common.{arith}
+use Rattle.std.proofs.lemmas.Grind.{elements}
+use Rattle.run_audit.proofs.agreeing.is_fault_of.Goals as goal
+
+pub returns-in_default : goal.returns-in_default
+returns-in_default c = grind (arith, elements)
+
+pub returns-in_default-told : goal.returns-in_default-told
+returns-in_default-told c = grind (arith, elements)
+
+pub returns-in-Some-Fault : goal.returns-in-Some-Fault
+returns-in-Some-Fault c = grind (arith, elements)
+
+pub returns-in-Some-Skipped : goal.returns-in-Some-Skipped
+returns-in-Some-Skipped c = grind (arith, elements)
+
+pub returns-in_default-get : goal.returns-in_default-get
+returns-in_default-get c = grind (arith, elements)
+
+pub returns-in_default-get-2 : goal.returns-in_default-get-2
+returns-in_default-get-2 c = grind (arith, elements)
