@@ -1,10 +1,10 @@
 //! A link to a board over UDP.
 
-ghost use Rattle.std.specs.Prelude.{◌≡◌, ◌≤◌, [], length, IfOk, IfSome, OnOk, OnErr, None};
+ghost use Rattle.std.specs.Prelude.{◌≡◌, ◌≤◌, ℕ, [], length, IfOk, IfSome, OnOk, OnErr, None};
 ghost use Rattle.ipb_base.specs.Faults.{one_more};
 ghost use Rattle.world_core.specs.declared.link.TheConstants.{MAX_DATAGRAM};
 ghost use Rattle.world_core.specs.Receives.{receives_after};
-ghost use Rattle.net_edges.specs.Heard.{told_of, with_heard_counted};
+ghost use Rattle.net_edges.specs.Heard.{datagram_in, told_of, with_heard_counted};
 ghost use Rattle.net_edges.specs.Numbers.{wait_nanos};
 
 use crate::bound::{BoundSocket, socket_that_waits};
@@ -236,17 +236,12 @@ impl Link for UdpLink {
             return Ok(self.count_quiet());
         }
         // all memory is taken before a datagram is
-        make_room(&mut self.buffer)?;
-        reserve(into)?;
+        make_rooms(&mut self.buffer, into)?;
         let mut passed = None;
         let buffer = self.buffer.as_mut_slice();
         let heard = hear_board(self.socket.socket(), self.board, buffer, &mut passed);
         count_passed(passed, &mut self.faults, &mut self.notes);
-        copy_heard(&heard, &self.buffer, into)?;
-        if log_heard(&heard, &mut self.receives, into).is_err() {
-            into.clear();
-            return Err(LinkFault::NoMemory);
-        }
+        keep_heard(&heard, &self.buffer, into, &mut self.receives)?;
         self.count_heard(heard)
     }
 
@@ -276,6 +271,28 @@ fn count_passed(passed: Option<io::Error>, faults: &mut u64, notes: &mut LinkNot
     }
 }
 
+// Copies what was heard into an empty vector, and adds it to what the receives came to. Want of memory does neither.
+fn keep_heard(
+    heard: &Heard,
+    buffer: &[u8],
+    into: &mut Vec<u8>,
+    receives: &mut ReceiveLog,
+) -> Result<(), NoMemory>
+    requires within { (count : ℕ) → heard.now ≡ Heard.Board count → count ≤ length buffer.now }
+    requires empty { into.old.items ≡ [] }
+    ensures copied { OnOk result (into.new.items ≡ datagram_in heard.now buffer.now) }
+    ensures added { OnOk result (receives.new ≡ receives_after (told_of heard.now) into.new.items receives.old) }
+    ensures emptied { OnErr result (into.new.items ≡ []) }
+    ensures unchanged { OnErr result (receives.new ≡ receives.old) }
+{
+    copy_heard(heard, buffer, into)?;
+    let logged = log_heard(heard, receives, into);
+    if logged.is_err() {
+        into.clear();
+    }
+    logged
+}
+
 // Adds what was heard, and copied, to what the receives came to. Want of memory adds nothing.
 fn log_heard(heard: &Heard, receives: &mut ReceiveLog, copied: &Vec<u8>) -> Result<(), NoMemory>
     ensures added { OnOk result (receives.new ≡ receives_after (told_of heard.now) copied.now.items receives.old) }
@@ -299,10 +316,12 @@ fn make_room(buffer: &mut Vec<u8>) -> Result<(), NoMemory>
     Ok(())
 }
 
-// Room to copy one datagram to.
-fn reserve(into: &mut Vec<u8>) -> Result<(), NoMemory>
-    ensures { into.new.items ≡ into.old.items }
+// Room for one datagram in the buffer, and to copy it to.
+fn make_rooms(buffer: &mut Vec<u8>, into: &mut Vec<u8>) -> Result<(), NoMemory>
+    ensures room { OnOk result (length buffer.new.items ≡ MAX_DATAGRAM) }
+    ensures kept { into.new.items ≡ into.old.items }
 {
+    make_room(buffer)?;
     into.reserve(MAX_DATAGRAM)?;
     Ok(())
 }
