@@ -1,5 +1,5 @@
 -- What a recording leaves, put together from what its steps say.
-use Rattle.std.proofs.Common.{◌≡◌, ℕ, ◌==◌, ◌&&◌, List, Result, Ok, Err, ◌≤◌, refl, ap, arith}
+use Rattle.std.proofs.Common.{◌≡◌, ℕ, ◌==◌, ◌&&◌, List, Result, Ok, Err, ◌≤◌, refl, ap}
 use Rattle.std.specs.Result.{IsErr, IsErrAnd}
 use Rattle.ipb_base.specs.Faults.{Rose}
 use Rattle.board_node.specs.declared.spec.LinkSpec.{LinkSpec}
@@ -10,7 +10,7 @@ use Rattle.script_steps.specs.declared.operation.Step.{Step}
 use Rattle.script_lang.specs.declared.session.Session.{Session}
 use Rattle.session_input.specs.Recording.{IsRecordable}
 use Rattle.session_run.specs.declared.session.RunFault.{RunFault}
-use Rattle.session_run.specs.declared.session.RunFault.TheVariants.{NoMemory, Rack}
+use Rattle.session_run.specs.declared.session.RunFault.TheVariants.{Rack}
 use Rattle.session_run.specs.Faults.{IsRunFailure, run_fault}
 use Rattle.session_run.proofs.Faults.{no_memory_is_no_rack}
 use Rattle.transcript.specs.Lines.{all_good, transcript_of}
@@ -37,18 +37,6 @@ rises_by rack.Failed (Err why) before now fails is failed later calm =
     (λ told. failed refl, later, λ other. absurd (other (ap Err is)))
 rises_by rack.NoMemory (Err why) before now fails is failed later calm =
     (λ told. absurd (no_memory_is_no_rack why is (same_Err why Rack told)), later, λ other. calm (λ same. cc))
-
--- what no rack's fault ended has not raised their count: an answer
-pub stays_calm : (answer : Answer) {before now : ℕ} → now ≡ before
-    → RisesExactlyIf (◌≡◌ {A = Result Answer RunFault} (Ok answer) (Err Rack)) before now
-stays_calm answer calm = (λ told. absurd cc, omega (arith, calm), λ other. calm)
-
--- and what memory ended
-pub stays_calm_without : (result : Result Answer RunFault) {before now : ℕ} → IsErr result
-    → IsErrAnd result (λ why. why ≡ NoMemory) → now ≡ before → RisesExactlyIf (result ≡ Err Rack) before now
-stays_calm_without (Ok answer) fails is calm = absurd cc
-stays_calm_without (Err why) fails is calm =
-    (λ told. absurd (no_memory_is_no_rack why is (same_Err why Rack told)), omega (arith, calm), λ other. calm)
 
 pub record_leaves : RunsLaw → (bytes : List ℕ) (session : Session) (steps : List (List Step))
     (made makes : List LinkSpec) (result : Result Answer RunFault) (links : List LinkReport)

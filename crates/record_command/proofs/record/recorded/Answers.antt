@@ -1,5 +1,6 @@
 use Rattle.std.proofs.Common.{◌≡◌, ◌∙◌, ◌++◌, [], ◌∷◌, List, ap, append-nil, length, refl, subst, sym}
 use Rattle.std.proofs.Common.{Err, Some, arith, length-append, slice_index_or}
+use Rattle.std.proofs.lemmas.Grind.{common_steps}
 use Rattle.board_node.specs.declared.spec.BoardSpec.{BoardSpec}
 use Rattle.hub_lane.specs.Greeting.{link_of}
 use Rattle.session_input.specs.Recording.{IsOneSimulated}
@@ -14,7 +15,7 @@ use Rattle.command_terms.proofs.Leaving.{same_Err}
 use Rattle.record_command.specs.Taps.{TapsState, tap_ghosts}
 use Rattle.run_laws.proofs.Leaving.{run_answered, run_failed}
 use Rattle.record_command.specs.Steps.{Records}
-use Rattle.record_command.proofs.Leaving.{rises_by, stays_calm, stays_calm_without}
+use Rattle.record_command.proofs.Leaving.{rises_by}
 use Rattle.record_command.proofs.Tapped.{at_first, one_board, one_is_one, ran_for, records_of}
 use Rattle.record_command.proofs.record.recorded.Goals as goal
 
@@ -176,18 +177,13 @@ pub written-requires : goal.written-requires
 written-requires g c = c.into_parts-link.ensures.caught.short
 
 pub returns-in_err-taps-clause-rack_faults : goal.returns-in_err-taps-clause-rack_faults
-returns-in_err-taps-clause-rack_faults g c = stays_calm_without _ c.from_residual.ensures.0 c.from_residual.ensures.1 refl
+returns-in_err-taps-clause-rack_faults g c = grind (arith, common_steps)
 
 pub returns-in_err-room-clause-rack_faults : goal.returns-in_err-room-clause-rack_faults
-returns-in_err-room-clause-rack_faults g c =
-    stays_calm_without _ c.from_residual-in_err-room.ensures.0 c.from_residual-in_err-room.ensures.1 refl
+returns-in_err-room-clause-rack_faults g c = grind (arith, common_steps)
 
 pub returns-in_err-written-clause-rack_faults : goal.returns-in_err-written-clause-rack_faults
-returns-in_err-written-clause-rack_faults g c =
-    stays_calm_without _ c.from_residual-in_err-written.ensures.0 c.from_residual-in_err-written.ensures.1
-    (c.keep.ensures.faults ∙ c.in_ok-greeted.ensures.faults.2 (λ failed. absurd cc))
+returns-in_err-written-clause-rack_faults g c = grind (arith, common_steps)
 
 pub returns-clause-rack_faults : goal.returns-clause-rack_faults
-returns-clause-rack_faults g c =
-    stays_calm c.in_ok-written.field-0
-    (c.keep.ensures.faults ∙ c.in_ok-greeted.ensures.faults.2 (λ failed. absurd cc))
+returns-clause-rack_faults g c = grind (arith, common_steps)
