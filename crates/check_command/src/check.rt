@@ -21,7 +21,7 @@ pub fn check_document(alloc: Global, bytes: &[u8], table: &str) -> Result<Answer
 {
     match read_for_check(alloc, bytes, table) {
         Ok(index) => listing(alloc, &index),
-        Err(Unread::Refused(refusal)) => refused(alloc, &refusal),
+        Err(Unread::Refused(refusal)) => refused(alloc, refusal),
         Err(Unread::NoMemory) => Err(NoMemory),
     }
 }

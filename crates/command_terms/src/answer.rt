@@ -45,12 +45,11 @@ pub fn done_status(all: bool) -> u8
 }
 
 /// The answer to a document that is refused (profile): the line of the refusal, and `REFUSED`.
-pub fn refused(alloc: Global, refusal: &Refusal) -> Result<Answer, NoMemory>
+pub fn refused(alloc: Global, refusal: Refusal) -> Result<Answer, NoMemory>
     ensures status { IfOk result (λ answer. answer.status ≡ spec.refused_status) }
-    ensures text { IfOk result (λ answer. answer.text.items ≡ refusal_line refusal.now) }
+    ensures text { IfOk result (λ answer. answer.text.items ≡ refusal_line refusal) }
 {
-    let line = refusal.line(alloc)?;
-    Ok(Answer {
+    refusal.line(alloc).map(|line| Answer {
         status: REFUSED,
         text: line.into_bytes(),
     })

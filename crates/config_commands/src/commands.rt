@@ -50,7 +50,7 @@ pub fn save_document<R: Rack, T: Threads + Wait + Sync, G: Gate>(
     runs_over_links_are_runs_of_a_session();
     match read_for_save(alloc, bytes) {
         Ok(read) => write_configuration(rt, alloc, &read.session, &read.steps, rack, gate),
-        Err(ConfigUnread::Refused(refusal)) => Ok(refused(alloc, &refusal)?),
+        Err(ConfigUnread::Refused(refusal)) => Ok(refused(alloc, refusal)?),
         Err(ConfigUnread::NoMemory) => Err(RunFault::NoMemory),
     }
 }
@@ -79,18 +79,17 @@ pub fn apply_document<R: Rack, T: Threads + Wait + Sync, G: Gate>(
     runs_over_links_are_runs_of_a_session();
     match read_for_apply(alloc, bytes) {
         Ok(read) => write_configuration(rt, alloc, &read.session, &read.steps, rack, gate),
-        Err(ConfigUnread::Refused(refusal)) => Ok(refused(alloc, &refusal)?),
+        Err(ConfigUnread::Refused(refusal)) => Ok(refused(alloc, refusal)?),
         Err(ConfigUnread::NoMemory) => Err(RunFault::NoMemory),
     }
 }
 
 /// The answer to a document that is refused: the line of the refusal, and `REFUSED`.
-fn refused(alloc: Global, refusal: &ConfigRefusal) -> Result<Answer, NoMemory>
+fn refused(alloc: Global, refusal: ConfigRefusal) -> Result<Answer, NoMemory>
     ensures status { IfOk result (λ answer. answer.status ≡ refused_status) }
-    ensures text { IfOk result (λ answer. answer.text.items ≡ refusal_line refusal.now) }
+    ensures text { IfOk result (λ answer. answer.text.items ≡ refusal_line refusal) }
 {
-    let line = refusal.line(alloc)?;
-    Ok(Answer {
+    refusal.line(alloc).map(|line| Answer {
         status: REFUSED,
         text: line.into_bytes(),
     })

@@ -88,16 +88,16 @@ pub(crate) fn too_long(alloc: Global, command: &Command) -> Result<Answer, NoMem
     ensures text { IfOk result (λ answer. answer.text.items ≡ (terms_of command.now).long_line) }
 {
     match command {
-        Command::Run => refused(alloc, &Refusal::TooLong),
-        Command::Check { table: _ } => refused(alloc, &Refusal::TooLong),
-        Command::Serve { port: _, count: _ } => refused(alloc, &Refusal::TooLong),
+        Command::Run => refused(alloc, Refusal::TooLong),
+        Command::Check { table: _ } => refused(alloc, Refusal::TooLong),
+        Command::Serve { port: _, count: _ } => refused(alloc, Refusal::TooLong),
         Command::Load { count: _ } => unreachable!(),
         Command::Audit => refused_input(alloc, &AuditRefusal::OfSession(Refusal::TooLong)),
-        Command::Record => refused(alloc, &Refusal::TooLong),
+        Command::Record => refused(alloc, Refusal::TooLong),
         Command::Describe => refused_text(alloc, &TextRefusal::LongCapture),
         Command::Undescribe => refused_text(alloc, &TextRefusal::LongDescription),
-        Command::Save => refused(alloc, &Refusal::TooLong),
-        Command::Apply => refused(alloc, &Refusal::TooLong),
+        Command::Save => refused(alloc, Refusal::TooLong),
+        Command::Apply => refused(alloc, Refusal::TooLong),
     }
 }
 

@@ -1,7 +1,8 @@
 -- A board that was greeted over a tap, and what is given back behind it.
 use Rattle.std.proofs.Common.{◌≡◌, ◌≤◌, ◌∙◌, ℕ, ◌++◌, ◌&&◌, Bool, true, false, List, [], ◌∷◌, length}
-use Rattle.std.proofs.Common.{Result, Ok, Err, IfOk, Option, Some, None}
+use Rattle.std.proofs.Common.{Result, Ok, Err, IfOk, Option, Some, None, IfSome}
 use Rattle.std.proofs.Common.{ap, refl, slice_index_or, subst, sym, arith}
+use Rattle.std.proofs.lemmas.List.{length-map}
 use Rattle.std.specs.Global.{Vec}
 use Rattle.ipb_base.specs.Lists.{IsPrefix}
 use Rattle.std.specs.List.{AllByRecursion}
@@ -13,6 +14,7 @@ use Rattle.world_model.specs.Settings.{Limits}
 use Rattle.board_node.specs.declared.spec.BoardSpec.{BoardSpec}
 use Rattle.board_node.specs.declared.spec.LinkSpec.{LinkSpec}
 use Rattle.board_node.specs.declared.spec.LinkSpec.TheVariants.{Sim, Udp}
+use Rattle.lossy_network.specs.Racks.{telling_for}
 use Rattle.hub_lane.specs.declared.greeting.Greeted.{Greeted}
 use Rattle.hub_lane.specs.Greeting.{link_of}
 use Rattle.hub_lane.specs.Standing.{IsStanding}
@@ -34,7 +36,7 @@ use Rattle.capture_reader.specs.declared.capture.Capture.{Capture}
 use Rattle.capture_reader.specs.declared.capture.Caught.{Caught}
 use Rattle.capture_reader.specs.CaptureText.{AreItems}
 use Rattle.capture_reader.specs.Proved.{IsProved}
-use Rattle.link_tap.specs.Traffic.{HasCaught, IsTrafficOf}
+use Rattle.link_tap.specs.Traffic.{HasCaught, IsTrafficOf, IsUnused}
 use Rattle.capture_laws.specs.Captures.{bodies_in}
 use Rattle.record_command.specs.Headline.{ShowsTraffic, first_of}
 use Rattle.record_command.specs.Steps.{Records, WritesOf}
@@ -75,6 +77,26 @@ reached_alone shows settings [] board one reached = absurd (omega (arith, one))
 reached_alone shows settings (spec ∷ []) board one reached = (reached spec refl, tt)
 reached_alone shows settings (spec ∷ other ∷ specs) board one reached = absurd (omega (arith, one))
 
+-- one that is put where none is
+pub pushed_alone : {A : Type 0} (before now : List A) (item : A) → now ≡ before ++ item ∷ [] → before ≡ []
+    → now ≡ item ∷ []
+pushed_alone before now item is none = is ∙ ap (λ (l : List _). l ++ item ∷ []) none
+
+-- as many taps are given back as there are boards, so one
+pub kept_one : {L : Type 0} (shows : L → LinkReport) (old new : List L) → old ≡ [] → (specs : List BoardSpec)
+    → length specs ≡ 1 → (holds : List LinkReport → Type 0)
+    → Told shows old new (λ links. holds links × (length links ≡ length specs)) → length new ≡ 1
+kept_one shows old new none specs one holds told =
+    ap length (told.1 ∙ ap (λ (l : List _). l ++ told.0) none) ∙ sym (length-map told.0 shows) ∙ told.2.1 ∙ one
+
+-- and what is left is told of that one
+pub stays_left : {L : Type 0} (shows : L → LinkReport) (old new : List L) (tap : L) → old ≡ [] → new ≡ tap ∷ []
+    → (specs : List BoardSpec) (holds : List LinkReport → Type 0)
+    → Told shows old new (λ links. holds links × (length links ≡ length specs)) → holds (shows tap ∷ [])
+stays_left shows old new tap none is specs holds told =
+    (at_links shows old new (tap ∷ []) (is ∙ ap (λ (l : List _). l ++ tap ∷ []) (sym none))
+    (λ links. holds links × (length links ≡ length specs)) told).0
+
 pub ran_alone : {L E : Type 0} (shows : L → LinkReport) (old new : List L) (tap : L) → old ≡ [] → new ≡ tap ∷ []
     → (holds : List BoardRun → List LinkReport → Type 0) (result : Result (Vec BoardRun) E)
     → IfOk result (λ runs. Told shows old new (holds runs.items))
@@ -91,6 +113,12 @@ ran_for session steps specs shows there link (Ok runs) same is ran =
     subst (λ (boards : List BoardSpec). AreRunsOver session.settings 0 boards steps runs.items (shows link ∷ [])) same
     (subst (λ (l : _). AreRunsOver session.settings 0 specs steps runs.items (shows l ∷ [])) (sym is) ran)
 ran_for session steps specs shows there link (Err why) same is ran = tt
+
+-- a link that was just made for a board was not used
+pub unused_for : (spec : LinkSpec) (telling : Option Telling) → telling ≡ telling_for spec → IfSome telling IsUnused
+unused_for (Sim mtu buffers first ranges fates) telling is =
+    subst (λ (t : Option Telling). IfSome t IsUnused) (sym is) (record { air = refl; handed = refl })
+unused_for (Udp address port wait) telling is = subst (λ (t : Option Telling). IfSome t IsUnused) (sym is) tt
 
 -- ---- what is written
 

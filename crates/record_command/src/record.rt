@@ -80,7 +80,7 @@ pub fn record_document<R: Rack, T: Threads + Wait + Sync, G: Gate>(
     runs_over_links_are_runs_of_a_session();
     match read_for_record(alloc, bytes) {
         Ok(read) => recorded(rt, alloc, &read.session, &read.steps, rack, gate),
-        Err(Unread::Refused(refusal)) => Ok(refused(alloc, &refusal)?),
+        Err(Unread::Refused(refusal)) => Ok(refused(alloc, refusal)?),
         Err(Unread::NoMemory) => Err(RunFault::NoMemory),
     }
 }

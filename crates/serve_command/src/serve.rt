@@ -63,7 +63,7 @@ pub fn serve_document<R: Rack, D: Door, T: Threads + Wait + Sync>(
     the_ranges_of_a_session_name_words();
     match read_for_serve(alloc, bytes) {
         Ok(session) => served(rt, alloc, &session, port, count, rack, door),
-        Err(Unread::Refused(refusal)) => Ok(refused(alloc, &refusal)?),
+        Err(Unread::Refused(refusal)) => Ok(refused(alloc, refusal)?),
         Err(Unread::NoMemory) => Err(ServeFault::NoMemory),
     }
 }

@@ -1,4 +1,4 @@
-use Rattle.std.proofs.Common.{rules, arith}
+use Rattle.std.proofs.Common.{arith}
 use Rattle.board_greeting.specs.Reports.{shown_by}
 use Rattle.run_laws.proofs.Leaving.{no_memory_handed_on, no_memory_left, refused_left}
 use Rattle.config_commands.specs.Terms.{save_terms}
@@ -36,8 +36,9 @@ pub returns-in_ok-refused-in-Err-Refused-clause-leaves :
     goal.returns-in_ok-refused-in-Err-Refused-clause-leaves
 returns-in_ok-refused-in-Err-Refused-clause-leaves g c =
     let answer = c.in_ok-refused-in-Err-Refused.ensures in
+    let deserved = rw c.in-Err-Refused.field-0-is at c.in-Err-Refused.ensures.refused in
     refused_left (shown_by g.R.L.Link) _ save_terms c.args.bytes.now _ c.in_ok-refused-in-Err-Refused.field-0
-    (record { refusal = c.in-Err-Refused.refusal; deserved = search rules; spelled = answer.text }) answer.status
+    (record { refusal = c.in-Err-Refused.refusal; deserved = deserved; spelled = answer.text }) answer.status
 
 pub returns-in-Err-NoMemory-clause-leaves : goal.returns-in-Err-NoMemory-clause-leaves
 returns-in-Err-NoMemory-clause-leaves g c = no_memory_left (shown_by g.R.L.Link) _ save_terms c.args.bytes.now _

@@ -1,4 +1,4 @@
-use Rattle.std.proofs.Common.{map, rules, subst}
+use Rattle.std.proofs.Common.{map, subst}
 use Rattle.session_input.specs.Deserved.{Deserves}
 use Rattle.session_input.specs.Recording.{BreaksInRecord}
 use Rattle.board_greeting.specs.Reports.{shown_by}
@@ -54,7 +54,8 @@ returns-in-Ok-clause-refused g c =
 pub returns-in_ok-refused-in-Err-Refused-clause-leaves :
     goal.returns-in_ok-refused-in-Err-Refused-clause-leaves
 returns-in_ok-refused-in-Err-Refused-clause-leaves g c =
-    let deserved : Deserves BreaksInRecord c.args.bytes.now c.in-Err-Refused.refusal = search rules in
+    let deserved : Deserves BreaksInRecord c.args.bytes.now c.in-Err-Refused.refusal =
+    rw c.in-Err-Refused.field-0-is at c.in-Err-Refused.ensures.refused in
     refused_document_left (shown_by g.R.L.Link) _ record_terms c.args.bytes.now _ BreaksInRecord
     (λ line refused. refused) c.in_ok-refused-in-Err-Refused.field-0 c.in-Err-Refused.refusal deserved
     c.in_ok-refused-in-Err-Refused.ensures.text c.in_ok-refused-in-Err-Refused.ensures.status

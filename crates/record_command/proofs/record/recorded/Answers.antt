@@ -1,7 +1,9 @@
-use Rattle.std.proofs.Common.{◌≡◌, ◌∙◌, ◌++◌, ◌+◌, [], ◌∷◌, List, ap, append-nil, length, refl, subst, sym}
-use Rattle.std.proofs.Common.{Err, Some, slice_index_or}
+use Rattle.std.proofs.Common.{◌≡◌, ◌∙◌, ◌++◌, [], ◌∷◌, List, ap, append-nil, length, refl, subst, sym}
+use Rattle.std.proofs.Common.{Err, Some, arith, length-append, slice_index_or}
+use Rattle.std.proofs.lemmas.Grind.{common_steps}
 use Rattle.board_node.specs.declared.spec.BoardSpec.{BoardSpec}
 use Rattle.hub_lane.specs.Greeting.{link_of}
+use Rattle.session_input.specs.Recording.{IsOneSimulated}
 use Rattle.board_greeting.specs.Boards.{IsReached}
 use Rattle.board_greeting.specs.Reports.{shown_by}
 use Rattle.board_greeting.proofs.Boards.{made_still, none_made, one_made}
@@ -10,7 +12,7 @@ use Rattle.session_run.specs.Faults.{run_fault}
 use Rattle.session_run.specs.Links.{AreLeft, CanBeReached}
 use Rattle.session_run.proofs.Faults.{no_memory_is_no_rack}
 use Rattle.command_terms.proofs.Leaving.{same_Err}
-use Rattle.record_command.specs.Taps.{tap_ghosts}
+use Rattle.record_command.specs.Taps.{TapsState, tap_ghosts}
 use Rattle.run_laws.proofs.Leaving.{run_answered, run_failed}
 use Rattle.record_command.specs.Steps.{Records}
 use Rattle.record_command.proofs.Leaving.{rises_by}
@@ -131,3 +133,57 @@ returns-clause-leaves g c =
           (c.first_of-first.ensures ∙ sym (ap (λ capture. Some capture.first) c.into_parts-link.ensures.capture))
           c.into_parts-link.ensures.caught c.in_ok-written.ensures),
     )
+
+pub bounds-boards-0 : goal.bounds-boards-0
+bounds-boards-0 g c =
+    let one : length c.as_slice-boards.result.now ≡ 1 =
+    ap length c.as_slice-boards.ensures ∙ one_is_one c.args.session.now.boards c.requires.one in
+    omega (arith, one)
+
+pub first_of-first-requires : goal.first_of-first-requires
+first_of-first-requires g c =
+    let board = c.index-boards-0.result in
+    let there = subst (λ (boards : List BoardSpec). board ≡ slice_index_or boards 0 board) c.as_slice-boards.ensures
+    c.index-boards-0.is in
+    subst IsOneSimulated (one_board c.args.session.now.boards board c.requires.one there) c.requires.one
+
+pub run_tapped-tap-requires-clause-can : goal.run_tapped-tap-requires-clause-can
+run_tapped-tap-requires-clause-can g c κs within = c.requires.may.can
+
+pub run_tapped-tap-requires-clause-empty : goal.run_tapped-tap-requires-clause-empty
+run_tapped-tap-requires-clause-empty g c κs within = c.in_ok-room.ensures.empty
+
+pub run_tapped-tap-requires-clause-room : goal.run_tapped-tap-requires-clause-room
+run_tapped-tap-requires-clause-room g c κs within = c.in_ok-room.ensures.room
+
+pub run_tapped-tap-requires-clause-none_kept : goal.run_tapped-tap-requires-clause-none_kept
+run_tapped-tap-requires-clause-none_kept g c κs within = ap (λ (taps : TapsState _). taps.kept) c.in_ok-taps.ensures
+
+pub run_tapped-tap-requires-clause-one_made : goal.run_tapped-tap-requires-clause-one_made
+run_tapped-tap-requires-clause-one_made g c κs within =
+    ap (λ (taps : TapsState _). length taps.made) c.in_ok-taps.ensures
+
+pub keep-requires : goal.keep-requires
+keep-requires g c =
+    let board = c.index-boards-0.result in
+    omega (
+      arith,
+      ap length c.greet_tapped.ensures.kept,
+      c.greet_tapped.ensures.within,
+      ap length c.in_ok-greeted.ensures.made ∙ length-append (g.R.Rack.made c.args.rack.now) (board.link ∷ []),
+    )
+
+pub written-requires : goal.written-requires
+written-requires g c = c.into_parts-link.ensures.caught.short
+
+pub returns-in_err-taps-clause-rack_faults : goal.returns-in_err-taps-clause-rack_faults
+returns-in_err-taps-clause-rack_faults g c = grind (arith, common_steps)
+
+pub returns-in_err-room-clause-rack_faults : goal.returns-in_err-room-clause-rack_faults
+returns-in_err-room-clause-rack_faults g c = grind (arith, common_steps)
+
+pub returns-in_err-written-clause-rack_faults : goal.returns-in_err-written-clause-rack_faults
+returns-in_err-written-clause-rack_faults g c = grind (arith, common_steps)
+
+pub returns-clause-rack_faults : goal.returns-clause-rack_faults
+returns-clause-rack_faults g c = grind (arith, common_steps)

@@ -1,12 +1,13 @@
-use Rattle.std.proofs.Common.{◌∙◌, ◌++◌, ◌∷◌, List, [], ap, subst, sym}
+use Rattle.std.proofs.Common.{◌∙◌, ap, arith, inr, length, subst, sym}
+use Rattle.std.proofs.lemmas.Grind.{common_steps}
 use Rattle.std.specs.List.{AllByRecursion}
-use Rattle.hub_lane.specs.declared.greeting.Greeted.{Greeted}
 use Rattle.board_greeting.specs.Boards.{AreReached, HasMemory, IsFreshLink}
 use Rattle.board_greeting.specs.Reports.{shown_by}
+use Rattle.session_run.specs.Links.{AreLeft}
 use Rattle.lane_history.specs.Runs.{AreRunsOver}
 use Rattle.link_tap.specs.Traffic.{Tapped}
 use Rattle.record_command.specs.Taps.{tap_ghosts}
-use Rattle.record_command.proofs.Tapped.{left_alone, ran_alone, reached_alone}
+use Rattle.record_command.proofs.Tapped.{kept_one, left_alone, pushed_alone, ran_alone, reached_alone, stays_left}
 use Rattle.record_command.proofs.record.run_tapped.Goals as goal
 
 pub returns-then-is_out_of_memory-clause-left : goal.returns-then-is_out_of_memory-clause-left
@@ -17,24 +18,52 @@ returns-then-is_out_of_memory-clause-left g c =
     (λ spec is. subst (λ (tap : Tapped _). IsFreshLink c.args.settings spec (shows tap.link)) (sym c.into_link.ensures)
     (c.requires.reached spec is).fresh)
 
+pub returns-then-is_out_of_memory-clause-ran : goal.returns-then-is_out_of_memory-clause-ran
+returns-then-is_out_of_memory-clause-ran g c = tt
+
+pub push_reserved-requires : goal.push_reserved-requires
+push_reserved-requires g c = grind (arith, common_steps)
+
+pub run_greeted-runs-requires-clause-few_boards : goal.run_greeted-runs-requires-clause-few_boards
+run_greeted-runs-requires-clause-few_boards g c κs within = omega (arith, c.requires.one)
+
+pub run_greeted-runs-requires-clause-can : goal.run_greeted-runs-requires-clause-can
+run_greeted-runs-requires-clause-can g c κs within = c.requires.can
+
+pub run_greeted-runs-requires-clause-all : goal.run_greeted-runs-requires-clause-all
+run_greeted-runs-requires-clause-all g c κs within =
+    ap length (pushed_alone _ _ c.args.greeted c.push_reserved.ensures.items c.requires.empty) ∙ sym c.requires.one
+
+pub run_greeted-runs-requires-clause-room : goal.run_greeted-runs-requires-clause-room
+run_greeted-runs-requires-clause-room g c κs within =
+    inr (omega (arith, ap length c.requires.none_kept, c.requires.one_made, c.requires.one))
+
 pub run_greeted-runs-requires-clause-reached : goal.run_greeted-runs-requires-clause-reached
 run_greeted-runs-requires-clause-reached g c κs within =
-    let link = g.L.Link in
-    let shows = shown_by (tap_ghosts link) in
+    let shows = shown_by (tap_ghosts g.L.Link) in
     subst (AreReached shows c.args.settings c.args.specs.now)
-    (sym (c.push_reserved.ensures.items ∙ ap (λ (l : List (Greeted _)). l ++ c.args.greeted ∷ []) c.requires.empty))
+    (sym (pushed_alone _ _ c.args.greeted c.push_reserved.ensures.items c.requires.empty))
     (reached_alone shows c.args.settings c.args.specs.now c.args.greeted c.requires.one c.requires.reached)
 
 pub run_greeted-runs-requires-clause-memory : goal.run_greeted-runs-requires-clause-memory
 run_greeted-runs-requires-clause-memory g c κs within =
     subst (AllByRecursion HasMemory)
-    (sym (c.push_reserved.ensures.items ∙ ap (λ (l : List (Greeted _)). l ++ c.args.greeted ∷ []) c.requires.empty))
+    (sym (pushed_alone _ _ c.args.greeted c.push_reserved.ensures.items c.requires.empty))
     (c.is_out_of_memory.ensures c.if-is_out_of_memory.false, tt)
+
+pub into_tap-requires : goal.into_tap-requires
+into_tap-requires g c =
+    kept_one (shown_by (tap_ghosts g.L.Link)) _ _ c.requires.none_kept c.args.specs.now c.requires.one
+    (AreLeft 0 c.args.specs.now c.args.steps.now) c.run_greeted-runs.ensures.left
+
+pub returns-clause-left : goal.returns-clause-left
+returns-clause-left g c =
+    stays_left (shown_by (tap_ghosts g.L.Link)) _ _ c.into_tap.result c.requires.none_kept c.into_tap.ensures
+    c.args.specs.now (AreLeft 0 c.args.specs.now c.args.steps.now) c.run_greeted-runs.ensures.left
 
 pub returns-clause-ran : goal.returns-clause-ran
 returns-clause-ran g c =
-    let link = g.L.Link in
-    let shows = shown_by (tap_ghosts link) in
+    let shows = shown_by (tap_ghosts g.L.Link) in
     ran_alone shows _ _ c.into_tap.result c.requires.none_kept c.into_tap.ensures
     (AreRunsOver c.args.settings 0 c.args.specs.now c.args.steps.now) c.run_greeted-runs.result
     c.run_greeted-runs.ensures.ran

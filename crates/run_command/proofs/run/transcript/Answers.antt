@@ -1,4 +1,5 @@
-use Rattle.std.proofs.Common.{◌≡◌, Err, refl, ap, subst}
+use Rattle.std.proofs.Common.{◌≡◌, Err, refl, ap, arith, subst}
+use Rattle.std.proofs.lemmas.Grind.{common_steps}
 use Rattle.session_run.proofs.Faults.{no_memory_is_no_rack}
 use Rattle.transcript.specs.Lines.{transcript_of, run_status}
 use Rattle.transcript.specs.Text.{transcript_text}
@@ -36,3 +37,12 @@ returns-clause-leaves g c =
       told = subst (λ runs. answer.status ≡ run_status (transcript_of steps runs).clients) c.deref.ensures.value
           c.in_ok-printed.ensures.status;
     })
+
+pub returns-in_err-runs-clause-rack_faults : goal.returns-in_err-runs-clause-rack_faults
+returns-in_err-runs-clause-rack_faults g c = grind (arith, common_steps)
+
+pub returns-in_err-printed-clause-rack_faults : goal.returns-in_err-printed-clause-rack_faults
+returns-in_err-printed-clause-rack_faults g c = grind (arith, common_steps)
+
+pub returns-clause-rack_faults : goal.returns-clause-rack_faults
+returns-clause-rack_faults g c = grind (arith, common_steps)

@@ -1,4 +1,4 @@
-use Rattle.std.proofs.Common.{[], append-nil, inl, refl, rules, sym}
+use Rattle.std.proofs.Common.{[], append-nil, inl, refl, sym}
 use Rattle.session_input.specs.Deserved.{BreaksInServe, Deserves}
 use Rattle.board_greeting.specs.Reports.{shown_by}
 use Rattle.session_serve.specs.declared.report.ServeFault.TheVariants.{NoMemory, Rack}
@@ -55,7 +55,8 @@ pub returns-in_ok-refused-in-Err-Refused-clause-leaves : goal.returns-in_ok-refu
 returns-in_ok-refused-in-Err-Refused-clause-leaves g c =
     let shown = shown_by g.R.L.Link in
     let made = g.R.Rack.made c.args.rack.now in
-    let deserved : Deserves BreaksInServe c.args.bytes.now c.in-Err-Refused.refusal = search rules in
+    let deserved : Deserves BreaksInServe c.args.bytes.now c.in-Err-Refused.refusal =
+    rw c.in-Err-Refused.field-0-is at c.in-Err-Refused.ensures.refused in
     let answer = c.in_ok-refused-in-Err-Refused.field-0 in
     let refused : IsRefusedDocument BreaksInServe c.args.bytes.now answer.text.items =
     record {
@@ -108,3 +109,6 @@ returns-in-Err-NoMemory-clause-in_frames g c =
     let shown = shown_by g.R.L.Link in
     without_pairs shown g.D.Incoming.Source g.D.Outgoing.Sink _ _ _ _ _ _ refl refl
     (λ given. CameInFrames given.links given.came given.back) ([], sym (append-nil _), none_executed [] tt)
+
+pub returns-in-Ok-clause-in_frames : goal.returns-in-Ok-clause-in_frames
+returns-in-Ok-clause-in_frames g c = c.served.ensures.in_frames

@@ -1,4 +1,4 @@
-use Rattle.std.proofs.Common.{◌≡◌, length, map, Ok, Err, ap, refl, subst}
+use Rattle.std.proofs.Common.{length, map, Ok, Err, ap, refl, subst}
 use Rattle.std.specs.List.{AllByRecursion}
 use Rattle.lane_history.specs.Links.{IsUntouched}
 use Rattle.board_greeting.specs.Reports.{shown_by}
@@ -92,3 +92,12 @@ returns-in_err-printed-clause-listens g c =
 
 pub returns-clause-listens : goal.returns-clause-listens
 returns-clause-listens g c = (λ done. c.in_ok-report.ensures.listens.0 refl, c.serve_session.ensures.listens.1)
+
+pub returns-in_err-report-clause-in_frames : goal.returns-in_err-report-clause-in_frames
+returns-in_err-report-clause-in_frames g c = c.serve_session.ensures.in_frames
+
+pub returns-in_err-printed-clause-in_frames : goal.returns-in_err-printed-clause-in_frames
+returns-in_err-printed-clause-in_frames g c = c.serve_session.ensures.in_frames
+
+pub returns-clause-in_frames : goal.returns-clause-in_frames
+returns-clause-in_frames g c = c.serve_session.ensures.in_frames
