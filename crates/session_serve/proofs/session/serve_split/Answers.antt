@@ -175,3 +175,28 @@ returns-in-Err-clause-rack_faults g c = grind (arith, common_steps)
 
 pub returns-in-Err-clause-not_rack : goal.returns-in-Err-clause-not_rack
 returns-in-Err-clause-not_rack g c = grind (arith, common_steps)
+
+pub finish_boards-requires-clause-empty : goal.finish_boards-requires-clause-empty
+finish_boards-requires-clause-empty g c κs within = c.requires.ready.prepared'.no_lines
+
+pub finish_boards-requires-clause-place : goal.finish_boards-requires-clause-place
+finish_boards-requires-clause-place g c κs within =
+    let names = ap (λ (l : List (List ℕ)). length l) c.requires.ready.prepared'.names' in
+    let room = c.requires.ready.prepared'.room in
+    let long = length-map c.args.specs.now (λ s. s.name) in
+    omega (arith, names, room, long)
+
+pub returns-in-Ok-clause-all : goal.returns-in-Ok-clause-all
+returns-in-Ok-clause-all g c = rw c.in-Ok.is at c.serve_at_hub-lanes.ensures.all
+
+pub returns-in-Ok-clause-had_memory : goal.returns-in-Ok-clause-had_memory
+returns-in-Ok-clause-had_memory g c = rw c.in-Ok.is at c.serve_at_hub-lanes.ensures.had_memory
+
+pub returns-in-Ok-clause-listens : goal.returns-in-Ok-clause-listens
+returns-in-Ok-clause-listens g c = rw c.in-Ok.is at c.serve_at_hub-lanes.ensures.listens
+
+pub returns-in-Ok-clause-door_faults : goal.returns-in-Ok-clause-door_faults
+returns-in-Ok-clause-door_faults g c =
+    let served = c.serve_at_hub-lanes.ensures.door_faults in
+    let is = c.in-Ok.is in
+    (λ failed. absurd cc, served.1, λ no_door. served.2 (λ failed. cc))
