@@ -11,8 +11,8 @@ use std::alloc::Global;
 
 impl AuditRefusal {
     /// The line that tells the refusal, with its line feed.
-    pub fn line(&self, alloc: Global) -> Result<String, NoMemory>
-        ensures { IfOk result (λ text. string_bytes text ≡ spec.refusal_line self.now) }
+    pub fn line(self, alloc: Global) -> Result<String, NoMemory>
+        ensures { IfOk result (λ text. string_bytes text ≡ spec.refusal_line self) }
     {
         match self {
             AuditRefusal::NoLength => {

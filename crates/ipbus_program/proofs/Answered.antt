@@ -12,7 +12,6 @@ use Rattle.session_run.specs.declared.session.RunFault.TheVariants as run
 use Rattle.session_serve.specs.Executed.{CameInFrames}
 use Rattle.session_serve.specs.Serving.{AreBack}
 use Rattle.session_serve.proofs.Executing.{none_executed}
-use Rattle.session_serve.proofs.Standing.{none_served}
 use Rattle.command_words.specs.declared.command.Command.{Command}
 use Rattle.command_terms.specs.declared.answer.Answer.{Answer}
 use Rattle.command_terms.specs.Leaving.{Leaves}
