@@ -4,13 +4,12 @@ ghost use Rattle.std.specs.Prelude.{◌≡◌, [], IfOk};
 ghost use Rattle.command_terms.specs.Numbers.{refused_status};
 ghost use Rattle.command_terms.specs.Outside.{no_pairs};
 ghost use Rattle.command_terms.specs.Terms.{Owes};
-ghost use Rattle.run_audit.specs.Verdicts.{CanBeAudited, IsVerdict};
 ghost use Rattle.audit_command.specs.Headline.{verdict_status};
 ghost use Rattle.audit_command.specs.Lines as lines;
 ghost use Rattle.audit_command.specs.Terms.{audit_terms};
 
 use crate::lines::verdict_line;
-use crate::reading::{Audited, read_for_audit};
+use crate::reading::read_for_audit;
 use crate::refusal::{AuditRefusal, AuditUnread};
 use command_terms::{Answer, DONE, NOT_ALL_DONE, REFUSED};
 use ipb_base::NoMemory;
@@ -25,20 +24,12 @@ pub fn audit_answer(alloc: Global, bytes: &[u8]) -> Result<Answer, NoMemory>
 {
     match read_for_audit(alloc, bytes) {
         Ok(read) => {
-            let verdict = verdict_on(alloc, read)?;
+            let verdict = audit(alloc, &read.session, &read.steps, read.transcript)?;
             told(alloc, verdict)
         }
-        Err(AuditUnread::Refused(refusal)) => refused_input(alloc, refusal),
+        Err(AuditUnread::Refused(refusal)) => refused_input(alloc, &refusal),
         Err(AuditUnread::NoMemory) => Err(NoMemory),
     }
-}
-
-/// The verdict on the transcript of an input that was read.
-fn verdict_on(alloc: Global, read: Audited<'_>) -> Result<Verdict, NoMemory>
-    requires { CanBeAudited read.session read.steps.items }
-    ensures { IfOk result (IsVerdict read.entry.session read.entry.steps.items read.entry.transcript.now) }
-{
-    audit(alloc, &read.session, &read.steps, read.transcript)
 }
 
 /// The answer that tells a verdict.
@@ -58,9 +49,9 @@ fn told(alloc: Global, verdict: Verdict) -> Result<Answer, NoMemory>
 }
 
 /// The answer to an input that is refused: the line of the refusal, and `REFUSED`.
-pub fn refused_input(alloc: Global, refusal: AuditRefusal) -> Result<Answer, NoMemory>
+pub fn refused_input(alloc: Global, refusal: &AuditRefusal) -> Result<Answer, NoMemory>
     ensures status { IfOk result (λ answer. answer.status ≡ refused_status) }
-    ensures text { IfOk result (λ answer. answer.text.items ≡ lines.refusal_line refusal) }
+    ensures text { IfOk result (λ answer. answer.text.items ≡ lines.refusal_line refusal.now) }
 {
     let line = refusal.line(alloc)?;
     Ok(Answer {

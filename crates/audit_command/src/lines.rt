@@ -11,8 +11,8 @@ use std::alloc::Global;
 
 impl AuditRefusal {
     /// The line that tells the refusal, with its line feed.
-    pub fn line(self, alloc: Global) -> Result<String, NoMemory>
-        ensures { IfOk result (λ text. string_bytes text ≡ spec.refusal_line self) }
+    pub fn line(&self, alloc: Global) -> Result<String, NoMemory>
+        ensures { IfOk result (λ text. string_bytes text ≡ spec.refusal_line self.now) }
     {
         match self {
             AuditRefusal::NoLength => {

@@ -95,7 +95,7 @@ pub(crate) fn too_long(alloc: Global, command: &Command) -> Result<Answer, NoMem
         Command::Check { table: _ } => refused(alloc, &Refusal::TooLong),
         Command::Serve { port: _, count: _ } => refused(alloc, &Refusal::TooLong),
         Command::Load { count: _ } => unreachable!(),
-        Command::Audit => refused_input(alloc, AuditRefusal::OfSession(Refusal::TooLong)),
+        Command::Audit => refused_input(alloc, &AuditRefusal::OfSession(Refusal::TooLong)),
         Command::Record => refused(alloc, &Refusal::TooLong),
         Command::Describe => refused_text(alloc, &TextRefusal::LongCapture),
         Command::Undescribe => refused_text(alloc, &TextRefusal::LongDescription),
