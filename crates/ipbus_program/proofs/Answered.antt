@@ -12,17 +12,16 @@ use Rattle.session_run.specs.declared.session.RunFault.TheVariants as run
 use Rattle.session_serve.specs.Executed.{CameInFrames}
 use Rattle.session_serve.specs.Serving.{AreBack}
 use Rattle.session_serve.proofs.Executing.{none_executed}
-use Rattle.session_serve.proofs.Standing.{none_served}
 use Rattle.command_words.specs.declared.command.Command.{Command}
 use Rattle.command_terms.specs.declared.answer.Answer.{Answer}
 use Rattle.command_terms.specs.Leaving.{Leaves}
 use Rattle.command_terms.specs.Outside.{GivenBack, NoneCame, no_pairs}
 use Rattle.command_terms.specs.Terms.{AreTerms, Owes}
-use Rattle.command_terms.proofs.Leaving.{Told, done_as, failed_as, failure_left, nothing_left}
+use Rattle.command_terms.proofs.Leaving.{Told, done_as, failed_as, failure_left, none_came, nothing_left}
 use Rattle.command_terms.proofs.Pairs.{Together, therefore, without_pairs}
 use Rattle.ipbus_program.specs.Commands.{terms_of}
 use Rattle.ipbus_program.specs.declared.no_answer.NoAnswer.{NoAnswer}
-use Rattle.ipbus_program.specs.declared.no_answer.NoAnswer.TheVariants.{NoMemory, RackFault}
+use Rattle.ipbus_program.specs.declared.no_answer.NoAnswer.TheVariants.{RackFault}
 use Rattle.ipbus_program.specs.Ended.{Ended}
 use Rattle.ipbus_program.specs.Owed.{AreCommand}
 use Rattle.ipbus_program.specs.Outputs.{Delivers}
@@ -36,63 +35,55 @@ abbrev pub Left : Command → List ℕ → List LinkSpec → List LinkSpec → R
 Left command bytes made makes result given =
     Leaves AreBack IsFailure RackFault (terms_of command) bytes made makes result given
 
--- a command that runs over links left this of links, and calls no door
+-- a command that lets nobody in left this of links, and calls no door
 abbrev pub RanAs : Command → List ℕ → List LinkSpec → List LinkSpec → Result Answer RunFault → List LinkReport → Type 0
 RanAs command bytes made makes result links =
     Leaves NoneCame IsRunFailure run.Rack (terms_of command) bytes made makes result (no_pairs links)
 
 module _ {L I O : Type 0} (shown : L → LinkReport) (source : SourceGhosts I) (sink : SinkGhosts O) (old new : List L)
-    (coming kept : Option (List (I × O))) (command asked : Command) (is : command ≡ asked) (bytes : List ℕ)
-    (made makes : List LinkSpec) where
-  ran : (result : Result Answer NoAnswer)
-      → Told shown old new (λ links. Left asked bytes made makes result (no_pairs links))
-      → Together shown source sink old new coming coming kept kept (Left command bytes made makes result)
-  ran result told =
-      without_pairs shown source sink old new coming coming kept kept refl refl (Left command bytes made makes result)
-      (subst (λ c. Told shown old new (λ links. Left c bytes made makes result (no_pairs links))) (sym is) told)
-
+    (coming kept : Option (List (I × O))) (command : Command) (bytes : List ℕ) (made makes : List LinkSpec) where
   -- with an answer
-  pub ran_answered : (answer : Answer) → Told shown old new (RanAs asked bytes made makes (Ok answer))
+  pub ran_answered : (answer : Answer) → Told shown old new (RanAs command bytes made makes (Ok answer))
       → Together shown source sink old new coming coming kept kept (Left command bytes made makes (Ok answer))
   ran_answered answer told =
-      ran (Ok answer) (
+      without_pairs shown source sink old new coming coming kept kept refl refl
+      (Left command bytes made makes (Ok answer)) (
         told.0,
         told.1,
-        done_as NoneCame AreBack none_as_served IsRunFailure run.Rack IsFailure RackFault (terms_of asked) bytes made
+        done_as NoneCame AreBack none_as_served IsRunFailure run.Rack IsFailure RackFault (terms_of command) bytes made
             makes (no_pairs (map shown told.0)) answer told.2,
       )
 
   -- or with a fault
   pub ran_failed : (fault : RunFault) (result : Result Answer NoAnswer) → IsErr result
       → IsErrAnd result (λ why. why ≡ no_answer_of fault)
-      → Told shown old new (RanAs asked bytes made makes (Err fault))
+      → Told shown old new (RanAs command bytes made makes (Err fault))
       → Together shown source sink old new coming coming kept kept (Left command bytes made makes result)
   ran_failed fault result fails why told =
-      ran result (
+      without_pairs shown source sink old new coming coming kept kept refl refl (Left command bytes made makes result) (
         told.0,
         told.1,
-        failed_as NoneCame AreBack none_as_served IsRunFailure run.Rack IsFailure RackFault (terms_of asked) bytes made
-            makes (no_pairs (map shown told.0)) no_answer_of fault result (run_behind fault) (run_rack fault) fails why
-            told.2,
+        failed_as NoneCame AreBack none_as_served IsRunFailure run.Rack IsFailure RackFault (terms_of command) bytes
+            made makes (no_pairs (map shown told.0)) no_answer_of fault result (run_behind fault) (run_rack fault) fails
+            why told.2,
       )
 
 -- one that makes no links
-module _ {L I O : Type 0} (shown : L → LinkReport) (source : SourceGhosts I) (sink : SinkGhosts O) (old : List L)
-    (coming kept : Option (List (I × O))) (command : Command) (bytes : List ℕ) (made : List LinkSpec) where
+module _ {L : Type 0} (shown : L → LinkReport) (kept : List L) (command : Command) (bytes : List ℕ)
+    (made : List LinkSpec) where
   pub told_answered : (asked : Command) → command ≡ asked → (answer : Answer)
       → Owes (terms_of asked) bytes (no_pairs []) answer.status answer.text.items
-      → Together shown source sink old old coming coming kept kept (Left command bytes made made (Ok answer))
+      → Told shown kept kept (RanAs command bytes made made (Ok answer))
   told_answered asked is answer owed =
-      ran shown source sink old old coming kept command asked is bytes made made (Ok answer)
-      (nothing_left AreBack none_served IsFailure RackFault shown old (terms_of asked) bytes made (Ok answer) owed
-      (λ fault never. absurd cc))
+      nothing_left NoneCame none_came IsRunFailure run.Rack shown kept (terms_of command) bytes made (Ok answer)
+      (subst (λ c. Owes (terms_of c) bytes (no_pairs []) answer.status answer.text.items) (sym is) owed)
+      (λ fault never. absurd cc)
 
-  pub told_failed : (result : Result Answer NoAnswer) → IsErr result → IsErrAnd result (λ why. why ≡ NoMemory)
-      → Together shown source sink old old coming coming kept kept (Left command bytes made made result)
+  pub told_failed : (result : Result Answer RunFault) → IsErr result → IsErrAnd result (λ why. why ≡ run.NoMemory)
+      → Told shown kept kept (RanAs command bytes made made result)
   told_failed result fails why =
-      without_pairs shown source sink old old coming coming kept kept refl refl (Left command bytes made made result)
-      (failure_left AreBack none_served IsFailure RackFault shown old (terms_of command) bytes made result NoMemory
-      fails why (λ failed. failed))
+      failure_left NoneCame none_came IsRunFailure run.Rack shown kept (terms_of command) bytes made result run.NoMemory
+      fails why (λ failed. failed)
 
 -- ---- how a call ends
 

@@ -1,9 +1,10 @@
 //! What each command answers. A command has a case in each of these functions, and nowhere else.
 
-ghost use Rattle.std.specs.Prelude.{◌≡◌, ◌≢◌, ◌≤◌, ℕ, Err, IfOk, IsOkAnd, true};
+ghost use Rattle.std.specs.Prelude.{◌≡◌, ◌≢◌, ◌≤◌, ℕ, Err, IfOk, IsOkAnd, false, true};
 ghost use Rattle.ipb_outside.specs.Doors.{Listens};
 ghost use Rattle.ipb_outside.specs.Pairs.{GivesBack};
 ghost use Rattle.board_greeting.specs.Links.{Keeps};
+ghost use Rattle.session_run.specs.Faults.{IsRunFailure};
 ghost use Rattle.session_serve.specs.Executed.{CameInFrames};
 ghost use Rattle.session_serve.specs.Serving.{AreBack};
 ghost use Rattle.command_words.specs.declared.command.Command.{Command as CommandValue};
@@ -11,6 +12,7 @@ ghost use Rattle.command_words.specs.declared.command.Command.TheVariants.{Load,
 ghost use Rattle.ipb_outside.specs.Faults.{RisesExactlyIf};
 ghost use Rattle.command_terms.specs.Leaving.{Leaves};
 ghost use Rattle.command_terms.specs.Numbers.{refused_status};
+ghost use Rattle.command_terms.specs.Outside.{NoneCame, no_pairs};
 ghost use Rattle.command_terms.specs.Terms.{AreTerms, Reads};
 ghost use Rattle.ipb_base.specs.Numbers.{most_operations};
 ghost use Rattle.ipbus_program.specs.Commands.{terms_of};
@@ -42,6 +44,7 @@ use run_command::run_document;
 use serve_command::laws::the_terms_of_serve;
 use serve_command::serve_document;
 use session_input::{MAX_DOCUMENT, Refusal};
+use session_run::RunFault;
 use std::alloc::Global;
 use std::marker::Sync;
 use std::sync::Wait;
@@ -101,6 +104,38 @@ pub(crate) fn too_long(alloc: Global, command: &Command) -> Result<Answer, NoMem
     }
 }
 
+/// What a command answers that lets nobody in: to the bytes of its input; one that reads none, whatever the bytes.
+fn answer_without_door<R: Rack, T: Threads + Wait + Sync, G: Gate>(
+    rt: &T,
+    alloc: Global,
+    command: &Command,
+    bytes: &[u8],
+    rack: &mut R,
+    gate: &G,
+) -> Result<Answer, RunFault>
+    requires bounded { (count : ℕ) → command.now ≡ Load count → count ≤ most_operations }
+    requires no_server { (port count : ℕ) → command.now ≢ Serve port count }
+    ensures leaves { Keeps R.Rack R.L.Link rack.old rack.new
+        (λ links. Leaves NoneCame IsRunFailure RunFault.Rack (terms_of command.now) bytes.now (R.made rack.old)
+        (R.made rack.new) result (no_pairs links)) }
+    ensures refused { IfOk result (λ answer. answer.status ≡ refused_status → rack.new ≡ rack.old) }
+    ensures unmade { (terms_of command.now).makes_links ≡ false → rack.new ≡ rack.old }
+    ensures rack_faults { RisesExactlyIf (result ≡ Err RunFault.Rack) (R.faults rack.old) (R.faults rack.new) }
+{
+    match command {
+        Command::Run => run_document(rt, alloc, bytes, rack, gate),
+        Command::Check { table } => Ok(check_document(alloc, bytes, table.as_str())?),
+        Command::Serve { port: _, count: _ } => unreachable!(),
+        Command::Load { count } => answer_load(rt, alloc, *count, rack, gate),
+        Command::Audit => Ok(audit_answer(alloc, bytes)?),
+        Command::Record => record_document(rt, alloc, bytes, rack, gate),
+        Command::Describe => Ok(describe_answer(alloc, bytes)?),
+        Command::Undescribe => Ok(undescribe_answer(alloc, bytes)?),
+        Command::Save => save_document(rt, alloc, bytes, rack, gate),
+        Command::Apply => apply_document(rt, alloc, bytes, rack, gate),
+    }
+}
+
 /// What a command answers to the bytes of its input; one that reads none, whatever the bytes.
 pub(crate) fn answer_to<R: Rack, D: Door, T: Threads + Wait + Sync, G: Gate>(
     rt: &T,
@@ -130,17 +165,9 @@ pub(crate) fn answer_to<R: Rack, D: Door, T: Threads + Wait + Sync, G: Gate>(
     ensures door_faults { RisesExactlyIf (result ≡ Err NoAnswer.DoorFault) (D.faults door.old) (D.faults door.new) }
 {
     match command {
-        Command::Run => Ok(run_document(rt, alloc, bytes, rack, gate)?),
-        Command::Check { table } => Ok(check_document(alloc, bytes, table.as_str())?),
         Command::Serve { port, count } => {
             Ok(serve_document(rt, alloc, bytes, *port, *count, rack, door)?)
         }
-        Command::Load { count } => Ok(answer_load(rt, alloc, *count, rack, gate)?),
-        Command::Audit => Ok(audit_answer(alloc, bytes)?),
-        Command::Record => Ok(record_document(rt, alloc, bytes, rack, gate)?),
-        Command::Describe => Ok(describe_answer(alloc, bytes)?),
-        Command::Undescribe => Ok(undescribe_answer(alloc, bytes)?),
-        Command::Save => Ok(save_document(rt, alloc, bytes, rack, gate)?),
-        Command::Apply => Ok(apply_document(rt, alloc, bytes, rack, gate)?),
+        _ => Ok(answer_without_door(rt, alloc, command, bytes, rack, gate)?),
     }
 }

@@ -106,3 +106,26 @@ returns-in_err-too_long-in-None-clause-in_frames g c port count asked =
 pub returns-in_err-bytes-clause-in_frames : goal.returns-in_err-bytes-clause-in_frames
 returns-in_err-bytes-clause-in_frames g c port count asked =
     none_in_frames (shown_by g.R.L.Link) g.D.Incoming.Source g.D.Outgoing.Sink _ _ _
+
+pub returns-in-Some-clause-input_faults : goal.returns-in-Some-clause-input_faults
+returns-in-Some-clause-input_faults g c =
+    let faults = c.in_ok-bytes.ensures.faults in
+    (λ failed. absurd (c.answer_to.ensures.not_read_fault failed), faults.1, λ calm. faults.2 (λ never. cc))
+
+pub returns-in-Some-clause-rack_faults : goal.returns-in-Some-clause-rack_faults
+returns-in-Some-clause-rack_faults g c = c.answer_to.ensures.rack_faults
+
+pub returns-in-Some-clause-door_faults : goal.returns-in-Some-clause-door_faults
+returns-in-Some-clause-door_faults g c = c.answer_to.ensures.door_faults
+
+pub returns-in-Some-clause-in_frames : goal.returns-in-Some-clause-in_frames
+returns-in-Some-clause-in_frames g c = c.answer_to.ensures.in_frames
+
+pub returns-in-Some-clause-alone : goal.returns-in-Some-clause-alone
+returns-in-Some-clause-alone g c = c.answer_to.ensures.alone
+
+pub returns-in-Some-clause-listens : goal.returns-in-Some-clause-listens
+returns-in-Some-clause-listens g c = c.answer_to.ensures.listens
+
+pub returns-in-Some-clause-unread : goal.returns-in-Some-clause-unread
+returns-in-Some-clause-unread g c = c.input_for.ensures.unread

@@ -1,5 +1,6 @@
 use Rattle.std.proofs.Common.{Ok, Err, Result, ◌∙◌, ◌≡◌, ◌⊎◌, ◌≤◌, ℕ, Some, inl, inr, ⊎_elim, map, string_bytes, ap}
 use Rattle.std.proofs.Common.{sym, subst, arith, rules, refl}
+use Rattle.std.proofs.lemmas.Grind.{common_steps}
 use Rattle.ipb_outside.specs.Faults.{RisesExactlyIf}
 use Rattle.board_greeting.specs.Reports.{shown_by}
 use Rattle.command_terms.specs.declared.answer.Answer.{Answer}
@@ -254,3 +255,54 @@ returns-in-Ok-clause-too_long g c command bytes asked told long refused =
     taken_of_long (c.terms_are_terms.ensures command) told long
     (left_by (are_command g at.After-answer_command) asked c.in-Ok.ensures.leaves.2.4).owed
     (omega (arith, status, refused))
+
+-- ---- nothing is owed to other words
+
+pub returns-in-Ok-None-clause-unbroken : goal.returns-in-Ok-None-clause-unbroken
+returns-in-Ok-None-clause-unbroken g c command bytes asked has unbroken unfaulted quiet =
+    let none : AreNoCommand c.args.words.now = search rules in
+    absurd (let never = sym none ∙ asked in cc)
+
+pub returns-in-Ok-None-clause-right : goal.returns-in-Ok-None-clause-right
+returns-in-Ok-None-clause-right g c command bytes asked has right unfaulted quiet =
+    let none : AreNoCommand c.args.words.now = search rules in
+    absurd (let never = sym none ∙ asked in cc)
+
+pub returns-in-Ok-None-clause-deserved : goal.returns-in-Ok-None-clause-deserved
+returns-in-Ok-None-clause-deserved g c command bytes line asked told deserved calm unfaulted =
+    let none : AreNoCommand c.args.words.now = search rules in
+    absurd (let never = sym none ∙ asked in cc)
+
+pub returns-in-Ok-None-clause-too_long : goal.returns-in-Ok-None-clause-too_long
+returns-in-Ok-None-clause-too_long g c command bytes asked told long refused =
+    let none : AreNoCommand c.args.words.now = search rules in
+    absurd (let never = sym none ∙ asked in cc)
+
+-- ---- faults, and what is left alone
+
+pub returns-in-Ok-None-clause-input_faults : goal.returns-in-Ok-None-clause-input_faults
+returns-in-Ok-None-clause-input_faults g c = grind (arith, common_steps)
+
+pub returns-in-Ok-None-clause-rack_faults : goal.returns-in-Ok-None-clause-rack_faults
+returns-in-Ok-None-clause-rack_faults g c = grind (arith, common_steps)
+
+pub returns-in-Ok-None-clause-door_faults : goal.returns-in-Ok-None-clause-door_faults
+returns-in-Ok-None-clause-door_faults g c = grind (arith, common_steps)
+
+pub returns-in-Ok-None-clause-output_faults : goal.returns-in-Ok-None-clause-output_faults
+returns-in-Ok-None-clause-output_faults g c = grind (arith, common_steps)
+
+pub returns-in-Ok-None-clause-other_words : goal.returns-in-Ok-None-clause-other_words
+returns-in-Ok-None-clause-other_words g c = grind (arith, common_steps)
+
+pub returns-clause-output_faults : goal.returns-clause-output_faults
+returns-clause-output_faults g c = grind (arith, common_steps)
+
+pub returns-clause-unwritten : goal.returns-clause-unwritten
+returns-clause-unwritten g c = grind (arith, common_steps)
+
+pub returns-clause-other_words : goal.returns-clause-other_words
+returns-clause-other_words g c = grind (arith, common_steps)
+
+pub returns-in-Ok-clause-other_words : goal.returns-in-Ok-clause-other_words
+returns-in-Ok-clause-other_words g c = grind (arith, common_steps)

@@ -35,6 +35,12 @@ spawn_with-requires-send-F g c κs within =
 pub spawn_with-requires-in-Err-clause-lanes : goal.spawn_with-requires-in-Err-clause-lanes
 spawn_with-requires-in-Err-clause-lanes g c κs within = rw c.in-Err.ensures.err c.requires.lanes
 
+pub spawn_with-requires-in-Err-clause-seat : goal.spawn_with-requires-in-Err-clause-seat
+spawn_with-requires-in-Err-clause-seat g c κs within = rw c.in-Err.ensures.err c.requires.seat
+
+pub spawn_with-requires-in-Err-clause-unused : goal.spawn_with-requires-in-Err-clause-unused
+spawn_with-requires-in-Err-clause-unused g c κs within = rw c.in-Err.ensures.err c.requires.unused
+
 pub returns-in-Ok : goal.returns-in-Ok
 returns-in-Ok g c = grind (arith, common_steps)
 

@@ -1,8 +1,10 @@
 use Rattle.std.proofs.lemmas.Grind.{common_steps}
-use Rattle.std.proofs.Common.{rules, ◌≡◌, ◌∙◌, List, map, subst, sym, arith}
+use Rattle.std.proofs.Common.{rules, ◌≡◌, ◌∙◌, List, ap, length, length-append, map, subst, sym, arith}
+use Rattle.std.proofs.lemmas.List.{length-map}
 use Rattle.std.specs.List.{AllByRecursion}
 use Rattle.std.specs.Vec.Iter.{into_iter_items}
 use Rattle.ipb_outside.specs.Pairs.{pair_shown}
+use Rattle.hub_multiplexer.specs.Seats.{SeatState}
 use Rattle.hub_lane.specs.declared.answers.BoardState.{BoardState}
 use Rattle.session_serve.specs.Seats.{IsDoneOf}
 use Rattle.session_serve.proofs.Lists.{zip_long}
@@ -55,3 +57,13 @@ accept_all-is_whole-requires-clause-fresh g c = grind (arith, common_steps)
 
 pub accept_all-is_whole-requires-clause-empty : goal.accept_all-is_whole-requires-clause-empty
 accept_all-is_whole-requires-clause-empty g c = grind (arith, common_steps)
+
+pub wait_for_all-requires-clause-room : goal.wait_for_all-requires-clause-room
+wait_for_all-requires-clause-room g c =
+    let accepted = c.accept_all-is_whole in
+    let running = accepted.new.running.items in
+    let seats = ap (λ (l : List SeatState). length l) accepted.ensures.seats in
+    let long = length-append (map (λ r. r.seat) running) (into_iter_items accepted.new.seats) in
+    let same = length-map running (λ r. r.seat) in
+    let room = c.work.invariant.5 in
+    omega (arith, seats, long, same, room)

@@ -125,3 +125,26 @@ returns-in-Err-clause-door_faults g c = grind (arith, common_steps)
 
 pub returns-in-Err-clause-not_rack : goal.returns-in-Err-clause-not_rack
 returns-in-Err-clause-not_rack g c = grind (arith, common_steps)
+
+pub prepare-requires : goal.prepare-requires
+prepare-requires g c =
+    let same = ap (λ (l : List (Greeted _)). length l) c.deref.ensures.value in
+    let all = c.requires.all in
+    let few = c.requires.few_boards in
+    omega (arith, same, all, few)
+
+pub returns-in-Ok-split_boards : goal.returns-in-Ok-split_boards
+returns-in-Ok-split_boards g c = record {
+  served = c.serve_split.ensures.served;
+  all = c.serve_split.ensures.all;
+  had_memory = c.serve_split.ensures.had_memory;
+  links = c.serve_split.ensures.links;
+  pairs = c.serve_split.ensures.pairs;
+  in_frames = c.serve_split.ensures.in_frames;
+  none_out = c.serve_split.ensures.none_out;
+  listens = c.serve_split.ensures.listens;
+  made = c.serve_split.ensures.made;
+  rack_faults = c.serve_split.ensures.rack_faults;
+  door_faults = c.serve_split.ensures.door_faults;
+  not_rack = c.serve_split.ensures.not_rack;
+}

@@ -1,5 +1,4 @@
 use Rattle.std.proofs.Common.{◌≡◌, ◌∙◌, ℕ, List, Vec, Global, Err, ap, length, map, subst, sym, arith}
-use Rattle.std.proofs.lemmas.Grind.{common_steps}
 use Rattle.std.specs.List.{AllByRecursion}
 use Rattle.std.specs.Prelude.{IfOk}
 use Rattle.std.proofs.lemmas.List.{length-map}
@@ -14,7 +13,7 @@ use Rattle.board_greeting.proofs.Splitting.{have_lanes}
 use Rattle.session_serve.specs.Finish.{link_in}
 use Rattle.session_serve.specs.Hubs.{AreServedAt}
 use Rattle.session_serve.specs.Prepared.{told_by}
-use Rattle.session_serve.specs.declared.report.ServeFault.TheVariants.{Door}
+use Rattle.session_serve.specs.declared.report.ServeFault.TheVariants.{Door, Rack}
 use Rattle.session_serve.proofs.Executing.{came_in_frames}
 use Rattle.session_serve.proofs.Reporting.{are_served, boards_back, boards_long, links_back}
 use Rattle.session_serve.proofs.Standing.{back_as_told, states_within}
@@ -153,25 +152,51 @@ returns-in-Err-clause-in_frames g c =
     )
 
 pub returns-in-Ok-clause-none_out : goal.returns-in-Ok-clause-none_out
-returns-in-Ok-clause-none_out g c = grind (arith, common_steps)
+returns-in-Ok-clause-none_out g c = c.serve_at_hub-lanes.ensures.none_out
 
 pub returns-in-Ok-clause-made : goal.returns-in-Ok-clause-made
-returns-in-Ok-clause-made g c = grind (arith, common_steps)
+returns-in-Ok-clause-made g c = c.finish_boards.ensures.made
 
 pub returns-in-Ok-clause-rack_faults : goal.returns-in-Ok-clause-rack_faults
-returns-in-Ok-clause-rack_faults g c = grind (arith, common_steps)
+returns-in-Ok-clause-rack_faults g c = c.finish_boards.ensures.faults
 
 pub returns-in-Ok-clause-not_rack : goal.returns-in-Ok-clause-not_rack
-returns-in-Ok-clause-not_rack g c = grind (arith, common_steps)
+returns-in-Ok-clause-not_rack g c = λ never. cc
 
 pub returns-in-Err-clause-none_out : goal.returns-in-Err-clause-none_out
-returns-in-Err-clause-none_out g c = grind (arith, common_steps)
+returns-in-Err-clause-none_out g c = c.serve_at_hub-lanes.ensures.none_out
 
 pub returns-in-Err-clause-made : goal.returns-in-Err-clause-made
-returns-in-Err-clause-made g c = grind (arith, common_steps)
+returns-in-Err-clause-made g c = c.finish_boards.ensures.made
 
 pub returns-in-Err-clause-rack_faults : goal.returns-in-Err-clause-rack_faults
-returns-in-Err-clause-rack_faults g c = grind (arith, common_steps)
+returns-in-Err-clause-rack_faults g c = c.finish_boards.ensures.faults
 
 pub returns-in-Err-clause-not_rack : goal.returns-in-Err-clause-not_rack
-returns-in-Err-clause-not_rack g c = grind (arith, common_steps)
+returns-in-Err-clause-not_rack g c failed =
+    c.serve_at_hub-lanes.ensures.not_rack (c.in-Err.is ∙ ap Err (let same : c.in-Err.fault ≡ Rack = cc in same))
+
+pub finish_boards-requires-clause-empty : goal.finish_boards-requires-clause-empty
+finish_boards-requires-clause-empty g c κs within = c.requires.ready.prepared'.no_lines
+
+pub finish_boards-requires-clause-place : goal.finish_boards-requires-clause-place
+finish_boards-requires-clause-place g c κs within =
+    let names = ap (λ (l : List (List ℕ)). length l) c.requires.ready.prepared'.names' in
+    let room = c.requires.ready.prepared'.room in
+    let long = length-map c.args.specs.now (λ s. s.name) in
+    omega (arith, names, room, long)
+
+pub returns-in-Ok-clause-all : goal.returns-in-Ok-clause-all
+returns-in-Ok-clause-all g c = rw c.in-Ok.is at c.serve_at_hub-lanes.ensures.all
+
+pub returns-in-Ok-clause-had_memory : goal.returns-in-Ok-clause-had_memory
+returns-in-Ok-clause-had_memory g c = rw c.in-Ok.is at c.serve_at_hub-lanes.ensures.had_memory
+
+pub returns-in-Ok-clause-listens : goal.returns-in-Ok-clause-listens
+returns-in-Ok-clause-listens g c = rw c.in-Ok.is at c.serve_at_hub-lanes.ensures.listens
+
+pub returns-in-Ok-clause-door_faults : goal.returns-in-Ok-clause-door_faults
+returns-in-Ok-clause-door_faults g c =
+    let served = c.serve_at_hub-lanes.ensures.door_faults in
+    let is = c.in-Ok.is in
+    (λ failed. absurd cc, served.1, λ no_door. served.2 (λ failed. cc))
