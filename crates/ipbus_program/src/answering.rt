@@ -1,4 +1,5 @@
-//! What each command answers. A command has a case in each of these functions, and nowhere else.
+//! What each command answers. A command has a case in `limit_of`, in `too_long` and in one of `answer_to` and
+//! `answer_without_door`, and nowhere else.
 
 ghost use Rattle.std.specs.Prelude.{◌≡◌, ◌≢◌, ◌≤◌, ℕ, Err, IfOk, IsOkAnd, false, true};
 ghost use Rattle.ipb_outside.specs.Doors.{Listens};
