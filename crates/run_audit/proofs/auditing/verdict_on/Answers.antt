@@ -1,6 +1,6 @@
+use Rattle.std.proofs.Common.{refl}
 use Rattle.run_audit.proofs.Verdicts.{lines_few, they_are}
 use Rattle.run_audit.proofs.auditing.verdict_on.Goals as goal
-use Rattle.std.proofs.Common.{refl}
 
 pub verdict_by-requires-clause-lines : goal.verdict_by-requires-clause-lines
 verdict_by-requires-clause-lines c =
