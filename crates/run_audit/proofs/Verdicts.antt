@@ -13,7 +13,7 @@ use Rattle.run_audit.specs.declared.verdict.AuditWhy.TheVariants.{Form, Partial,
 use Rattle.run_audit.specs.Verdicts.{Breaks, BreaksFirst, CanBeAudited, Fits, rule_number}
 use Rattle.script_plans.specs.Plan.{ClientBodies}
 use Rattle.run_audit.specs.declared.asking.AskedOp.{AskedOp}
-use Rattle.run_audit.specs.AskedLines.{asked_lines}
+use Rattle.run_audit.specs.AskedLines.{AskedLine, asked_lines}
 use Rattle.script_plans.specs.declared.board_run.BoardRun.{BoardRun}
 use Rattle.run_audit.specs.Replaying.{AreReplayed}
 use Rattle.run_audit.specs.Steps.{AreOf, IsFirstBroken, asking, plans_from, replays_from}
@@ -131,6 +131,12 @@ they_are scripts shown same made_is all_is plans_is asked_is = record {
   lines' = ap (map asking) asked_is ∙ all_is;
 }
 
+pub made_are : {boards : List BoardSpec} {scripts : List (List Step)} {shown : Shown}
+    {plans made : List (List ClientBodies)} {lines : List AskedLine} → made ≡ plans → AreOf boards scripts shown plans lines
+    → AreOf boards scripts shown made lines
+made_are {boards = boards} {scripts = scripts} {shown = shown} {lines = lines} same are =
+    subst (λ p. AreOf boards scripts shown p lines) (sym same) are
+
 pub lines_few : (session : Session) (scripts : List (List Step)) (text : List ℕ) (shown : Shown)
     → CanBeAudited session scripts → IsShownBy session.boards scripts text shown
     → length (clients_from 1 scripts) + length shown.boards < 2 ^ 32
@@ -152,6 +158,19 @@ all_replayed {boards = boards} {own = own} scripts shown {asked' = asked'} is sa
       lines' = ap (map asking) asked_is ∙ all_is;
       runs' = runs_is ∙ (made_is ∙ (ap (λ b. replays_from b scripts (map asking asked') 0 b) same
           ∙ ap (λ a. replays_from boards scripts (map asking a) 0 boards) (asked'_is ∙ sym asked_is)));
+      clients' = is.clients';
+      boards' = is.boards';
+    }
+
+pub replayed_as_shown : {boards own : List BoardSpec} {scripts : List (List Step)} {text : List ℕ} {shown : Shown}
+    {plans : List (List ClientBodies)} {runs : List BoardRun} {lines : List AskedLine}
+    → IsShownBy boards scripts text shown → AreOf boards scripts shown plans lines → own ≡ boards
+    → (AreOf own scripts shown plans lines → runs ≡ replays_from own scripts lines 0 own)
+    → AreReplayed boards scripts shown runs lines
+replayed_as_shown {scripts = scripts} {shown = shown} {plans = plans} {lines = lines} is are same made =
+    let there = subst (λ b. AreOf b scripts shown plans lines) (sym same) are in record {
+      lines' = are.lines';
+      runs' = made there ∙ ap (λ b. replays_from b scripts lines 0 b) same;
       clients' = is.clients';
       boards' = is.boards';
     }

@@ -7,7 +7,8 @@ ghost use Rattle.toml.specs.View.{table_view};
 ghost use Rattle.script_lang.specs.Document as spec;
 ghost use Rattle.script_lang.specs.Limits.{IsWithin};
 ghost use Rattle.script_lang.specs.Paths.{path as path_text};
-ghost use Rattle.script_lang.specs.Reading.{TellsFirst};
+ghost use Rattle.script_lang.specs.Reading.{AreTables, TellsFirst};
+ghost use Rattle.script_lang.specs.Sessions.{boards_of, format_of, tables_of};
 ghost use Rattle.script_lang.specs.Walk.{Way as SpecWay};
 ghost use Rattle.script_lang.specs.declared.refusal.DocWhy.TheVariants as whys;
 ghost use Rattle.script_lang.specs.declared.refusal.SessionRefusal.TheVariants.{NoMemory as no_memory};
@@ -19,12 +20,13 @@ use crate::fields::items_at;
 use crate::keys::Form;
 use crate::refusal::{DocWhy, MAX_BOARDS, MAX_CLIENTS, SessionRefusal};
 use crate::scripts::scripts;
-use crate::session::Session;
+use crate::session::{Boards, Session};
 use crate::steps::Misfit;
 use crate::tables::tables;
 use crate::walk::check_table;
 use board_node::BoardSpec;
-use ipb_base::Text;
+use ipb_base::{NoMemory, Text};
+use node_tree::Tables;
 use std::alloc::Global;
 use toml::Table;
 
@@ -83,21 +85,42 @@ fn refused_whole(alloc: Global, why: DocWhy) -> SessionRefusal
     }
 }
 
-/// The session that a parsed document stands for.
+/// The session that a parsed document stands for. What may refuse the document only borrows it.
 fn session(alloc: Global, document: Table) -> Result<Session, SessionRefusal>
     ensures found { IfOk result (spec.IsSession (table_view document)) }
     ensures first { IfErr result (spec.TellsFault (spec.faults (table_view document))) }
 {
-    check_shape(alloc, &document)?;
-    check_counts(alloc, &document)?;
-    let boards = boards(alloc, &document)?;
+    let settings = settings(&document);
+    match tables_and_boards(alloc, &document) {
+        Ok((tables, boards)) => match scripts(alloc, document) {
+            Ok(scripts) => Ok(Session {
+                settings,
+                tables,
+                boards,
+                scripts,
+            }),
+            Err(NoMemory) => Err(SessionRefusal::NoMemory),
+        },
+        Err(refusal) => Err(refusal),
+    }
+}
+
+/// The tables and the boards of a document, or its first fault.
+fn tables_and_boards(alloc: Global, document: &Table) -> Result<(Tables, Boards), SessionRefusal>
+    ensures none { OnOk result (spec.faults (table_view document.now) ≡ []) }
+    ensures tables { let ms = table_view document.now in
+        IfOk result (λ both. AreTables (format_of ms) (tables_of ms) both.0) }
+    ensures boards { IfOk result (λ both. both.1 ≡ boards_of (table_view document.now)) }
+    ensures first { IfErr result (spec.TellsFault (spec.faults (table_view document.now))) }
+{
+    check_shape(alloc, document)?;
+    check_counts(alloc, document)?;
+    let boards = boards(alloc, document)?;
     check_names(alloc, boards.as_slice())?;
-    Ok(Session {
-        settings: settings(&document),
-        tables: tables(alloc, &document)?,
-        boards,
-        scripts: scripts(alloc, document)?,
-    })
+    match tables(alloc, document) {
+        Ok(tables) => Ok((tables, boards)),
+        Err(refusal) => Err(refusal),
+    }
 }
 
 /// The kinds and the rules of all values.

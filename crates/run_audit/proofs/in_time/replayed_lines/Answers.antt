@@ -1,4 +1,5 @@
-use Rattle.std.proofs.Common.{append_assoc}
+use Rattle.std.proofs.Common.{append_assoc, arith}
+use Rattle.std.proofs.lemmas.Grind.{common_steps}
 use Rattle.run_audit.proofs.Walking.{drop_here}
 use Rattle.run_audit.proofs.in_time.replayed_lines.Goals as goal
 
@@ -8,3 +9,6 @@ loop-client-preserved c =
     c.index-scripts-client.is in
     rw (c.in_ok-append.ensures.items, append_assoc, c.in_ok-lines.ensures, c.as_slice.ensures)
     (rw rest at c.loop-client.invariant)
+
+pub returns : goal.returns
+returns c = grind (arith, common_steps)

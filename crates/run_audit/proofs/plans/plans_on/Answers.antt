@@ -1,4 +1,5 @@
-use Rattle.std.proofs.Common.{ap, ◌∙◌}
+use Rattle.std.proofs.Common.{ap, ◌∙◌, arith}
+use Rattle.std.proofs.lemmas.Grind.{common_steps}
 use Rattle.script_plans.specs.Plan.{planned_on}
 use Rattle.run_audit.specs.Replaying.{HasShortBodies}
 use Rattle.run_audit.proofs.ShortBodies.{fitting_is_short, one_more_short, plans_taken}
@@ -19,3 +20,9 @@ loop-steps-preserved c =
           (fitting_is_short c.greeting_of-greeting.result c.args.board c.as_slice.result.now c.in_ok-plan_on.field-0
           c.greeting_of-greeting.ensures.payload c.in_ok-plan_on.ensures.planned c.in_ok-plan_on.ensures.room));
     }
+
+pub returns-clause-plans : goal.returns-clause-plans
+returns-clause-plans c = grind (arith, common_steps)
+
+pub returns-clause-short : goal.returns-clause-short
+returns-clause-short c = grind (arith, common_steps)

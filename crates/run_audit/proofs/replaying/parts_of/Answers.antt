@@ -1,6 +1,7 @@
 use Rattle.run_audit.proofs.Replays.{parts_done}
 use Rattle.run_audit.proofs.Walking.{drop_here}
-use Rattle.std.proofs.Common.{◌∙◌, append_assoc}
+use Rattle.std.proofs.Common.{◌∙◌, append_assoc, arith}
+use Rattle.std.proofs.lemmas.Grind.{common_steps}
 use Rattle.std.specs.Vec.Iter.{into_iter_items}
 use Rattle.run_audit.proofs.replaying.parts_of.Goals as goal
 
@@ -23,3 +24,6 @@ loop-row-preserved c =
       c.new.ensures.items,
     )
     (rw (c.in-Some.ensures.items, row) at c.loop-row.invariant)
+
+pub returns-in_default : goal.returns-in_default
+returns-in_default c = grind (arith, common_steps)

@@ -1,5 +1,7 @@
 use Rattle.std.proofs.Common.{arith}
 use Rattle.std.proofs.lemmas.Grind.{common_steps}
+use Rattle.script_lang.proofs.MaskedValues.{kept_field}
+use Rattle.script_lang.proofs.Packable.{cut_kept}
 use Rattle.script_lang.proofs.using.use_of.Goals as goal
 
 pub returns-in-Some-clause-used : goal.returns-in-Some-clause-used
@@ -16,3 +18,9 @@ returns-in_err-copy_of-clause-packed c = grind (arith, common_steps)
 
 pub returns-clause-used : goal.returns-clause-used
 returns-clause-used c = grind (arith, common_steps)
+
+pub returns-clause-packed : goal.returns-clause-packed
+returns-clause-packed c = grind (arith, kept_field, cut_kept)
+
+pub op_on-requires-clause-fits : goal.op_on-requires-clause-fits
+op_on-requires-clause-fits c = grind (arith, kept_field)

@@ -1,0 +1,15 @@
+use Rattle.std.proofs.Common.{arith}
+use Rattle.std.proofs.lemmas.Grind.{elements}
+use Rattle.run_audit.proofs.run_pieces.sent_pieces.Goals as goal
+
+pub returns-in_err-run : goal.returns-in_err-run
+returns-in_err-run c = grind (arith, elements)
+
+pub returns-in_default : goal.returns-in_default
+returns-in_default c = grind (arith, elements)
+
+pub returns-in_err-part : goal.returns-in_err-part
+returns-in_err-part c = grind (arith, elements)
+
+pub returns : goal.returns
+returns c = grind (arith, elements)
