@@ -1,7 +1,8 @@
-use Rattle.std.proofs.Common.{◌∙◌, ◌++◌, ap, length, map, refl, arith}
+use Rattle.std.proofs.Common.{◌∙◌, ◌++◌, ap, length, map, arith}
+use Rattle.std.proofs.lemmas.Result.{IfOk-from_err}
 use Rattle.board_greeting.specs.Reports.{shown_by}
 use Rattle.board_greeting.proofs.Boards.{made_still}
-use Rattle.session_run.proofs.Sessions.{fault_counted, fresh_are_left, untouched_all}
+use Rattle.session_run.proofs.Sessions.{fresh_are_left, untouched_all}
 use Rattle.session_run.proofs.session.run_session.Goals as goal
 
 pub returns-in_err-boards-clause-left : goal.returns-in_err-boards-clause-left
@@ -13,6 +14,9 @@ returns-in_err-boards-clause-left g c =
       fresh_are_left c.a_fresh_link_is_left.ensures c.args.settings 0 c.args.specs.now c.args.scripts.now
           (map shows left.0) left.2.0,
     )
+
+pub returns-in_err-boards-clause-ran : goal.returns-in_err-boards-clause-ran
+returns-in_err-boards-clause-ran g c = IfOk-from_err c.from_residual.result _ c.from_residual.ensures.0
 
 pub returns-in_err-boards-clause-untouched : goal.returns-in_err-boards-clause-untouched
 returns-in_err-boards-clause-untouched g c =
