@@ -1,6 +1,6 @@
 -- Turns that are made from the last value on, and values taken back.
 use Rattle.std.proofs.Common.{◌≡◌, ◌≢◌, ◌≤◌, ℕ, zero, suc, inl, List, [], ◌∷◌, ◌++◌, map, reverse, length, drop, refl}
-use Rattle.std.proofs.Common.{sym, ap, subst, ◌∙◌, arith, append-nil, append_assoc}
+use Rattle.std.proofs.Common.{get_or, sym, ap, subst, ◌∙◌, arith, append-nil, append_assoc}
 use Rattle.std.specs.List.{AllByRecursion}
 use Rattle.std.proofs.lemmas.List.{length-map, map-append, reverse-append}
 use Rattle.std.proofs.Math.Seq.{drop-append_seam}
@@ -151,3 +151,13 @@ turns_opened records turns passes opened =
     ap length (sym opened.are_fresh.same_turns)
     ∙ (length-map passes (λ (p : PassState). p.turn)
     ∙ (sym (length-map passes (λ (p : PassState). p.knows.opening)) ∙ ap length opened.openings))
+
+-- ---- the room at the end
+
+-- the room that is taken at the end is that for so many lanes
+pub room_enough : (count : ℕ) (pass : PassState) (final : Record) (found : ℕ) → IsRoomPass count pass
+    → Told pass.knows final → final.head ≡ found ∷ [] → count ≤ found
+room_enough count pass final found room told is =
+    let same : found ∷ [] ≡ room.capacity ∷ [] = sym is ∙ (told.opening_begins.head ∙ room.opening_is) in
+    let there : found ≡ room.capacity = ap (λ (l : List ℕ). get_or l 0 0) same in
+    let enough = room.enough in omega (arith, there, enough)

@@ -27,7 +27,8 @@ give-requires-clause-grows g c κs within =
 
 pub returns-clause-same : goal.returns-clause-same
 returns-clause-same g c =
-    same_pass c.args.pass.now c.take-lane.new.pass c.give.new.pass _ _ c.take-lane.ensures.taken c.give.ensures c.requires.idle.0
+    same_pass c.args.pass.now c.take-lane.new.pass c.give.new.pass _ _ c.take-lane.ensures.taken c.give.ensures
+    c.requires.idle.0
 
 pub returns-clause-number : goal.returns-clause-number
 returns-clause-number g c =

@@ -30,7 +30,8 @@ returns-in_err-asked-clause-tried g c = IfOk-from_err c.from_residual.result _ c
 
 pub returns-in_err-asked-clause-same : goal.returns-in_err-asked-clause-same
 returns-in_err-asked-clause-same g c =
-    same_pass c.args.pass.now c.try_take.new.pass c.give.new.pass _ _ c.in-Some.ensures.taken c.give.ensures c.requires.idle.0
+    same_pass c.args.pass.now c.try_take.new.pass c.give.new.pass _ _ c.in-Some.ensures.taken c.give.ensures
+    c.requires.idle.0
 
 pub returns-in_err-asked-clause-number : goal.returns-in_err-asked-clause-number
 returns-in_err-asked-clause-number g c =
@@ -39,7 +40,8 @@ returns-in_err-asked-clause-number g c =
 
 pub returns-clause-same : goal.returns-clause-same
 returns-clause-same g c =
-    same_pass c.args.pass.now c.try_take.new.pass c.give.new.pass _ _ c.in-Some.ensures.taken c.give.ensures c.requires.idle.0
+    same_pass c.args.pass.now c.try_take.new.pass c.give.new.pass _ _ c.in-Some.ensures.taken c.give.ensures
+    c.requires.idle.0
 
 pub returns-clause-number : goal.returns-clause-number
 returns-clause-number g c =
