@@ -81,6 +81,16 @@ last_same (z ∷ zs) (w ∷ ws) x y e = let t = last_same zs ws x y (rest_same z
     rest_same : {A : Type 0} (a b : A) (as' bs : List A) → a ∷ as' ≡ b ∷ bs → as' ≡ bs
     rest_same a b as' bs e = cc
 
+-- the last pass is a fresh one of the last turn
+pub last_fresh : (turns ts : List TurnId) (t : TurnId) (passes ps : List PassState) (p : PassState)
+    → AreFresh turns passes → turns ≡ ts ++ t ∷ [] → passes ≡ ps ++ p ∷ [] → (p.turn ≡ t) × IsFresh p
+last_fresh turns ts t passes ps p f turns_are passes_are =
+    let turned : turns_of ps ++ p.turn ∷ [] ≡ ts ++ t ∷ [] = sym (map-append (λ (z : PassState). z.turn) ps (p ∷ []))
+    ∙ (ap turns_of (sym passes_are) ∙ (f.same_turns ∙ turns_are)) in (
+      (last_same (turns_of ps) ts p.turn t turned).1,
+      (back_of_all IsFresh ps (p ∷ []) (subst (AllByRecursion IsFresh) passes_are f.fresh)).0,
+    )
+
 -- the last turn was taken back
 pub one_back : (turns ts : List TurnId) (t : TurnId) (passes ps : List PassState) (p : PassState)
     (records : List Record) (r : Record) → AreFresh turns passes → turns ≡ ts ++ t ∷ [] → passes ≡ ps ++ p ∷ []
