@@ -1,7 +1,7 @@
 use Rattle.std.proofs.Common.{◌∙◌, Some, ap, map, sym, subst, arith}
 use Rattle.std.proofs.lemmas.Grind.{common_steps}
 use Rattle.std.proofs.lemmas.Option.{same_Some}
-use Rattle.std.proofs.lemmas.Result.{IfOk-from_err, IfOk-weaker}
+use Rattle.std.proofs.lemmas.Result.{IfOk-weaker}
 use Rattle.std.specs.List.{AllByRecursion}
 use Rattle.std.proofs.lemmas.List.{take_all}
 use Rattle.script_plans.specs.Plan.{plans_on}
@@ -44,36 +44,3 @@ loop-steps-preserved c = grind (arith, common_steps)
 
 pub returns-clause-greeting : goal.returns-clause-greeting
 returns-clause-greeting c = grind (arith, common_steps)
-
-pub returns-in_err-parts-clause-scripts : goal.returns-in_err-parts-clause-scripts
-returns-in_err-parts-clause-scripts c = IfOk-from_err c.from_residual.result _ c.from_residual.ensures.0
-
-pub returns-in_err-parts-clause-greeting : goal.returns-in_err-parts-clause-greeting
-returns-in_err-parts-clause-greeting c = IfOk-from_err c.from_residual.result _ c.from_residual.ensures.0
-
-pub returns-in_err-parts-clause-lates : goal.returns-in_err-parts-clause-lates
-returns-in_err-parts-clause-lates c = IfOk-from_err c.from_residual.result _ c.from_residual.ensures.0
-
-pub returns-in_err-planned-clause-scripts : goal.returns-in_err-planned-clause-scripts
-returns-in_err-planned-clause-scripts c =
-    IfOk-from_err c.from_residual-in_err-planned.result _ c.from_residual-in_err-planned.ensures.0
-
-pub returns-in_err-planned-clause-greeting : goal.returns-in_err-planned-clause-greeting
-returns-in_err-planned-clause-greeting c =
-    IfOk-from_err c.from_residual-in_err-planned.result _ c.from_residual-in_err-planned.ensures.0
-
-pub returns-in_err-planned-clause-lates : goal.returns-in_err-planned-clause-lates
-returns-in_err-planned-clause-lates c =
-    IfOk-from_err c.from_residual-in_err-planned.result _ c.from_residual-in_err-planned.ensures.0
-
-pub returns-in_err-push-clause-scripts : goal.returns-in_err-push-clause-scripts
-returns-in_err-push-clause-scripts c =
-    IfOk-from_err c.from_residual-in_err-push.result _ c.from_residual-in_err-push.ensures.0
-
-pub returns-in_err-push-clause-greeting : goal.returns-in_err-push-clause-greeting
-returns-in_err-push-clause-greeting c =
-    IfOk-from_err c.from_residual-in_err-push.result _ c.from_residual-in_err-push.ensures.0
-
-pub returns-in_err-push-clause-lates : goal.returns-in_err-push-clause-lates
-returns-in_err-push-clause-lates c =
-    IfOk-from_err c.from_residual-in_err-push.result _ c.from_residual-in_err-push.ensures.0

@@ -1,6 +1,5 @@
 use Rattle.std.proofs.Common.{◌∙◌, refl, arith}
 use Rattle.std.proofs.lemmas.Grind.{common_steps}
-use Rattle.std.proofs.lemmas.Result.{IfOk-from_err}
 use Rattle.std.specs.Vec.Iter.{into_iter_items}
 use Rattle.session_run.proofs.PartLists.{client_done}
 use Rattle.session_run.proofs.parts.parts_on_next.Goals as goal
@@ -22,17 +21,3 @@ returns-clause-parts c = grind (arith, common_steps)
 
 pub returns-clause-others : goal.returns-clause-others
 returns-clause-others c = grind (arith, common_steps)
-
-pub returns-in_err-parts-clause-parts : goal.returns-in_err-parts-clause-parts
-returns-in_err-parts-clause-parts c = IfOk-from_err c.from_residual.result _ c.from_residual.ensures.0
-
-pub returns-in_err-parts-clause-others : goal.returns-in_err-parts-clause-others
-returns-in_err-parts-clause-others c = IfOk-from_err c.from_residual.result _ c.from_residual.ensures.0
-
-pub returns-in_err-push-clause-parts : goal.returns-in_err-push-clause-parts
-returns-in_err-push-clause-parts c =
-    IfOk-from_err c.from_residual-in_err-push.result _ c.from_residual-in_err-push.ensures.0
-
-pub returns-in_err-push-clause-others : goal.returns-in_err-push-clause-others
-returns-in_err-push-clause-others c =
-    IfOk-from_err c.from_residual-in_err-push.result _ c.from_residual-in_err-push.ensures.0

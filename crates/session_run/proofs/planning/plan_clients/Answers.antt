@@ -1,6 +1,5 @@
 use Rattle.std.proofs.Common.{ℕ, List, ◌∙◌, ◌∷◌, ◌++◌, [], ◌+◌, ap, refl, subst, sym, arith}
 use Rattle.std.proofs.lemmas.Grind.{common_steps}
-use Rattle.std.proofs.lemmas.Result.{IfOk-from_err}
 use Rattle.std.specs.List.{AllByRecursion}
 use Rattle.std.proofs.lemmas.List.{take_all}
 use Rattle.lane_record.specs.declared.item.Item.{Item}
@@ -162,48 +161,3 @@ returns-clause-some g c =
     subst (λ (p : List ClientBodies). IsPartlyPlanned (bodies_of_plans p) c.seal.new.self.items)
     (returns-clause-plans g c)
     (subst (IsPartlyPlanned bodies) (sym items) (law.more bodies all the_seal refl (omega arith) (law.plans bodies)))
-
-pub returns-in_err-plans-clause-plans : goal.returns-in_err-plans-clause-plans
-returns-in_err-plans-clause-plans g c = IfOk-from_err c.from_residual.result _ c.from_residual.ensures.0
-
-pub returns-in_err-plans-clause-few : goal.returns-in_err-plans-clause-few
-returns-in_err-plans-clause-few g c = IfOk-from_err c.from_residual.result _ c.from_residual.ensures.0
-
-pub returns-in_err-plans-clause-planned : goal.returns-in_err-plans-clause-planned
-returns-in_err-plans-clause-planned g c = IfOk-from_err c.from_residual.result _ c.from_residual.ensures.0
-
-pub returns-in_err-planned-clause-plans : goal.returns-in_err-planned-clause-plans
-returns-in_err-planned-clause-plans g c =
-    IfOk-from_err c.from_residual-in_err-planned.result _ c.from_residual-in_err-planned.ensures.0
-
-pub returns-in_err-planned-clause-few : goal.returns-in_err-planned-clause-few
-returns-in_err-planned-clause-few g c =
-    IfOk-from_err c.from_residual-in_err-planned.result _ c.from_residual-in_err-planned.ensures.0
-
-pub returns-in_err-planned-clause-planned : goal.returns-in_err-planned-clause-planned
-returns-in_err-planned-clause-planned g c =
-    IfOk-from_err c.from_residual-in_err-planned.result _ c.from_residual-in_err-planned.ensures.0
-
-pub returns-in_err-plan_bodies-clause-plans : goal.returns-in_err-plan_bodies-clause-plans
-returns-in_err-plan_bodies-clause-plans g c =
-    IfOk-from_err c.from_residual-in_err-plan_bodies.result _ c.from_residual-in_err-plan_bodies.ensures.0
-
-pub returns-in_err-plan_bodies-clause-few : goal.returns-in_err-plan_bodies-clause-few
-returns-in_err-plan_bodies-clause-few g c =
-    IfOk-from_err c.from_residual-in_err-plan_bodies.result _ c.from_residual-in_err-plan_bodies.ensures.0
-
-pub returns-in_err-plan_bodies-clause-planned : goal.returns-in_err-plan_bodies-clause-planned
-returns-in_err-plan_bodies-clause-planned g c =
-    IfOk-from_err c.from_residual-in_err-plan_bodies.result _ c.from_residual-in_err-plan_bodies.ensures.0
-
-pub returns-in_err-push-clause-plans : goal.returns-in_err-push-clause-plans
-returns-in_err-push-clause-plans g c =
-    IfOk-from_err c.from_residual-in_err-push.result _ c.from_residual-in_err-push.ensures.0
-
-pub returns-in_err-push-clause-few : goal.returns-in_err-push-clause-few
-returns-in_err-push-clause-few g c =
-    IfOk-from_err c.from_residual-in_err-push.result _ c.from_residual-in_err-push.ensures.0
-
-pub returns-in_err-push-clause-planned : goal.returns-in_err-push-clause-planned
-returns-in_err-push-clause-planned g c =
-    IfOk-from_err c.from_residual-in_err-push.result _ c.from_residual-in_err-push.ensures.0
