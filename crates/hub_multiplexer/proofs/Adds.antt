@@ -127,12 +127,3 @@ may_give_either {A} {E} client old mid before after vain P Q r took number ok er
         → IfErr r (λ e. Means client before (Q e) after) → GrowsBy client before after
     cases (Ok a) ok err = may_give client before ok.added after ok.grew
     cases (Err e) ok err = may_give client before err.added after err.grew
-
--- a pass that took the value and gave it back is as it was, but for what it knows
-pub same_pass : (old took gave : PassState) (seen given : Knowledge)
-    → took ≡ record old { holds = true; knows = seen } → gave ≡ record took { holds = false; knows = given }
-    → old.holds ≡ false → gave ≡ record old { knows = gave.knows }
-same_pass old took gave seen given took_is gave_is idle =
-    subst (λ (p : PassState). p ≡ record old { knows = p.knows }) (sym gave_is)
-    (subst (λ (p : PassState). record p { holds = false; knows = given } ≡ record old { knows = given }) (sym took_is)
-    (ap (λ h. record old { holds = h; knows = given }) (sym idle)))

@@ -1,8 +1,6 @@
-use Rattle.std.proofs.Common.{ap, ◌∙◌}
 use Rattle.std.proofs.lemmas.Result.{IfOk-weaker, IfErr-weaker}
-use Rattle.turn_pass.specs.Pass.{PassState}
 use Rattle.hub_multiplexer.specs.Calls.{HasSubmitted, SubmitRefused}
-use Rattle.hub_multiplexer.proofs.Adds.{in_time, may_give_either, same_pass}
+use Rattle.hub_multiplexer.proofs.Adds.{in_time, may_give_either}
 use Rattle.hub_multiplexer.proofs.Submits.{all_asked_there}
 use Rattle.hub_multiplexer.proofs.calls.submit.Goals as goal
 
@@ -31,13 +29,3 @@ returns-clause-refused g c =
     IfErr-weaker c.submit_on-submitted.result _ _ (λ why means. in_time c.args.client c.args.pass.now
     c.take-lane.new.pass c.give.new.pass _ _ (λ k. SubmitRefused k c.args.body why) means c.requires.idle.1
     taken.told taken.vain taken.taken c.give.ensures) c.submit_on-submitted.ensures.refused
-
-pub returns-clause-same : goal.returns-clause-same
-returns-clause-same g c =
-    same_pass c.args.pass.now c.take-lane.new.pass c.give.new.pass _ _ c.take-lane.ensures.taken c.give.ensures
-    c.requires.idle.0
-
-pub returns-clause-number : goal.returns-clause-number
-returns-clause-number g c =
-    ap (λ (p : PassState). p.knows.number) c.give.ensures
-    ∙ (ap (λ (p : PassState). p.knows.number) c.take-lane.ensures.taken ∙ c.requires.idle.1)

@@ -1,8 +1,5 @@
-use Rattle.std.proofs.Common.{ap, ◌∙◌}
-use Rattle.std.proofs.lemmas.Result.{IfOk-from_err}
-use Rattle.turn_pass.specs.Pass.{PassState}
 use Rattle.hub_multiplexer.specs.Calls.{IsNone, AskMeans}
-use Rattle.hub_multiplexer.proofs.Adds.{at_once, may_give_back, same_pass}
+use Rattle.hub_multiplexer.proofs.Adds.{at_once, may_give_back}
 use Rattle.lane_tables.proofs.Results.{on_err_holds}
 use Rattle.hub_multiplexer.proofs.calls.try_ask.Goals as goal
 
@@ -24,26 +21,3 @@ give-requires-clause-grows g c κs within =
     may_give_back c.args.client c.args.pass.now c.try_take.new.pass _ _ c.args.pass.now.knows.vain
     (λ answer k. AskMeans k answer) (λ _. IsNone) c.ask_on-asked.result c.in-Some.ensures.taken c.requires.idle.1
     c.ask_on-asked.ensures.asked c.ask_on-asked.ensures.looked
-
-pub returns-in_err-asked-clause-tried : goal.returns-in_err-asked-clause-tried
-returns-in_err-asked-clause-tried g c = IfOk-from_err c.from_residual.result _ c.from_residual.ensures.0
-
-pub returns-in_err-asked-clause-same : goal.returns-in_err-asked-clause-same
-returns-in_err-asked-clause-same g c =
-    same_pass c.args.pass.now c.try_take.new.pass c.give.new.pass _ _ c.in-Some.ensures.taken c.give.ensures
-    c.requires.idle.0
-
-pub returns-in_err-asked-clause-number : goal.returns-in_err-asked-clause-number
-returns-in_err-asked-clause-number g c =
-    ap (λ (p : PassState). p.knows.number) c.give.ensures
-    ∙ (ap (λ (p : PassState). p.knows.number) c.in-Some.ensures.taken ∙ c.requires.idle.1)
-
-pub returns-clause-same : goal.returns-clause-same
-returns-clause-same g c =
-    same_pass c.args.pass.now c.try_take.new.pass c.give.new.pass _ _ c.in-Some.ensures.taken c.give.ensures
-    c.requires.idle.0
-
-pub returns-clause-number : goal.returns-clause-number
-returns-clause-number g c =
-    ap (λ (p : PassState). p.knows.number) c.give.ensures
-    ∙ (ap (λ (p : PassState). p.knows.number) c.in-Some.ensures.taken ∙ c.requires.idle.1)

@@ -1,9 +1,7 @@
-use Rattle.std.proofs.Common.{ap, ◌∙◌}
-use Rattle.turn_pass.specs.Pass.{PassState}
 use Rattle.std.proofs.lemmas.Result.{IfOk-weaker, on_err_weaker}
 use Rattle.hub_multiplexer.specs.Calls.{IsNone}
 use Rattle.hub_multiplexer.specs.Waiting.{FindMeans}
-use Rattle.hub_multiplexer.proofs.Adds.{in_time, may_give_back, same_pass}
+use Rattle.hub_multiplexer.proofs.Adds.{in_time, may_give_back}
 use Rattle.hub_multiplexer.proofs.waiting.visit.Goals as goal
 
 pub returns-clause-found : goal.returns-clause-found
@@ -25,13 +23,3 @@ give-requires-clause-grows g c κs within =
     may_give_back c.args.client c.args.pass.now c.take-lane.new.pass _ _ c.take-lane.new.pass.knows.vain
     (λ answer k. FindMeans k answer) (λ _. IsNone) c.visit_on-found.result c.take-lane.ensures.taken
     c.requires.idle.1 c.visit_on-found.ensures.found c.visit_on-found.ensures.looked
-
-pub returns-clause-same : goal.returns-clause-same
-returns-clause-same g c =
-    same_pass c.args.pass.now c.take-lane.new.pass c.give.new.pass _ _ c.take-lane.ensures.taken c.give.ensures
-    c.requires.idle.0
-
-pub returns-clause-number : goal.returns-clause-number
-returns-clause-number g c =
-    ap (λ (p : PassState). p.knows.number) c.give.ensures
-    ∙ (ap (λ (p : PassState). p.knows.number) c.take-lane.ensures.taken ∙ c.requires.idle.1)
