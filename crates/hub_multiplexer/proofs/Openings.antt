@@ -1,6 +1,6 @@
 -- Turns that are made from the last value on, and values taken back.
 use Rattle.std.proofs.Common.{◌≡◌, ◌≢◌, ◌≤◌, ℕ, zero, suc, inl, List, [], ◌∷◌, ◌++◌, map, reverse, length, drop, refl}
-use Rattle.std.proofs.Common.{sym, ap, subst, ◌∙◌, arith, append-nil, append_assoc}
+use Rattle.std.proofs.Common.{get_or, sym, ap, subst, ◌∙◌, arith, append-nil, append_assoc}
 use Rattle.std.specs.List.{AllByRecursion}
 use Rattle.std.proofs.lemmas.List.{length-map, map-append, reverse-append}
 use Rattle.std.proofs.Math.Seq.{drop-append_seam}
@@ -81,6 +81,16 @@ last_same (z ∷ zs) (w ∷ ws) x y e = let t = last_same zs ws x y (rest_same z
     rest_same : {A : Type 0} (a b : A) (as' bs : List A) → a ∷ as' ≡ b ∷ bs → as' ≡ bs
     rest_same a b as' bs e = cc
 
+-- the last pass is a fresh one of the last turn
+pub last_fresh : (turns ts : List TurnId) (t : TurnId) (passes ps : List PassState) (p : PassState)
+    → AreFresh turns passes → turns ≡ ts ++ t ∷ [] → passes ≡ ps ++ p ∷ [] → (p.turn ≡ t) × IsFresh p
+last_fresh turns ts t passes ps p f turns_are passes_are =
+    let turned : turns_of ps ++ p.turn ∷ [] ≡ ts ++ t ∷ [] = sym (map-append (λ (z : PassState). z.turn) ps (p ∷ []))
+    ∙ (ap turns_of (sym passes_are) ∙ (f.same_turns ∙ turns_are)) in (
+      (last_same (turns_of ps) ts p.turn t turned).1,
+      (back_of_all IsFresh ps (p ∷ []) (subst (AllByRecursion IsFresh) passes_are f.fresh)).0,
+    )
+
 -- the last turn was taken back
 pub one_back : (turns ts : List TurnId) (t : TurnId) (passes ps : List PassState) (p : PassState)
     (records : List Record) (r : Record) → AreFresh turns passes → turns ≡ ts ++ t ∷ [] → passes ≡ ps ++ p ∷ []
@@ -151,3 +161,13 @@ turns_opened records turns passes opened =
     ap length (sym opened.are_fresh.same_turns)
     ∙ (length-map passes (λ (p : PassState). p.turn)
     ∙ (sym (length-map passes (λ (p : PassState). p.knows.opening)) ∙ ap length opened.openings))
+
+-- ---- the room at the end
+
+-- the room that is taken at the end is that for so many lanes
+pub room_enough : (count : ℕ) (pass : PassState) (final : Record) (found : ℕ) → IsRoomPass count pass
+    → Told pass.knows final → final.head ≡ found ∷ [] → count ≤ found
+room_enough count pass final found room told is =
+    let same : found ∷ [] ≡ room.capacity ∷ [] = sym is ∙ (told.opening_begins.head ∙ room.opening_is) in
+    let there : found ≡ room.capacity = ap (λ (l : List ℕ). get_or l 0 0) same in
+    let enough = room.enough in omega (arith, there, enough)

@@ -5,6 +5,7 @@ pub mod Moved
 pub mod OneText
 pub mod Ruled
 mod Served
+mod Listed
 mod Recorded
 pub mod OnBoards
 mod Alone

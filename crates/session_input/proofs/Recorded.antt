@@ -1,5 +1,5 @@
 -- What a session breaks whose board is to be recorded.
-use Rattle.std.proofs.Common.{◌≡◌, ◌≢◌, ◌⊎◌, ◌∙◌, ℕ, List, [], ◌∷◌, length, Option, inl, inr, refl, sym, subst}
+use Rattle.std.proofs.Common.{◌≡◌, ◌≢◌, ◌∙◌, ℕ, List, [], ◌∷◌, length, Option, inl, inr, refl, sym, subst}
 use Rattle.std.specs.Prelude.{get_or}
 use Rattle.access_policy.specs.declared.policy.Rule.{Rule}
 use Rattle.board_node.specs.declared.spec.BoardSpec.{BoardSpec}

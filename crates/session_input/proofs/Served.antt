@@ -14,3 +14,7 @@ pub as_in_run : (s : Session) (policy : Option (List Rule)) (r : Refusal) → is
     → BreaksInRun s None r → BreaksInServe s policy r
 as_in_run s None r is broken = broken
 as_in_run s (Some rules) r is broken = absurd cc
+
+pub no_policy : (policy : Option (List Rule)) → is_some policy ≡ false → policy ≡ None
+no_policy None is = refl
+no_policy (Some rules) is = absurd cc

@@ -7,7 +7,7 @@ use Rattle.session_input.specs.declared.refusal.Unread.{Unread}
 use Rattle.session_input.specs.declared.refusal.Unread.TheVariants as unread
 use Rattle.session_input.specs.Deserved.{Tells}
 
-weaker : (P Q : Refusal → Type 0) → ((r : Refusal) → P r → Q r) → (u : Unread) → Tells P u → Tells Q u
+pub weaker : (P Q : Refusal → Type 0) → ((r : Refusal) → P r → Q r) → (u : Unread) → Tells P u → Tells Q u
 weaker P Q gives (unread.Refused refusal) told = gives refusal told
 weaker P Q gives unread.NoMemory told = tt
 

@@ -55,9 +55,8 @@ pub fn read_for_run(alloc: Global, bytes: &[u8]) -> Result<Runnable, Unread>
     ensures limits { IfOk result (λ read. AreWithinLimits read.steps.items) }
     ensures short { IfOk result (λ read. AllByRecursion (λ steps. length steps ≤ MAX_LINES) read.steps.items) }
 {
-    let Stated { session, policy } = read(alloc, bytes)?;
-    let steps = ruled_steps(alloc, &session, policy)?;
-    Ok(Runnable { session, steps })
+    let stated = read(alloc, bytes)?;
+    with_steps(alloc, stated)
 }
 
 /// Reads a document to serve its boards (profile): the session that the bytes stand for, which has no policy and could
@@ -71,9 +70,10 @@ pub fn read_for_serve(alloc: Global, bytes: &[u8]) -> Result<Session, Unread>
     if served.policy.is_some() {
         return Err(Unread::Refused(Refusal::NoServe));
     }
-    let Stated { session, .. } = served;
-    steps_of(alloc, &session)?;
-    Ok(session)
+    match with_steps(alloc, served) {
+        Ok(Runnable { session, .. }) => Ok(session),
+        Err(unread) => Err(unread),
+    }
 }
 
 /// Reads a document to list the registers of a table (profile): the index of the table of this name, or else the first
@@ -83,8 +83,7 @@ pub fn read_for_check(alloc: Global, bytes: &[u8], table: &str) -> Result<Index,
     ensures refused { IfErr result (spec.Tells (spec.Deserves (spec.BreaksInCheck table.now) bytes.now)) }
 {
     let listed = read(alloc, bytes)?;
-    let index = index_of(alloc, &listed.session.tables, table)?;
-    Ok(index)
+    index_of(alloc, &listed.session.tables, table)
 }
 
 /// The session that bytes stand for, and its policy.
@@ -187,8 +186,26 @@ fn refused(refusal: SessionRefusal) -> Unread
     }
 }
 
+/// What is read, with the steps of the scripts under the policy, where the session can be run.
+pub(crate) fn with_steps(alloc: Global, stated: Stated) -> Result<Runnable, Unread>
+    requires { IsWithin stated.session }
+    ensures session { IfOk result (λ read. read.session ≡ stated.session) }
+    ensures runs { IfOk result (λ read. spec.AreSteps stated.session stated.policy read.steps.items) }
+    ensures refused { IfErr result (spec.Tells (spec.BreaksInRun stated.session stated.policy)) }
+    ensures packed { IfOk result (λ read. AllByRecursion (AllByRecursion CanBePacked) read.steps.items) }
+    ensures few { IfOk result (λ read. AllByRecursion HaveFewPieces read.steps.items) }
+    ensures limits { IfOk result (λ read. AreWithinLimits read.steps.items) }
+    ensures short { IfOk result (λ read. AllByRecursion (λ steps. length steps ≤ MAX_LINES) read.steps.items) }
+{
+    let Stated { session, policy } = stated;
+    match ruled_steps(alloc, &session, policy) {
+        Ok(steps) => Ok(Runnable { session, steps }),
+        Err(unread) => Err(unread),
+    }
+}
+
 /// The steps of a session that can be run, under a policy where there is one.
-pub(crate) fn ruled_steps(
+fn ruled_steps(
     alloc: Global,
     session: &Session,
     policy: Option<Policy>,
@@ -220,8 +237,10 @@ pub fn under_policy(
         return Ok(steps);
     };
     let mut ruled = steps;
-    rule_scripts(alloc, &policy, session, &mut ruled)?;
-    Ok(ruled)
+    match rule_scripts(alloc, &policy, session, &mut ruled) {
+        Ok(()) => Ok(ruled),
+        Err(NoMemory) => Err(NoMemory),
+    }
 }
 
 /// The steps of a session that can be run.

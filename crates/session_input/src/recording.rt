@@ -8,7 +8,7 @@ ghost use Rattle.script_lang.specs.declared.script_refusal.TheConstants.{MAX_LIN
 ghost use Rattle.session_input.specs.Deserved.{Deserves, Tells};
 ghost use Rattle.session_input.specs.Recording as spec;
 
-use crate::reading::{Runnable, Stated, read, ruled_steps};
+use crate::reading::{Runnable, read, with_steps};
 use crate::refusal::{Refusal, Unread};
 use board_node::{BoardSpec, LinkSpec};
 use ipb_base::Text;
@@ -27,10 +27,9 @@ pub fn read_for_record(alloc: Global, bytes: &[u8]) -> Result<Runnable, Unread>
     ensures limits { IfOk result (λ read. AreWithinLimits read.steps.items) }
     ensures short { IfOk result (λ read. AllByRecursion (λ steps. length steps ≤ MAX_LINES) read.steps.items) }
 {
-    let Stated { session, policy } = read(alloc, bytes)?;
-    check_boards(alloc, &session)?;
-    let steps = ruled_steps(alloc, &session, policy)?;
-    Ok(Runnable { session, steps })
+    let stated = read(alloc, bytes)?;
+    check_boards(alloc, &stated.session)?;
+    with_steps(alloc, stated)
 }
 
 /// Whether a session has one board, which is simulated.

@@ -2,10 +2,13 @@
 use Rattle.std.proofs.Common.{◌≡◌, ℕ, ◌+◌, ◌<◌, ◌∙◌, inl, inr, Bool, true, List, [], ◌∷◌, ◌++◌, length, map}
 use Rattle.std.proofs.Common.{refl, sym, ap, subst, arith, append_assoc, append-nil, length-append, take}
 use Rattle.std.proofs.Common.{drop, get_or}
-use Rattle.std.specs.Prelude.{IfOk, Result, Ok, Err}
+use Rattle.std.specs.Prelude.{IfOk, IsErrAnd, Result, Ok, Err}
 use Rattle.std.specs.List.{AllByRecursion}
 use Rattle.std.proofs.lemmas.List.{length-drop, length-map, length-take-le, map_push, take_more}
 use Rattle.world_model.specs.Settings.{Limits}
+use Rattle.ipb_outside.specs.Faults.{RisesExactlyIf}
+use Rattle.lossy_network.specs.declared.rack.RackFault.{RackFault}
+use Rattle.lossy_network.specs.declared.rack.RackFault.TheVariants as rack
 use Rattle.board_node.specs.declared.spec.BoardSpec.{BoardSpec}
 use Rattle.script_steps.specs.declared.operation.Step.{Step}
 use Rattle.script_plans.specs.declared.board_run.BoardRun.{BoardRun}
@@ -17,7 +20,10 @@ use Rattle.session_run.specs.Boards.{OnRun}
 use Rattle.session_run.specs.Places.{AreCameOf, IsCameOf}
 use Rattle.board_greeting.specs.declared.rejoined.Board.{Board}
 use Rattle.board_history.proofs.Lists.{begins_at}
+use Rattle.session_run.specs.Faults.{run_fault}
 use Rattle.session_run.specs.Links.{AreLeft, IsLeft}
+use Rattle.session_run.specs.declared.session.RunFault.{RunFault}
+use Rattle.session_run.specs.declared.session.RunFault.TheVariants as run
 
 left_more : (board : ℕ) (specs rest : List BoardSpec) (scripts : List (List Step)) (links : List LinkReport)
     (spec : BoardSpec) (link : LinkReport) → AreLeft board specs scripts links → drop (length links) specs ≡ spec ∷ rest
@@ -185,3 +191,13 @@ pub untouched_all : (settings : Limits) (specs : List BoardSpec) (links : List L
 untouched_all settings specs [] are = tt
 untouched_all settings [] (l ∷ links) are = absurd are
 untouched_all settings (s ∷ specs) (l ∷ links) are = (are.0.untouched, untouched_all settings specs links are.1)
+
+-- a rack's fault that is handed on is counted as it was
+pub fault_counted : {X Y : Type 0} (fault : RackFault) (failed : Result X RackFault) (result : Result Y RunFault)
+    (before now : ℕ) → failed ≡ Err fault → IsErrAnd result (λ told. told ≡ run_fault fault)
+    → RisesExactlyIf (failed ≡ Err rack.Failed) before now → RisesExactlyIf (result ≡ Err run.Rack) before now
+fault_counted fault failed (Ok runs) before now same is rises = absurd is
+fault_counted rack.Failed failed (Err told) before now same is rises =
+    (λ e. rises.0 same, rises.1, λ other. absurd (other (ap Err is)))
+fault_counted rack.NoMemory failed (Err told) before now same is rises =
+    (λ e. absurd cc, rises.1, λ other. rises.2 (λ e. cc))

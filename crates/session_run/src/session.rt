@@ -168,5 +168,8 @@ pub fn run_session<R: Rack, T: Threads + Wait + Sync, G: Gate>(
     a_fresh_link_is_left();
     let _rounds = settings.rounds();
     let boards = greet_boards(alloc, settings, specs, rack)?;
-    Ok(run_greeted(rt, alloc, settings, boards, specs, scripts, rack, gate)?)
+    match run_greeted(rt, alloc, settings, boards, specs, scripts, rack, gate) {
+        Ok(runs) => Ok(runs),
+        Err(NoMemory) => Err(RunFault::NoMemory),
+    }
 }

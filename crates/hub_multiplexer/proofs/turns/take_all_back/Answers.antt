@@ -1,7 +1,8 @@
-use Rattle.std.proofs.Common.{◌≡◌, ◌++◌, ◌∷◌, [], map, reverse, ap, ◌∙◌, arith}
+use Rattle.std.proofs.Common.{◌≡◌, ◌++◌, ◌∷◌, [], is_some, true, map, reverse, ap, subst, ◌∙◌, arith}
 use Rattle.std.proofs.lemmas.List.{map-append}
+use Rattle.turn_pass.specs.Pass.{Knowledge}
 use Rattle.hub_multiplexer.specs.Openings.{openings_of}
-use Rattle.hub_multiplexer.proofs.Openings.{one_back}
+use Rattle.hub_multiplexer.proofs.Openings.{last_fresh, one_back}
 use Rattle.hub_multiplexer.proofs.turns.take_all_back.Goals as goal
 
 pub loop-turn-preserved : goal.loop-turn-preserved
@@ -26,3 +27,21 @@ loop-turn-preserved g c =
         c.loop-turn.invariant.2,
       ),
     )
+
+pub take_back-requires-clause-turn : goal.take_back-requires-clause-turn
+take_back-requires-clause-turn g c κs within =
+    let popped = c.in-Some-Some in
+    (last_fresh _ _ _ _ _ _ c.loop-turn.invariant.0 popped.ensures.items popped.ensures'.items).0
+
+pub take_back-requires-clause-idle : goal.take_back-requires-clause-idle
+take_back-requires-clause-idle g c κs within =
+    let popped = c.in-Some-Some in
+    (last_fresh _ _ _ _ _ _ c.loop-turn.invariant.0 popped.ensures.items popped.ensures'.items).1.holds_nothing
+
+pub unreachable-requires : goal.unreachable-requires
+unreachable-requires g c =
+    let popped = c.in-Some-Some in
+    let fresh = (last_fresh _ _ _ _ _ _ c.loop-turn.invariant.0 popped.ensures.items popped.ensures'.items).1 in
+    let some = subst (λ there. is_some there ≡ true) c.in_default-take_back.is (c.take_back.ensures.only
+    (ap (λ (k : Knowledge). k.number) fresh.knows_opening) (ap (λ (k : Knowledge). k.made) fresh.knows_opening)) in
+    absurd cc

@@ -1,6 +1,6 @@
 use Rattle.std.proofs.Common.{inr, subst, arith}
 use Rattle.std.proofs.lemmas.Grind.{common_steps}
-use Rattle.std.proofs.lemmas.Result.{IfOk-weaker, on_err_weaker}
+use Rattle.std.proofs.lemmas.Result.{IfOk-from_err, IfOk-weaker, on_err_weaker}
 use Rattle.hub_multiplexer.specs.Calls.{IsNone, MadeInTime}
 use Rattle.hub_multiplexer.specs.Waiting.{FindMeans}
 use Rattle.hub_multiplexer.proofs.Looks.{after_looking, found_before, none_before}
@@ -25,7 +25,7 @@ returns-clause-looked g c =
     (none_before k)) c.visit-2.ensures.looked
 
 pub returns-in_err-performed-clause-found : goal.returns-in_err-performed-clause-found
-returns-in_err-performed-clause-found g c = grind (arith, common_steps)
+returns-in_err-performed-clause-found g c = IfOk-from_err c.from_residual.result _ c.from_residual.ensures.0
 
 pub returns-in_err-performed-clause-looked : goal.returns-in_err-performed-clause-looked
 returns-in_err-performed-clause-looked g c = grind (arith, common_steps)

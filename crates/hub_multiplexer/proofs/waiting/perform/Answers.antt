@@ -1,5 +1,6 @@
 use Rattle.std.proofs.Common.{ap, subst, ◌∙◌, arith}
 use Rattle.std.proofs.lemmas.Grind.{common_steps}
+use Rattle.std.proofs.lemmas.Result.{IfOk-from_err}
 use Rattle.turn_pass.specs.Pass.{PassState}
 use Rattle.hub_multiplexer.specs.Calls.{IsNone, MadeInTime, PerformMeans}
 use Rattle.hub_multiplexer.specs.Waiting.{FindMeans}
@@ -35,7 +36,8 @@ returns-in_err-performed-clause-looked g c =
     c.wait_once.new.pass.knows c.loop.invariant.3 (none_before c.args.pass.now.knows) c.in_err-performed.ensures.looked)
 
 pub returns-in_err-performed-clause-performed : goal.returns-in_err-performed-clause-performed
-returns-in_err-performed-clause-performed g c = grind (arith, common_steps)
+returns-in_err-performed-clause-performed g c =
+    IfOk-from_err c.from_residual.result _ c.from_residual.ensures.0
 
 pub returns-in-Some-2-clause-looked : goal.returns-in-Some-2-clause-looked
 returns-in-Some-2-clause-looked g c = grind (arith, common_steps)

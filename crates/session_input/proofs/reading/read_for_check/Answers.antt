@@ -1,16 +1,15 @@
-use Rattle.std.proofs.Common.{IfErr, inr, rules}
-use Rattle.session_input.specs.Deserved.{Deserves, BreaksInCheck, TellsCompile, Tells}
+use Rattle.std.proofs.Common.{inr}
+use Rattle.session_input.specs.Deserved.{Deserves, BreaksInCheck, TellsCompile}
+use Rattle.session_input.proofs.Listed.{listed}
 use Rattle.session_input.proofs.Told.{told_by}
 use Rattle.session_input.proofs.reading.read_for_check.Goals as goal
 
-pub returns-in_err-index-clause-refused : goal.returns-in_err-index-clause-refused
-returns-in_err-index-clause-refused c =
+pub returns-clause-refused : goal.returns-clause-refused
+returns-clause-refused c =
     let listed = c.in_ok-listed.listed in
     let session = listed.session in
     let root = c.args.table.now in
-    let told : IfErr c.from_residual-in_err-index.result (Tells (TellsCompile session.tables root)) = search rules in
-    told_by c.from_residual-in_err-index.result (TellsCompile session.tables root)
-    (Deserves (BreaksInCheck root) c.args.bytes.now)
+    told_by c.index_of.result (TellsCompile session.tables root) (Deserves (BreaksInCheck root) c.args.bytes.now)
     (λ r broken. inr (record {
       fits = c.in_ok-listed.ensures.fits;
       session = session;
@@ -18,4 +17,10 @@ returns-in_err-index-clause-refused c =
       stands = c.in_ok-listed.ensures.stands;
       broken = broken;
     }))
-    told
+    c.index_of.ensures.refused
+
+pub returns-clause-listed : goal.returns-clause-listed
+returns-clause-listed c =
+    let read = c.in_ok-listed in
+    listed c.args.bytes.now c.args.table.now read.listed.session read.listed.policy c.index_of.result read.ensures.fits
+    read.ensures.stands c.index_of.ensures.index c.index_of.ensures.kept

@@ -1,5 +1,6 @@
 use Rattle.std.proofs.Common.{◌∙◌, ◌++◌, ◌∷◌, [], List, ap, refl, arith}
 use Rattle.std.proofs.lemmas.Grind.{common_steps}
+use Rattle.std.proofs.lemmas.Result.{IfOk-from_err}
 use Rattle.script_plans.specs.Plan.{ClientBodies}
 use Rattle.session_run.proofs.PlanningLanes.{all_planned, gone_between, gone_within, lane_planned, next_lane}
 use Rattle.session_run.proofs.PlanningLanes.{next_unused, none_planned, unused_gone}
@@ -54,11 +55,19 @@ loop-index-preserved g c =
     (record { plans = made.plans; few = made.few; lane' = made.planned }) c.plan_clients.ensures.keeps
     c.plan_clients.ensures.some
 
-pub returns-in_err-boards-clause-planned : goal.returns-in_err-boards-clause-planned
-returns-in_err-boards-clause-planned g c = grind (arith, common_steps)
-
 pub plan_clients-requires-clause-can : goal.plan_clients-requires-clause-can
 plan_clients-requires-clause-can g c = grind (arith, common_steps)
 
 pub bounds-positions-index : goal.bounds-positions-index
 bounds-positions-index g c = grind (arith, common_steps)
+
+pub returns-in_err-boards-clause-planned : goal.returns-in_err-boards-clause-planned
+returns-in_err-boards-clause-planned g c = IfOk-from_err c.from_residual.result _ c.from_residual.ensures.0
+
+pub returns-in_err-planned-clause-planned : goal.returns-in_err-planned-clause-planned
+returns-in_err-planned-clause-planned g c =
+    IfOk-from_err c.from_residual-in_err-planned.result _ c.from_residual-in_err-planned.ensures.0
+
+pub returns-in_err-push-clause-planned : goal.returns-in_err-push-clause-planned
+returns-in_err-push-clause-planned g c =
+    IfOk-from_err c.from_residual-in_err-push.result _ c.from_residual-in_err-push.ensures.0

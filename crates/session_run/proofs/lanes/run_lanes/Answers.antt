@@ -3,7 +3,7 @@ use Rattle.std.proofs.lemmas.Grind.{common_steps}
 use Rattle.std.specs.List.{AllByRecursion}
 use Rattle.std.specs.Prelude.{IfOk}
 use Rattle.std.proofs.lemmas.Result.{IfOk-weaker}
-use Rattle.client_threads.specs.Clients.{OnLanesFrom}
+use Rattle.client_threads.specs.Clients.{AreOfClientsFrom, IsPlanFor, OnLanesFrom}
 use Rattle.client_threads.specs.declared.plan.ClientPlan.{ClientPlan}
 use Rattle.session_run.specs.Parts.{HasClients, HasLanes, parts_from}
 use Rattle.session_run.specs.Hubs.{HoldsAll, RanAtHub}
@@ -80,3 +80,22 @@ returns-in-Err-clause-gone_on g c = grind (arith, common_steps)
 
 pub plan_all-requires : goal.plan_all-requires
 plan_all-requires g c = grind (arith, common_steps)
+
+pub run_at_hub-lanes-requires-clause-clients : goal.run_at_hub-lanes-requires-clause-clients
+run_at_hub-lanes-requires-clause-clients g c κs within =
+    subst (AreOfClientsFrom 1) (sym c.deref.ensures.value) c.in-Ok.ensures.clients
+
+pub run_at_hub-lanes-requires-clause-few : goal.run_at_hub-lanes-requires-clause-few
+run_at_hub-lanes-requires-clause-few g c κs within =
+    let same = ap (λ (l : List ClientPlan). length l) c.deref.ensures.value in
+    let all = c.in-Ok.ensures.all in
+    let few = c.requires.can.few_clients in
+    omega (arith, same, all, few)
+
+pub run_at_hub-lanes-requires-clause-for_hub : goal.run_at_hub-lanes-requires-clause-for_hub
+run_at_hub-lanes-requires-clause-for_hub g c κs within =
+    let mids = c.plan_all.new.lanes in
+    let on = planned_lanes g.L.Link.telling c.args.scripts.now c.args.positions.now mids c.in-Ok.boards.items
+    c.deref_mut.ensures.len c.deref_mut.ensures.value c.in-Ok.ensures.planned c.in-Ok.ensures.gone_on in
+    rw on.written
+    (subst (AllByRecursion (IsPlanFor (length mids))) (sym c.deref.ensures.value) c.in-Ok.ensures.for_hub)
