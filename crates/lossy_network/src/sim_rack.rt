@@ -1,8 +1,9 @@
 //! A rack of simulated links.
 
-ghost use Rattle.std.specs.Prelude.{◌≡◌, ◌↔◌, ◌≤◌, ◌<◌, ◌^◌, [], length, true, false, Some, Err, IfOk, OnErr, IfSome, IfNone, is_none};
+ghost use Rattle.std.specs.Prelude.{◌≡◌, ◌↔◌, ◌≤◌, ◌<◌, ◌^◌, [], length, true, false, Some, Err, IfOk, OnErr, IfSome, IfNone, List, is_none};
 ghost use Rattle.std.specs.List.{slice_get};
 ghost use Rattle.ipb_base.specs.Faults.{one_more};
+ghost use Rattle.board_node.specs.declared.spec.LinkSpec.{LinkSpec as Spec};
 ghost use Rattle.lossy_network.specs.declared.rack.RackFault.TheVariants.{Failed};
 ghost use Rattle.lossy_network.specs.Racks.{after_keep, after_make, fails_to_make, fresh_board, is_named, IsMakeable};
 ghost use Rattle.lossy_network.specs.Racks.{IsSimulable, link_for, made_after, new_rack};
@@ -95,11 +96,10 @@ impl SimRack {
         if is_named {
             return Err(self.count_fault());
         }
-        let Some(link) = link_for(self.alloc, &spec.link, &self.fail_calls)? else {
-            return Err(self.count_fault());
-        };
-        self.put_down(&spec.link)?;
-        Ok(link)
+        match link_for(self.alloc, &spec.link, &self.fail_calls)? {
+            Some(link) => Ok(made_link(self.put_down(&spec.link), link)?),
+            None => Err(self.count_fault()),
+        }
     }
 
     /// Takes a link back, behind those that were kept before. It takes no memory.
@@ -154,6 +154,14 @@ impl Rack for SimRack {
     fn keep(&mut self, link: SimLink) {
         SimRack::keep(self, link)
     }
+}
+
+/// The link that was made, where its spec was put down.
+fn made_link(put_down: Result<(), NoMemory>, link: SimLink) -> Result<SimLink, NoMemory>
+    ensures same { IfOk result (λ given. given ≡ link) }
+    ensures made { (spec : Spec) (made : List Spec) → made_after result spec made ≡ made_after put_down spec made }
+{
+    put_down.map(|()| link)
 }
 
 /// The link for a simulated board, on which the calls with these numbers fail. There is none for a board on a network.

@@ -1,13 +1,14 @@
 //! A rack whose links are simulated or go over UDP, as the session document says.
 
 ghost use Rattle.std.specs.Prelude.{◌≡◌, ◌≤◌, [], length, IfOk, Err};
-ghost use Rattle.lossy_network.specs.Racks.{IsMakeable};
+ghost use Rattle.lossy_network.specs.Racks.{IsMakeable, made_after};
 ghost use Rattle.net_edges.specs.Links.{IsOnNetwork, after_make, new_link};
 
 use crate::any_link::AnyLink;
 use crate::counting::incremented;
 use crate::udp_link::UdpLink;
 use board_node::{BoardSpec, LinkSpec};
+use ipb_base::NoMemory;
 use ipb_outside::Failed;
 use lossy_network::{Rack, RackFault, SimRack, SpecLog};
 use std::alloc::Global;
@@ -84,13 +85,14 @@ impl<R: Net + AllocGlobal + Drop> RealRack<R> {
         if self.kept.reserve(places).is_err() {
             return Err(RackFault::NoMemory);
         }
-        let made = make_link(&self.rt, spec, self.to);
-        match &made {
-            Ok(_) => self.made.add(&spec.link)?,
-            Err(RackFault::Failed) => self.faults = incremented(self.faults),
-            Err(RackFault::NoMemory) => {}
+        match make_link(&self.rt, spec, self.to) {
+            Ok(link) => Ok(put_down(&mut self.made, &spec.link, link)?),
+            Err(RackFault::Failed) => {
+                self.faults = incremented(self.faults);
+                Err(RackFault::Failed)
+            }
+            Err(RackFault::NoMemory) => Err(RackFault::NoMemory),
         }
-        made
     }
 }
 
@@ -110,6 +112,14 @@ impl<R: Net + AllocGlobal + Drop> Rack for RealRack<R> {
     fn keep(&mut self, link: AnyLink) {
         self.kept.push_reserved(link);
     }
+}
+
+// Puts down the spec that a link was made of, and gives the link back.
+fn put_down(made: &mut SpecLog, spec: &LinkSpec, link: AnyLink) -> Result<AnyLink, NoMemory>
+    ensures same { IfOk result (λ given. given ≡ link) }
+    ensures made { made.new ≡ made_after result spec.now made.old }
+{
+    made.add(spec).map(|()| link)
 }
 
 // A link for a board: a simulated one in memory of its own, or one over UDP.

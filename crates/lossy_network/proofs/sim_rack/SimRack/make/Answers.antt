@@ -13,16 +13,17 @@ returns-in_err-link-clause-fails c =
     (c.deref.ensures.value ∙ ap (λ (rack : RackState). rack.fail_calls) c.self.view_is)
     c.in_err-link.ensures.simulated) (λ e. cc)
 
-pub returns-in_err-put_down-clause-fails : goal.returns-in_err-put_down-clause-fails
-returns-in_err-put_down-clause-fails c =
-    let p = err_from_is_err_and c.from_residual-in_err-put_down.result c.from_residual-in_err-put_down.ensures.1 in
-    no_failure (fails_to_make c.args.self.now c.args.spec.now.link) c.from_residual-in_err-put_down.result
+pub returns-in_err-made_link-in-Some-clause-fails : goal.returns-in_err-made_link-in-Some-clause-fails
+returns-in_err-made_link-in-Some-clause-fails c =
+    let p = err_from_is_err_and c.from_residual-in_err-made_link-in-Some.result
+    c.from_residual-in_err-made_link-in-Some.ensures.1 in
+    no_failure (fails_to_make c.args.self.now c.args.spec.now.link) c.from_residual-in_err-made_link-in-Some.result
     (none_fails c.args.self.now c.args.spec.now.link _ (sym c.is_next_named-is_named.ensures ∙ c.if-is_named.false)
     (c.deref.ensures.value ∙ ap (λ (rack : RackState). rack.fail_calls) c.self.view_is)
     (ap (λ (link : Option Network). is_none link) (sym c.in_ok-link.ensures.link ∙ c.in-Some.is))) (λ e. cc)
 
-pub returns-clause-fails : goal.returns-clause-fails
-returns-clause-fails c = no_failure (fails_to_make c.args.self.now c.args.spec.now.link) _
+pub returns-in_ok-made_link-in-Some-clause-fails : goal.returns-in_ok-made_link-in-Some-clause-fails
+returns-in_ok-made_link-in-Some-clause-fails c = no_failure (fails_to_make c.args.self.now c.args.spec.now.link) _
     (none_fails c.args.self.now c.args.spec.now.link _ (sym c.is_next_named-is_named.ensures ∙ c.if-is_named.false)
     (c.deref.ensures.value ∙ ap (λ (rack : RackState). rack.fail_calls) c.self.view_is)
     (ap (λ (link : Option Network). is_none link) (sym c.in_ok-link.ensures.link ∙ c.in-Some.is))) (λ e. cc)
