@@ -2,23 +2,24 @@
 use Rattle.std.proofs.Common.{◌≡◌, ◌∙◌, ℕ, suc, ◌+◌, ◌*◌, ◌≤◌, ◌<◌, ◌^◌, List, [], ◌∷◌, length, map, Option, Some}
 use Rattle.std.proofs.Common.{None, refl, ap, arith, length-append}
 use Rattle.std.proofs.lemmas.List.{length-map}
-use Rattle.std.specs.List.{AllByRecursion}
+use Rattle.std.specs.List.{AllByRecursion, AllZip}
 use Rattle.access_policy.specs.Decisions.{ruled_from, ruled_scripts}
 use Rattle.access_policy.specs.declared.policy.Rule.{Rule}
 use Rattle.board_bus.specs.Ranges.{refusal_of}
 use Rattle.board_node.specs.declared.spec.BoardSpec.{BoardSpec}
 use Rattle.board_node.specs.declared.spec.LinkSpec.{LinkSpec}
 use Rattle.board_node.specs.declared.spec.LinkSpec.TheVariants.{Sim, Udp}
+use Rattle.node_tree.specs.Maps.{RegisterMap}
 use Rattle.script_steps.specs.Rulings.{Asked, asked_operations}
 use Rattle.script_steps.specs.declared.operation.Step.{Step}
 use Rattle.script_steps.specs.declared.operation.Step.TheVariants.{Do, Denied, Dispatch}
 use Rattle.script_lang.specs.Limits.{IsWithin, KeepsRules, LinkKeepsRules}
 use Rattle.script_lang.specs.declared.script_refusal.TheConstants.{MAX_LINES}
 use Rattle.script_lang.specs.declared.session.Session.{Session}
-use Rattle.session_input.specs.Deserved.{AreSteps, HasBus, ranges_of}
+use Rattle.session_input.specs.Deserved.{AreSteps, Compiles, HasBus, HasIndex, HaveBuses, ranges_of}
 use Rattle.session_input.specs.Recording.{IsSimulated}
 use Rattle.transcript_reader.specs.Entries.{Entry, IsHere, IsLinkHere, clients_from, entries, operations_from}
-use Rattle.audit_command.specs.Boards.{AreSimulated}
+use Rattle.audit_command.specs.Boards.{AreSimulated, IsAuditable}
 
 -- ---- boards
 
@@ -32,6 +33,25 @@ pub all_here : (boards : List BoardSpec) → AllByRecursion KeepsRules boards �
 all_here [] kept buses simulated = tt
 all_here (b ∷ bs) kept buses simulated =
     (link_here b.link kept.0 buses.0 simulated.0, all_here bs kept.1 buses.1 simulated.1)
+
+-- boards that an audit takes are of this process, and their ranges are buses
+pub each_simulated : (boards : List BoardSpec) → AllByRecursion IsAuditable boards → AreSimulated boards
+each_simulated [] taken = tt
+each_simulated (b ∷ bs) taken = (taken.0.simulated, each_simulated bs taken.1)
+
+each_bus : (boards : List BoardSpec) → AllByRecursion IsAuditable boards → AllByRecursion HasBus boards
+each_bus [] taken = tt
+each_bus (b ∷ bs) taken = (taken.0.bus, each_bus bs taken.1)
+
+pub have_buses : (session : Session) (indexes : List RegisterMap)
+    → AllByRecursion (Compiles session.tables) session.boards
+    → AllZip (HasIndex session.tables) session.boards indexes
+    → AllByRecursion IsAuditable session.boards
+    → HaveBuses session indexes
+have_buses session indexes compile each taken = record {
+  compiled = record { compile = compile; each_index = each };
+  buses = each_bus session.boards taken;
+}
 
 -- ---- lines
 
