@@ -71,15 +71,15 @@ impl<T: Drop> From<AllocFailed<T>> for StoreRefusal {
 
 impl fmt::Display for StoreWhy {
     fn fmt<W: fmt::Write>(&self, f: &mut fmt::Formatter<W>) -> fmt::Result {
-        match self {
-            StoreWhy::Shape => write!(f, "no number under a register in a table under a board"),
-            StoreWhy::Overlap => write!(f, "a kept register that shares bits with an earlier one"),
-            StoreWhy::TooMany => write!(f, "too many kept registers"),
-            StoreWhy::UnknownBoard => write!(f, "an unknown board"),
-            StoreWhy::UnknownName => write!(f, "an unknown register"),
-            StoreWhy::NotKept => write!(f, "a register that is not kept"),
-            StoreWhy::BitsOutside => write!(f, "a value with a bit outside the mask"),
-        }
+        f.write_str(match self {
+            StoreWhy::Shape => "no number under a register in a table under a board",
+            StoreWhy::Overlap => "a kept register that shares bits with an earlier one",
+            StoreWhy::TooMany => "too many kept registers",
+            StoreWhy::UnknownBoard => "an unknown board",
+            StoreWhy::UnknownName => "an unknown register",
+            StoreWhy::NotKept => "a register that is not kept",
+            StoreWhy::BitsOutside => "a value with a bit outside the mask",
+        })
     }
 }
 

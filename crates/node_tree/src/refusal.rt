@@ -47,14 +47,14 @@ impl From<NoMemory> for CompileRefusal {
 
 impl fmt::Display for CompileWhy {
     fn fmt<W: fmt::Write>(&self, f: &mut fmt::Formatter<W>) -> fmt::Result {
-        match self {
-            CompileWhy::UnknownModule => write!(f, "an unknown table"),
-            CompileWhy::ModuleCycle => write!(f, "a table that leads to itself"),
-            CompileWhy::TooMany => write!(f, "too many names"),
-            CompileWhy::TooDeep => write!(f, "a name of too many ids"),
-            CompileWhy::Duplicate => write!(f, "an id that an earlier sibling has"),
-            CompileWhy::AddressPastEnd => write!(f, "an address past 0xffffffff"),
-        }
+        f.write_str(match self {
+            CompileWhy::UnknownModule => "an unknown table",
+            CompileWhy::ModuleCycle => "a table that leads to itself",
+            CompileWhy::TooMany => "too many names",
+            CompileWhy::TooDeep => "a name of too many ids",
+            CompileWhy::Duplicate => "an id that an earlier sibling has",
+            CompileWhy::AddressPastEnd => "an address past 0xffffffff",
+        })
     }
 }
 

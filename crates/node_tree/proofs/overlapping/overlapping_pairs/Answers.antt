@@ -1,5 +1,6 @@
 use Rattle.std.proofs.Common.{◌≡◌, ◌++◌, ◌+◌, ◌<◌, take, drop, length, slice_index, option_to_list, ap, ◌∙◌}
 use Rattle.std.proofs.Common.{append_assoc, sym, arith}
+use Rattle.std.proofs.lemmas.Grind.{common_steps}
 use Rattle.std.proofs.lemmas.List.{get_or_read}
 use Rattle.node_tree.specs.Named.{named_entries}
 use Rattle.node_tree.specs.Overlaps.{overlapping}
@@ -32,3 +33,12 @@ pub returns-then-branch : goal.returns-then-branch
 returns-then-branch c =
     c.new.ensures.items
     ∙ sym (none-overlaps c.args.entries.now c.requires.registers (c.in_ok-are_apart.ensures c.if-branch.true))
+
+pub returns : goal.returns
+returns c = grind (arith, common_steps)
+
+pub index-requires : goal.index-requires
+index-requires c = omega (arith, length-named c.args.entries.now, c.in_ok-firsts.ensures.each)
+
+pub pair_with-pair-requires : goal.pair_with-pair-requires
+pair_with-pair-requires c = omega arith

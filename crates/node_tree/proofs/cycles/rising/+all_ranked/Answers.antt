@@ -1,4 +1,5 @@
-use Rattle.std.proofs.Common.{subst, sym, refl}
+use Rattle.std.proofs.Common.{subst, sym, refl, arith}
+use Rattle.std.proofs.lemmas.Grind.{common_steps}
 use Rattle.node_tree.specs.Modules.{Mentions}
 use Rattle.node_tree.proofs.MentionLemmas.{from_place, none_after}
 use Rattle.node_tree.specs.CycleSearch.{IsRanked}
@@ -14,3 +15,9 @@ loop-node-preserved t c =
 
 pub returns : goal.returns
 returns t c = λ _. c.loop-node.invariant (λ m mention. absurd (none_after _ _ m c.loop-node-test.false mention))
+
+pub returns-then-not-is_ranked : goal.returns-then-not-is_ranked
+returns-then-not-is_ranked t c = grind (arith, common_steps)
+
+pub returns-then-not-all_ranked : goal.returns-then-not-all_ranked
+returns-then-not-all_ranked t c = grind (arith, common_steps)

@@ -1,4 +1,5 @@
 use Rattle.std.proofs.Common.{◌<◌, sym, subst, arith}
+use Rattle.std.proofs.lemmas.Grind.{common_steps}
 use Rattle.std.proofs.lemmas.List.Elements.{Contains-push}
 use Rattle.std.specs.List.{Contains}
 use Rattle.node_tree.specs.Named.{named_entries}
@@ -39,3 +40,9 @@ loop-earlier-preserved c =
           c.loop-earlier.events.items c.push_event.new.events.items adds.adds x y
           (c.loop-earlier.invariant.grows x y asks);
     }
+
+pub returns-then-begins_with-clause-timeline : goal.returns-then-begins_with-clause-timeline
+returns-then-begins_with-clause-timeline c = grind (arith, common_steps)
+
+pub returns-clause-timeline : goal.returns-clause-timeline
+returns-clause-timeline c = grind (arith, common_steps)

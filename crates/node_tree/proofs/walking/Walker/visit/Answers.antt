@@ -1,4 +1,5 @@
 use Rattle.std.proofs.Common.{◌≤◌, ◌^◌, ap, sym, subst, arith}
+use Rattle.std.proofs.lemmas.Grind.{common_steps}
 use Rattle.node_tree.specs.Names.{register_at}
 use Rattle.node_tree.specs.Walk.{last_address}
 use Rattle.node_tree.specs.Run.{IsStop}
@@ -37,3 +38,9 @@ returns-clause-visited c =
     rw (c.in_ok-insert.ensures.ok, c.in-Some.ensures.1)
     (visited _ _ _ _ _ c.if-self-ge-MAX_NODES.false c.if-level-gt-MAX_IDS.false
     (sym c.if-has_either.ensures) c.in-Some.ensures.0)
+
+pub returns-in_err-insert-clause-stopped : goal.returns-in_err-insert-clause-stopped
+returns-in_err-insert-clause-stopped c = grind (arith, common_steps)
+
+pub returns-clause-shallow : goal.returns-clause-shallow
+returns-clause-shallow c = grind (arith, common_steps)

@@ -1,0 +1,22 @@
+use Rattle.std.proofs.Common.{arith}
+use Rattle.std.proofs.lemmas.Grind.{common_steps}
+use Rattle.config_store.specs.Kept as kept
+use Rattle.config_store.specs.Refusals as fault
+use Rattle.config_store.proofs.Faults.{front_fault, handed_on}
+use Rattle.config_store.proofs.lines.apply_lines.Goals as goal
+
+pub returns-in_err-saves-clause-refused : goal.returns-in_err-saves-clause-refused
+returns-in_err-saves-clause-refused c =
+    let boards = kept.indexed_boards c.args.session.now.boards c.args.indexes.now in
+    let refusal = c.in_err-saves.field-0.0 in
+    handed_on (fault.TellsFirst (fault.applying_faults boards c.args.state.now)) c.from_residual.result refusal
+    c.from_residual.ensures.1 (front_fault _ _ refusal c.in_err-saves.ensures.refused)
+
+pub returns-in_err-check_entries-clause-refused : goal.returns-in_err-check_entries-clause-refused
+returns-in_err-check_entries-clause-refused c = grind (arith, common_steps)
+
+pub returns-clause-accepted : goal.returns-clause-accepted
+returns-clause-accepted c = grind (arith, common_steps)
+
+pub returns-clause-lines : goal.returns-clause-lines
+returns-clause-lines c = grind (arith, common_steps)
