@@ -175,31 +175,40 @@ pub returns-in_err-plans-clause-planned : goal.returns-in_err-plans-clause-plann
 returns-in_err-plans-clause-planned g c = IfOk-from_err c.from_residual.result _ c.from_residual.ensures.0
 
 pub returns-in_err-planned-clause-plans : goal.returns-in_err-planned-clause-plans
-returns-in_err-planned-clause-plans g c = IfOk-from_err c.from_residual-in_err-planned.result _ c.from_residual-in_err-planned.ensures.0
+returns-in_err-planned-clause-plans g c =
+    IfOk-from_err c.from_residual-in_err-planned.result _ c.from_residual-in_err-planned.ensures.0
 
 pub returns-in_err-planned-clause-few : goal.returns-in_err-planned-clause-few
-returns-in_err-planned-clause-few g c = IfOk-from_err c.from_residual-in_err-planned.result _ c.from_residual-in_err-planned.ensures.0
+returns-in_err-planned-clause-few g c =
+    IfOk-from_err c.from_residual-in_err-planned.result _ c.from_residual-in_err-planned.ensures.0
 
 pub returns-in_err-planned-clause-planned : goal.returns-in_err-planned-clause-planned
-returns-in_err-planned-clause-planned g c = IfOk-from_err c.from_residual-in_err-planned.result _ c.from_residual-in_err-planned.ensures.0
+returns-in_err-planned-clause-planned g c =
+    IfOk-from_err c.from_residual-in_err-planned.result _ c.from_residual-in_err-planned.ensures.0
 
 pub returns-in_err-plan_bodies-clause-plans : goal.returns-in_err-plan_bodies-clause-plans
-returns-in_err-plan_bodies-clause-plans g c = IfOk-from_err c.from_residual-in_err-plan_bodies.result _ c.from_residual-in_err-plan_bodies.ensures.0
+returns-in_err-plan_bodies-clause-plans g c =
+    IfOk-from_err c.from_residual-in_err-plan_bodies.result _ c.from_residual-in_err-plan_bodies.ensures.0
 
 pub returns-in_err-plan_bodies-clause-few : goal.returns-in_err-plan_bodies-clause-few
-returns-in_err-plan_bodies-clause-few g c = IfOk-from_err c.from_residual-in_err-plan_bodies.result _ c.from_residual-in_err-plan_bodies.ensures.0
+returns-in_err-plan_bodies-clause-few g c =
+    IfOk-from_err c.from_residual-in_err-plan_bodies.result _ c.from_residual-in_err-plan_bodies.ensures.0
 
 pub returns-in_err-plan_bodies-clause-planned : goal.returns-in_err-plan_bodies-clause-planned
-returns-in_err-plan_bodies-clause-planned g c = IfOk-from_err c.from_residual-in_err-plan_bodies.result _ c.from_residual-in_err-plan_bodies.ensures.0
+returns-in_err-plan_bodies-clause-planned g c =
+    IfOk-from_err c.from_residual-in_err-plan_bodies.result _ c.from_residual-in_err-plan_bodies.ensures.0
 
 pub returns-in_err-push-clause-plans : goal.returns-in_err-push-clause-plans
-returns-in_err-push-clause-plans g c = IfOk-from_err c.from_residual-in_err-push.result _ c.from_residual-in_err-push.ensures.0
+returns-in_err-push-clause-plans g c =
+    IfOk-from_err c.from_residual-in_err-push.result _ c.from_residual-in_err-push.ensures.0
 
 pub returns-in_err-push-clause-few : goal.returns-in_err-push-clause-few
-returns-in_err-push-clause-few g c = IfOk-from_err c.from_residual-in_err-push.result _ c.from_residual-in_err-push.ensures.0
+returns-in_err-push-clause-few g c =
+    IfOk-from_err c.from_residual-in_err-push.result _ c.from_residual-in_err-push.ensures.0
 
 pub returns-in_err-push-clause-planned : goal.returns-in_err-push-clause-planned
-returns-in_err-push-clause-planned g c = IfOk-from_err c.from_residual-in_err-push.result _ c.from_residual-in_err-push.ensures.0
+returns-in_err-push-clause-planned g c =
+    IfOk-from_err c.from_residual-in_err-push.result _ c.from_residual-in_err-push.ensures.0
 
 pub plan_on-requires-clause-payload : goal.plan_on-requires-clause-payload
 plan_on-requires-clause-payload g c =

@@ -113,7 +113,8 @@ returns-in-Err-clause-pairs g c =
 
 -- a server that has no report
 pub returns-in-Err-clause-listens : goal.returns-in-Err-clause-listens
-returns-in-Err-clause-listens g c = (λ never. absurd (true≢false (sym never)), c.serve_at_hub-lanes.ensures.listens.1)
+returns-in-Err-clause-listens g c =
+    (λ never. absurd (true≢false (sym never)), c.serve_at_hub-lanes.ensures.listens.1)
 
 -- no board executed a body of its own
 pub returns-in-Ok-clause-in_frames : goal.returns-in-Ok-clause-in_frames
