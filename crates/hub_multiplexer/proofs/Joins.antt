@@ -1,11 +1,12 @@
 -- A seat's passes taken in, from the last board on.
 use Rattle.std.proofs.Common.{◌≡◌, ℕ, ◌<◌, zero, suc, List, [], ◌∷◌, ◌++◌, take, drop, length, get_or, set, sym, ap}
-use Rattle.std.proofs.Common.{◌∙◌, arith, length-append}
+use Rattle.std.proofs.Common.{◌∙◌, arith, length-append, subst}
+use Rattle.std.specs.List.{AllByRecursion}
 use mathlib.Core.Option.{some, some-injective, some-ne-none}
 use lib.ListN.{get_elem?}
 use Rattle.std.proofs.lemmas.List.{length-map}
-use Rattle.turn_pass.specs.Pass.{PassState, taking_in}
-use Rattle.hub_multiplexer.specs.Seats.{after_join, turns_of}
+use Rattle.turn_pass.specs.Pass.{PassState, TurnId, taking_in}
+use Rattle.hub_multiplexer.specs.Seats.{IsIdle, after_join, turns_of}
 use Rattle.hub_multiplexer.proofs.Lists.{popped}
 
 abbrev pub joining : PassState → PassState → PassState
@@ -60,3 +61,31 @@ board_inside firsts others before left q was front long =
 pub same_length : (firsts others : List PassState) → turns_of firsts ≡ turns_of others → length firsts ≡ length others
 same_length firsts others e = sym (length-map firsts (λ (pass : PassState). pass.turn))
     ∙ (ap length e ∙ length-map others (λ (pass : PassState). pass.turn))
+
+-- the last of the passes that are left is of the client, and holds nothing
+pub last_idle : (client : ℕ) (others before left : List PassState) (q : PassState) → before ≡ left ++ q ∷ []
+    → before ≡ take (length before) others → AllByRecursion (IsIdle client) others → IsIdle client q
+last_idle client others before left q was front all =
+    idle_at others (length left) q (popped others left q
+    (sym was ∙ (front ∙ ap (λ l. take (length l) others) was))).1 all
+  where
+    idle_at : (passes : List PassState) (i : ℕ) (pass : PassState) → get_elem? passes i ≡ some pass
+        → AllByRecursion (IsIdle client) passes → IsIdle client pass
+    idle_at [] i pass e all = absurd (some-ne-none pass (sym e))
+    idle_at (x ∷ xs) zero pass e all = subst (IsIdle client) (some-injective x pass e) all.0
+    idle_at (x ∷ xs) (suc i) pass e all = idle_at xs i pass e all.1
+
+-- and it is of the turn of its board
+pub last_turn : (others before left : List PassState) (q : PassState) (turns : List TurnId) (board : ℕ) (turn : TurnId)
+    → before ≡ left ++ q ∷ [] → before ≡ take (length before) others → turns_of others ≡ turns → board ≡ length left
+    → turn ≡ get_or turns board turn → q.turn ≡ turn
+last_turn others before left q turns board turn was front same at is =
+    let last = popped others left q (sym was ∙ (front ∙ ap (λ l. take (length l) others) was)) in
+    sym (is ∙ (ap (λ l. get_or l board turn) (sym same) ∙ (ap (λ n. get_or (turns_of others) n turn) at
+    ∙ turn_at others (length left) q last.1)))
+  where
+    turn_at : (passes : List PassState) (i : ℕ) (pass : PassState) → get_elem? passes i ≡ some pass
+        → get_or (turns_of passes) i turn ≡ pass.turn
+    turn_at [] i pass e = absurd (some-ne-none pass (sym e))
+    turn_at (x ∷ xs) zero pass e = ap (λ (p : PassState). p.turn) (some-injective x pass e)
+    turn_at (x ∷ xs) (suc i) pass e = turn_at xs i pass e

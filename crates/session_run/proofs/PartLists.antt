@@ -80,6 +80,22 @@ get_behind [] rest k d is = ap (λ (n : ℕ). get_or rest n d) (sym is)
 get_behind (f ∷ front) rest zero d is = absurd cc
 get_behind (f ∷ front) rest (suc k) d is = get_behind front rest k d (omega (arith, is))
 
+long_so_far : (k : ℕ) (before : List (List (List Outcome))) → k < length before
+    → length (map others_of (take k before)) ≡ k
+long_so_far k before within =
+    let same = length-map (take k before) others_of in
+    let long = length-take-le k before (omega (arith, within)) in
+    omega (arith, same, long)
+
+-- the next client is as it was before
+still_there : (k : ℕ) (planned rest : List ClientBodies) (before now : List (List (List Outcome)))
+    (client : List (List Outcome)) (parts : List ClientPart) → PartsSoFar k planned rest before now parts
+    → k < length before → client ≡ get_or now k client → client ≡ get_or before k client
+still_there k planned rest before now client parts so_far within at = at
+    ∙ (ap (λ (l : List (List (List Outcome))). get_or l k client) so_far.others
+    ∙ (get_behind (map others_of (take k before)) (drop k before) k client (long_so_far k before within)
+    ∙ ap (λ (l : List (List (List Outcome))). get_or l 0 client) (drop_more before k client within)))
+
 -- one client more
 pub client_done : (k : ℕ) (planned rest later : List ClientBodies) (p : ClientBodies)
     (before now after : List (List (List Outcome))) (client left : List (List Outcome)) (outcomes : List Outcome)
@@ -94,12 +110,8 @@ client_done k planned rest later p before now after client left outcomes lates p
     let part : ClientPart = record { planned = p; outcomes = outcomes; lates = [] } in
     let push : more ≡ parts ++ part ∷ [] = pushed
     ∙ ap (λ (l : List (Option (List ℕ))). parts ++ record { planned = p; outcomes = outcomes; lates = l } ∷ []) none in
-    let long : length front ≡ k = (let e = length-map (take k before) others_of in
-    let g = length-take-le k before (omega (arith, within)) in omega (arith, e, g)) in
-    let here : client ≡ get_or before k client = at
-    ∙ (ap (λ (l : List (List (List Outcome))). get_or l k client) so_far.others
-    ∙ (get_behind front (drop k before) k client long
-    ∙ ap (λ (l : List (List (List Outcome))). get_or l 0 client) (drop_more before k client within))) in
+    let long = long_so_far k before within in
+    let here = still_there k planned rest before now client parts so_far within at in
     let begins : drop k before ≡ client ∷ behind =
     drop_more before k client within ∙ ap (λ (l : List (List Outcome)). l ∷ behind) (sym here) in
     let fronts : take (k + 1) before ≡ take k before ++ client ∷ [] =
@@ -125,6 +137,19 @@ client_done k planned rest later p before now after client left outcomes lates p
           ∙ ap (map others_of) (sym fronts))))));
       many = omega (arith, many, one);
     }
+
+-- a client has outcomes on the next lane, if each has
+next_at : (k : ℕ) (clients : List (List (List Outcome))) (client : List (List Outcome)) → k < length clients
+    → client ≡ get_or clients k client → AllByRecursion HasNext clients → HasNext client
+next_at k [] client within is all = absurd (omega (arith, within))
+next_at zero (c ∷ clients) client within is all = subst HasNext (sym is) all.0
+next_at (suc k) (c ∷ clients) client within is all = next_at k clients client (omega (arith, within)) is all.1
+
+pub client_has_next : (k : ℕ) (planned rest : List ClientBodies) (before now : List (List (List Outcome)))
+    (client : List (List Outcome)) (parts : List ClientPart) → PartsSoFar k planned rest before now parts
+    → k < length before → client ≡ get_or now k client → AllByRecursion HasNext before → HasNext client
+client_has_next k planned rest before now client parts so_far within at all =
+    next_at k before client within (still_there k planned rest before now client parts so_far within at) all
 
 -- ---- all boards
 

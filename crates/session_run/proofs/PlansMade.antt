@@ -1,9 +1,10 @@
 -- Plans, one more and client by client.
 use Rattle.std.proofs.Common.{◌≡◌, ℕ, ◌+◌, ◌≤◌, ◌<◌, true, false, ◌==◌, ◌&&◌, ◌||◌, cond, suc, List, [], ◌∷◌, ◌++◌}
 use Rattle.std.proofs.Common.{length, refl, sym, ap, ◌∙◌, subst, arith, append_assoc, length-append}
-use Rattle.std.proofs.Common.{take, drop, get_or}
+use Rattle.std.proofs.Common.{take, drop, get_or, length-take, zero}
 use Rattle.std.proofs.lemmas.Bool.{eq-eqb}
 use Rattle.std.proofs.lemmas.Bool.Decides.{nat_tests}
+use Rattle.std.specs.List.{AllByRecursion}
 use Rattle.std.proofs.lemmas.List.{append-nil, take-append-drop, take_more}
 use Rattle.ipb_base.specs.Lists.{IsPrefix}
 use Rattle.lane_record.specs.declared.item.Item.{Item}
@@ -296,6 +297,22 @@ client_planned {L} {board} {told} {k} {scripts} {steps} {plans} {planned} {befor
           ∙ ap (λ (bs : List (List (List ℕ))). with_items before (all_plans_from 1 bs))
           (sym (bodies_of_append plans planned) ∙ ap bodies_of_plans (sym push));
     }
+
+-- as many plans as clients so far
+pub plans_counted : {L : Type 0} {board : ℕ} {told : Greeting} {plans : List ClientBodies} {before now : LaneState L}
+    (k : ℕ) (scripts : List (List Step)) → PlanningClients board told (take k scripts) plans before now
+    → k < length scripts → length plans ≡ k
+plans_counted {board = board} {told = told} {plans = plans} k scripts so_far within =
+    sym (length_of_bodies plans)
+    ∙ (ap (λ (p : List ClientBodies). length (bodies_of_plans p)) so_far.plans'
+    ∙ (length_bodies board told (take k scripts) ∙ omega (arith, within, length-take k scripts)))
+
+-- what holds of each script holds of the next
+pub script_at : (P : List Step → Type 0) (k : ℕ) (scripts : List (List Step)) (steps : List Step) → k < length scripts
+    → steps ≡ get_or scripts k steps → AllByRecursion P scripts → P steps
+script_at P k [] steps within is all = absurd (omega (arith, within))
+script_at P zero (s ∷ scripts) steps within is all = subst P (sym is) all.0
+script_at P (suc k) (s ∷ scripts) steps within is all = script_at P k scripts steps (omega (arith, within)) is all.1
 
 pub no_plans_yet : (items : List Item) (plans : List ClientBodies) (client : ℕ)
     → items ≡ all_plans_from 1 (bodies_of_plans plans) → client ≡ length plans + 1 → planned_count client items ≡ 0

@@ -2,7 +2,7 @@
 use Rattle.std.proofs.Common.{◌≡◌, ℕ, ◌+◌, ◌<◌, ◌∙◌, inl, inr, Bool, true, List, [], ◌∷◌, ◌++◌, length, map}
 use Rattle.std.proofs.Common.{refl, sym, ap, subst, arith, append_assoc, append-nil, length-append, take}
 use Rattle.std.proofs.Common.{drop, get_or}
-use Rattle.std.specs.Prelude.{IfOk, IsErrAnd, Result, Ok, Err}
+use Rattle.std.specs.Prelude.{IfOk, IsErrAnd, MatchResult, Result, Ok, Err, is_ok}
 use Rattle.std.specs.List.{AllByRecursion}
 use Rattle.std.proofs.lemmas.List.{length-drop, length-map, length-take-le, map_push, take_more}
 use Rattle.world_model.specs.Settings.{Limits}
@@ -201,3 +201,17 @@ fault_counted rack.Failed failed (Err told) before now same is rises =
     (λ e. rises.0 same, rises.1, λ other. absurd (other (ap Err is)))
 fault_counted rack.NoMemory failed (Err told) before now same is rises =
     (λ e. absurd cc, rises.1, λ other. rises.2 (λ e. cc))
+
+-- the runs where memory ran out nowhere, and else a fault that is none of the rack
+pub ran_still : {A E D : Type 0} (P : A → Type 0) (Q : E → Type 0) (ran : Result A E) (result : Result A D)
+    → MatchResult ran (λ runs. result ≡ Ok runs) Q → is_ok result ≡ is_ok ran → IfOk ran P → IfOk result P
+ran_still P Q (Ok runs) result same variant there = subst (λ r. IfOk r P) (sym same) there
+ran_still P Q (Err fault) (Ok runs) same variant there = absurd cc
+ran_still P Q (Err fault) (Err told) same variant there = tt
+
+pub rack_stands : {A E : Type 0} (ran : Result A E) (result : Result A RunFault)
+    → MatchResult ran (λ runs. result ≡ Ok runs) (λ fault. IsErrAnd result (λ told. told ≡ run.NoMemory))
+    → result ≡ Err run.Rack → ⊥
+rack_stands (Ok runs) result same failed = absurd cc
+rack_stands (Err fault) (Ok runs) same failed = absurd same
+rack_stands (Err fault) (Err told) same failed = absurd cc

@@ -168,8 +168,5 @@ pub fn run_session<R: Rack, T: Threads + Wait + Sync, G: Gate>(
     a_fresh_link_is_left();
     let _rounds = settings.rounds();
     let boards = greet_boards(alloc, settings, specs, rack)?;
-    match run_greeted(rt, alloc, settings, boards, specs, scripts, rack, gate) {
-        Ok(runs) => Ok(runs),
-        Err(NoMemory) => Err(RunFault::NoMemory),
-    }
+    run_greeted(rt, alloc, settings, boards, specs, scripts, rack, gate).map_err(RunFault::from)
 }

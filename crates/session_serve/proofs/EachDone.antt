@@ -214,6 +214,14 @@ pub with_ok : {A E : Type 0} (P : A → Type 0) (Q : Type 0) (r : Result A E) �
 with_ok P Q (Ok x) p q = (p, q)
 with_ok P Q (Err e) p q = tt
 
+-- what is told of memory, of the rack and of the door by one answer or another
+pub ok_not_err : {A E : Type 0} {x : A} {fault : E} → Ok x ≡ Err fault → ⊥
+ok_not_err same = absurd cc
+
+pub err_same : {A E : Type 0} {fault other : E} (r : Result A E) → r ≡ Err fault → r ≡ Err other → fault ≡ other
+err_same (Ok x) one two = absurd cc
+err_same (Err e) one two = cc
+
 -- the port that was opened where a listen went well
 pub opened_of : {A E : Type 0} {b : Bool} (port : ℕ) (old new : List ℕ) (r : Result A E) → Opens port old new r
     → b ≡ is_err r → b ≡ false → new ≡ old ++ port ∷ []

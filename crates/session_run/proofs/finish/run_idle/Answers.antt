@@ -4,6 +4,7 @@ use Rattle.std.proofs.lemmas.Option.{same_Some}
 use Rattle.std.proofs.lemmas.Result.{IfOk-weaker}
 use Rattle.std.specs.List.{AllByRecursion}
 use Rattle.std.proofs.lemmas.List.{take_all}
+use Rattle.script_steps.specs.Packing.{CanBePacked, HaveFewPieces}
 use Rattle.script_plans.specs.Plan.{plans_on}
 use Rattle.script_plans.specs.declared.board_run.BoardRun.{BoardRun}
 use Rattle.lane_history.specs.Links.{LinkReport}
@@ -11,6 +12,7 @@ use Rattle.lane_history.specs.Runs.{ShowsLates, ShowsScripts}
 use Rattle.session_run.specs.Boards.{IsNamed}
 use Rattle.session_run.proofs.DispatchParts.{plan_in_part}
 use Rattle.session_run.proofs.Idle.{HasNothing, idle_lates, idle_shows}
+use Rattle.session_run.proofs.PlansMade.{script_at}
 use Rattle.session_run.proofs.finish.run_idle.Goals as goal
 
 pub returns-clause-scripts : goal.returns-clause-scripts
@@ -44,3 +46,14 @@ loop-steps-preserved c = grind (arith, common_steps)
 
 pub returns-clause-greeting : goal.returns-clause-greeting
 returns-clause-greeting c = grind (arith, common_steps)
+
+pub plan_on-requires-clause-can : goal.plan_on-requires-clause-can
+plan_on-requires-clause-can c =
+    let can = AllByRecursion CanBePacked in
+    subst can (sym c.as_slice.ensures) (script_at can c.loop-steps.steps-index c.args.scripts.now c.steps-item.result
+    c.loop-steps-test.true c.steps-item.is c.requires.can)
+
+pub plan_on-requires-clause-few : goal.plan_on-requires-clause-few
+plan_on-requires-clause-few c =
+    subst HaveFewPieces (sym c.as_slice.ensures) (script_at HaveFewPieces c.loop-steps.steps-index c.args.scripts.now
+    c.steps-item.result c.loop-steps-test.true c.steps-item.is c.requires.few)

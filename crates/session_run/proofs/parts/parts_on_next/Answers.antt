@@ -1,7 +1,8 @@
-use Rattle.std.proofs.Common.{◌∙◌, refl, arith}
+use Rattle.std.proofs.Common.{◌∙◌, refl, subst, arith}
 use Rattle.std.proofs.lemmas.Grind.{common_steps}
 use Rattle.std.specs.Vec.Iter.{into_iter_items}
-use Rattle.session_run.proofs.PartLists.{client_done}
+use Rattle.session_run.specs.Parts.{HasNext}
+use Rattle.session_run.proofs.PartLists.{client_done, client_has_next}
 use Rattle.session_run.proofs.parts.parts_on_next.Goals as goal
 
 pub loop-client-preserved : goal.loop-client-preserved
@@ -21,3 +22,17 @@ returns-clause-parts c = grind (arith, common_steps)
 
 pub returns-clause-others : goal.returns-clause-others
 returns-clause-others c = grind (arith, common_steps)
+
+pub next-outcomes-requires : goal.next-outcomes-requires
+next-outcomes-requires c =
+    let at = c.client-item.is in
+    subst HasNext at (client_has_next c.loop-client.client-index c.args.planned (into_iter_items c.loop-client.plans)
+    c.args.clients.now c.loop-client.clients c.client-item.result c.loop-client.parts.items c.loop-client.invariant
+    c.loop-client-test.true at c.requires.next)
+
+pub unreachable-requires : goal.unreachable-requires
+unreachable-requires c =
+    let none = c.next.ensures.cases in
+    let many = c.loop-client.invariant.many in
+    let within = c.loop-client-test.true in
+    grind (arith, common_steps, many, within, none)

@@ -2,12 +2,14 @@ use Rattle.std.proofs.Common.{ℕ, List, ◌∙◌, ◌∷◌, ◌++◌, [], ◌
 use Rattle.std.proofs.lemmas.Grind.{common_steps}
 use Rattle.std.specs.List.{AllByRecursion}
 use Rattle.std.proofs.lemmas.List.{take_all}
+use Rattle.std.proofs.lemmas.Result.{IfOk-from_err}
 use Rattle.lane_record.specs.declared.item.Item.{Item}
 use Rattle.lane_record.specs.Items.{is_sealed}
 use Rattle.lane_record.specs.NextEntry.{the_seal}
 use Rattle.lane_record.specs.Dispatches.{all_plans_from}
 use Rattle.lane_history.specs.Records.{IsPartlyPlanned}
 use Rattle.hub_lane.specs.Lanes.{board_of}
+use Rattle.script_steps.specs.Packing.{CanBePacked, HaveFewPieces}
 use Rattle.script_plans.specs.declared.greeting.Greeting.TheVariants.{Live}
 use Rattle.script_plans.specs.Plan.{ClientBodies, plans_on}
 use Rattle.session_run.specs.Clients.{bodies_of_plans}
@@ -15,7 +17,8 @@ use Rattle.session_run.specs.Plans.{HasFewBodies}
 use Rattle.session_run.specs.Room.{HasRoomFor}
 use Rattle.session_run.proofs.FewBodies.{few_planned}
 use Rattle.session_run.proofs.PlansMade.{all_unsealed, client_planned, next_client, no_plans_yet, partly_between}
-use Rattle.session_run.proofs.PlansMade.{partly_none, partly_stopped, sealed_last, unsealed_so_far}
+use Rattle.session_run.proofs.PlansMade.{partly_none, partly_stopped, plans_counted, script_at, sealed_last}
+use Rattle.session_run.proofs.PlansMade.{unsealed_so_far}
 use Rattle.session_run.proofs.RoomLeft.{payload_within, room_for_client}
 use Rattle.session_run.proofs.planning.plan_clients.Goals as goal
 
@@ -161,3 +164,81 @@ returns-clause-some g c =
     subst (λ (p : List ClientBodies). IsPartlyPlanned (bodies_of_plans p) c.seal.new.self.items)
     (returns-clause-plans g c)
     (subst (IsPartlyPlanned bodies) (sym items) (law.more bodies all the_seal refl (omega arith) (law.plans bodies)))
+
+pub returns-in_err-plans-clause-plans : goal.returns-in_err-plans-clause-plans
+returns-in_err-plans-clause-plans g c = IfOk-from_err c.from_residual.result _ c.from_residual.ensures.0
+
+pub returns-in_err-plans-clause-few : goal.returns-in_err-plans-clause-few
+returns-in_err-plans-clause-few g c = IfOk-from_err c.from_residual.result _ c.from_residual.ensures.0
+
+pub returns-in_err-plans-clause-planned : goal.returns-in_err-plans-clause-planned
+returns-in_err-plans-clause-planned g c = IfOk-from_err c.from_residual.result _ c.from_residual.ensures.0
+
+pub returns-in_err-planned-clause-plans : goal.returns-in_err-planned-clause-plans
+returns-in_err-planned-clause-plans g c =
+    IfOk-from_err c.from_residual-in_err-planned.result _ c.from_residual-in_err-planned.ensures.0
+
+pub returns-in_err-planned-clause-few : goal.returns-in_err-planned-clause-few
+returns-in_err-planned-clause-few g c =
+    IfOk-from_err c.from_residual-in_err-planned.result _ c.from_residual-in_err-planned.ensures.0
+
+pub returns-in_err-planned-clause-planned : goal.returns-in_err-planned-clause-planned
+returns-in_err-planned-clause-planned g c =
+    IfOk-from_err c.from_residual-in_err-planned.result _ c.from_residual-in_err-planned.ensures.0
+
+pub returns-in_err-plan_bodies-clause-plans : goal.returns-in_err-plan_bodies-clause-plans
+returns-in_err-plan_bodies-clause-plans g c =
+    IfOk-from_err c.from_residual-in_err-plan_bodies.result _ c.from_residual-in_err-plan_bodies.ensures.0
+
+pub returns-in_err-plan_bodies-clause-few : goal.returns-in_err-plan_bodies-clause-few
+returns-in_err-plan_bodies-clause-few g c =
+    IfOk-from_err c.from_residual-in_err-plan_bodies.result _ c.from_residual-in_err-plan_bodies.ensures.0
+
+pub returns-in_err-plan_bodies-clause-planned : goal.returns-in_err-plan_bodies-clause-planned
+returns-in_err-plan_bodies-clause-planned g c =
+    IfOk-from_err c.from_residual-in_err-plan_bodies.result _ c.from_residual-in_err-plan_bodies.ensures.0
+
+pub returns-in_err-push-clause-plans : goal.returns-in_err-push-clause-plans
+returns-in_err-push-clause-plans g c =
+    IfOk-from_err c.from_residual-in_err-push.result _ c.from_residual-in_err-push.ensures.0
+
+pub returns-in_err-push-clause-few : goal.returns-in_err-push-clause-few
+returns-in_err-push-clause-few g c =
+    IfOk-from_err c.from_residual-in_err-push.result _ c.from_residual-in_err-push.ensures.0
+
+pub returns-in_err-push-clause-planned : goal.returns-in_err-push-clause-planned
+returns-in_err-push-clause-planned g c =
+    IfOk-from_err c.from_residual-in_err-push.result _ c.from_residual-in_err-push.ensures.0
+
+pub plan_on-requires-clause-payload : goal.plan_on-requires-clause-payload
+plan_on-requires-clause-payload g c =
+    payload_within c.payload-payload.result c.is_sound.ensures.knows c.payload-payload.ensures
+
+pub plan_on-requires-clause-can : goal.plan_on-requires-clause-can
+plan_on-requires-clause-can g c =
+    let can = AllByRecursion CanBePacked in
+    subst can (sym c.as_slice.ensures) (script_at can c.loop-steps.steps-index c.args.scripts.now c.steps-item.result
+    c.loop-steps-test.true c.steps-item.is c.requires.can.packed)
+
+pub plan_on-requires-clause-few : goal.plan_on-requires-clause-few
+plan_on-requires-clause-few g c =
+    subst HaveFewPieces (sym c.as_slice.ensures) (script_at HaveFewPieces c.loop-steps.steps-index c.args.scripts.now
+    c.steps-item.result c.loop-steps-test.true c.steps-item.is c.requires.can.few)
+
+pub overflow_cast-client : goal.overflow_cast-client
+overflow_cast-client g c =
+    let within = c.loop-steps-test.true in
+    let many = plans_counted c.loop-steps.steps-index c.args.scripts.now c.loop-steps.invariant within in
+    let few = c.requires.can.few_clients in
+    let len = c.len.ensures in
+    let ok = c.loop-steps.plans.ok.0 in
+    omega (arith, within, many, few, len, ok)
+
+pub overflow_add-client : goal.overflow_add-client
+overflow_add-client g c =
+    let within = c.loop-steps-test.true in
+    let many = plans_counted c.loop-steps.steps-index c.args.scripts.now c.loop-steps.invariant within in
+    let few = c.requires.can.few_clients in
+    let len = c.len.ensures in
+    let ok = c.loop-steps.plans.ok.0 in
+    omega (arith, within, many, few, len, ok)

@@ -1,8 +1,11 @@
-use Rattle.std.proofs.Common.{◌∙◌, ◌++◌, ap, length, map, arith}
-use Rattle.std.proofs.lemmas.Result.{IfOk-from_err}
+use Rattle.std.proofs.Common.{◌∙◌, ◌++◌, Vec, Global, ap, length, map, arith}
+use Rattle.std.proofs.lemmas.Result.{IfOk-from_err, IfOk-weaker}
+use Rattle.script_plans.specs.declared.board_run.BoardRun.{BoardRun}
+use Rattle.lane_history.specs.Runs.{AreRunsOver}
 use Rattle.board_greeting.specs.Reports.{shown_by}
 use Rattle.board_greeting.proofs.Boards.{made_still}
-use Rattle.session_run.proofs.Sessions.{fresh_are_left, untouched_all}
+use Rattle.session_run.specs.Links.{Keeps}
+use Rattle.session_run.proofs.Sessions.{fresh_are_left, rack_stands, ran_still, untouched_all}
 use Rattle.session_run.proofs.session.run_session.Goals as goal
 
 pub returns-in_err-boards-clause-left : goal.returns-in_err-boards-clause-left
@@ -28,13 +31,13 @@ pub returns-in_err-boards-clause-made : goal.returns-in_err-boards-clause-made
 returns-in_err-boards-clause-made g c =
     let left = c.in_err-boards.ensures.left in (left.0, left.1, left.2.1)
 
-pub returns-in-Ok-clause-left : goal.returns-in-Ok-clause-left
-returns-in-Ok-clause-left g c =
+pub returns-clause-left : goal.returns-clause-left
+returns-clause-left g c =
     let left = c.run_greeted.ensures.left in
     (left.0, left.1 ∙ ap (λ kept. kept ++ left.0) c.in_ok-boards.ensures.kept, left.2.0)
 
-pub returns-in-Ok-clause-made : goal.returns-in-Ok-clause-made
-returns-in-Ok-clause-made g c =
+pub returns-clause-made : goal.returns-clause-made
+returns-clause-made g c =
     let shows = shown_by g.R.L.Link in
     let left = c.run_greeted.ensures.left in (
       left.0,
@@ -44,39 +47,29 @@ returns-in-Ok-clause-made g c =
           (g.R.Rack.made c.run_greeted.new.rack) c.in_ok-boards.ensures.made left.2.1 c.run_greeted.ensures.made,
     )
 
-pub returns-in-Ok-clause-rack_faults : goal.returns-in-Ok-clause-rack_faults
-returns-in-Ok-clause-rack_faults g c =
-    let same = c.run_greeted.ensures.faults ∙ c.in_ok-boards.ensures.faults.2 (λ e. cc) in
-    (λ failed. absurd cc, omega (arith, same), λ other. same)
-
-pub returns-in-Ok-clause-untouched : goal.returns-in-Ok-clause-untouched
-returns-in-Ok-clause-untouched g c = λ failed. absurd cc
-
-pub returns-in-Err-clause-left : goal.returns-in-Err-clause-left
-returns-in-Err-clause-left g c =
-    let left = c.run_greeted.ensures.left in
-    (left.0, left.1 ∙ ap (λ kept. kept ++ left.0) c.in_ok-boards.ensures.kept, left.2.0)
-
-pub returns-in-Err-clause-made : goal.returns-in-Err-clause-made
-returns-in-Err-clause-made g c =
-    let shows = shown_by g.R.L.Link in
-    let left = c.run_greeted.ensures.left in (
-      left.0,
-      left.1 ∙ ap (λ kept. kept ++ left.0) c.in_ok-boards.ensures.kept,
-      made_still c.args.specs.now (length c.args.specs.now) (length (map shows left.0))
-          (g.R.Rack.made c.args.rack.now) (g.R.Rack.made c.greet_boards.new.rack)
-          (g.R.Rack.made c.run_greeted.new.rack) c.in_ok-boards.ensures.made left.2.1 c.run_greeted.ensures.made,
+pub returns-clause-rack_faults : goal.returns-clause-rack_faults
+returns-clause-rack_faults g c =
+    let same = c.run_greeted.ensures.faults ∙ c.in_ok-boards.ensures.faults.2 (λ e. cc) in (
+      λ failed. absurd (rack_stands c.run_greeted.result c.map_err.result c.map_err.ensures.cases failed),
+      omega (arith, same),
+      λ other. same,
     )
 
-pub returns-in-Err-clause-rack_faults : goal.returns-in-Err-clause-rack_faults
-returns-in-Err-clause-rack_faults g c =
-    let same = c.run_greeted.ensures.faults ∙ c.in_ok-boards.ensures.faults.2 (λ e. cc) in
-    (λ failed. absurd cc, omega (arith, same), λ other. same)
+pub returns-clause-untouched : goal.returns-clause-untouched
+returns-clause-untouched g c =
+    λ failed. absurd (rack_stands c.run_greeted.result c.map_err.result c.map_err.ensures.cases failed)
 
-pub returns-in-Err-clause-untouched : goal.returns-in-Err-clause-untouched
-returns-in-Err-clause-untouched g c = λ failed. absurd cc
-
-pub returns-in-Ok-clause-ran : goal.returns-in-Ok-clause-ran
-returns-in-Ok-clause-ran g c =
-    let ran = c.in-Ok.ensures.ran in
-    (ran.0, ran.1 ∙ ap (λ kept. kept ++ ran.0) c.in_ok-boards.ensures.kept, ran.2)
+pub returns-clause-ran : goal.returns-clause-ran
+returns-clause-ran g c =
+    let settings = c.args.settings in
+    let specs = c.args.specs.now in
+    let scripts = c.args.scripts.now in
+    let new = c.run_greeted.new.rack in
+    let kept = c.in_ok-boards.ensures.kept in
+    ran_still _ _ c.run_greeted.result c.map_err.result c.map_err.ensures.cases c.map_err.ensures.variant
+    (IfOk-weaker c.run_greeted.result
+    (λ (runs : Vec BoardRun Global). Keeps g.R.Rack g.R.L.Link c.greet_boards.new.rack new (AreRunsOver settings 0 specs
+    scripts runs.items))
+    (λ (runs : Vec BoardRun Global). Keeps g.R.Rack g.R.L.Link c.args.rack.now new (AreRunsOver settings 0 specs
+    scripts runs.items))
+    (λ runs ran. (ran.0, ran.1 ∙ ap (λ now. now ++ ran.0) kept, ran.2)) c.run_greeted.ensures.ran)

@@ -1,6 +1,6 @@
 use Rattle.std.proofs.Common.{◌≡◌, ◌≤◌, ◌∙◌, ℕ, inr, true, List, Vec, Global, ap, length, arith}
 use Rattle.std.proofs.lemmas.Grind.{common_steps}
-use Rattle.std.proofs.Common.{subst, sym, arith}
+use Rattle.std.proofs.Common.{subst, sym, true≢false}
 use Rattle.std.specs.List.{AllByRecursion}
 use Rattle.std.proofs.lemmas.List.{length-map}
 use Rattle.std.proofs.lemmas.Result.{IfOk-weaker}
@@ -92,13 +92,13 @@ returns-clause-door_faults g c =
     let faults = g.D.Door.faults in
     let ended = c.serve_all-ended.ensures.door_faults in
     let same : faults c.listen.new.self ≡ faults c.args.door.now = c.listen.ensures.faults.2 (λ failed.
-    let value = c.is_err.ensures.value in let none = c.if-is_err.false in cc) in
+    true≢false (sym failed ∙ (sym c.is_err.ensures.value ∙ c.if-is_err.false))) in
     let back : faults c.give_back.new.door ≡ faults c.serve_all-ended.new.door = c.give_back.ensures.faults in (
       λ failed. subst (λ (count : ℕ). Rose count (faults c.give_back.new.door)) same
           (subst (Rose (faults c.listen.new.self)) (sym back) (ended.0 (c.conclude.ensures.door failed))),
       subst (λ (count : ℕ). count ≤ faults c.give_back.new.door) same
           (subst (λ (count : ℕ). faults c.listen.new.self ≤ count) (sym back) ended.1),
-      λ no_door. back ∙ (ended.2 (λ failed. let whole = c.conclude.ensures.no_door no_door in cc) ∙ same),
+      λ no_door. back ∙ (ended.2 (λ failed. true≢false (sym (c.conclude.ensures.no_door no_door) ∙ failed)) ∙ same),
     )
 
 pub returns-clause-listens : goal.returns-clause-listens
@@ -133,28 +133,29 @@ pub returns-then-is_err-clause-not_rack : goal.returns-then-is_err-clause-not_ra
 returns-then-is_err-clause-not_rack g c = grind (arith, common_steps)
 
 pub give_back-requires-clause-hub : goal.give_back-requires-clause-hub
-give_back-requires-clause-hub g c = grind (arith, common_steps)
+give_back-requires-clause-hub g c κs within = c.requires.hub
 
 pub give_back-requires-clause-known : goal.give_back-requires-clause-known
-give_back-requires-clause-known g c = grind (arith, common_steps)
+give_back-requires-clause-known g c κs within = c.requires.known
 
 pub give_back-requires-clause-out : goal.give_back-requires-clause-out
 give_back-requires-clause-out g c = grind (arith, common_steps)
 
 pub give_back-requires-clause-empty : goal.give_back-requires-clause-empty
-give_back-requires-clause-empty g c = grind (arith, common_steps)
+give_back-requires-clause-empty g c κs within = c.requires.seats.none_served
 
 pub serve_all-ended-requires-clause-lanes : goal.serve_all-ended-requires-clause-lanes
-serve_all-ended-requires-clause-lanes g c = grind (arith, common_steps)
+serve_all-ended-requires-clause-lanes g c κs within = c.requires.lanes
 
 pub serve_all-ended-requires-clause-fresh : goal.serve_all-ended-requires-clause-fresh
-serve_all-ended-requires-clause-fresh g c = grind (arith, common_steps)
+serve_all-ended-requires-clause-fresh g c κs within =
+    subst (AllByRecursion (IsFresh c.args.hub.now.turns)) (sym c.into_iter-2.ensures.rest) c.requires.seats.fresh
 
 pub serve_all-ended-requires-clause-none_running : goal.serve_all-ended-requires-clause-none_running
-serve_all-ended-requires-clause-none_running g c = grind (arith, common_steps)
+serve_all-ended-requires-clause-none_running g c κs within = c.requires.seats.none_running
 
 pub serve_all-ended-requires-clause-none_done : goal.serve_all-ended-requires-clause-none_done
-serve_all-ended-requires-clause-none_done g c = grind (arith, common_steps)
+serve_all-ended-requires-clause-none_done g c κs within = c.requires.seats.none_done
 
 pub serve_all-ended-requires-clause-room_running : goal.serve_all-ended-requires-clause-room_running
 serve_all-ended-requires-clause-room_running g c = grind (arith, common_steps)
@@ -163,10 +164,10 @@ pub serve_all-ended-requires-clause-room_done : goal.serve_all-ended-requires-cl
 serve_all-ended-requires-clause-room_done g c = grind (arith, common_steps)
 
 pub join_all-requires-clause-hub : goal.join_all-requires-clause-hub
-join_all-requires-clause-hub g c = grind (arith, common_steps)
+join_all-requires-clause-hub g c κs within = c.requires.hub
 
 pub join_all-requires-clause-known : goal.join_all-requires-clause-known
-join_all-requires-clause-known g c = grind (arith, common_steps)
+join_all-requires-clause-known g c κs within = c.requires.known
 
 pub join_all-requires-2-clause-hub : goal.join_all-requires-2-clause-hub
 join_all-requires-2-clause-hub g c = grind (arith, common_steps)

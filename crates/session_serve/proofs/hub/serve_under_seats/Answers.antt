@@ -113,7 +113,7 @@ pub serve_seats-requires-clause-known : goal.serve_seats-requires-clause-known
 serve_seats-requires-clause-known g c = grind (arith, common_steps)
 
 pub serve_seats-requires-clause-lanes : goal.serve_seats-requires-clause-lanes
-serve_seats-requires-clause-lanes g c = grind (arith, common_steps)
+serve_seats-requires-clause-lanes g c κs within = c.requires.lanes
 
 pub serve_seats-requires-clause-seats : goal.serve_seats-requires-clause-seats
 serve_seats-requires-clause-seats g c = grind (arith, common_steps)
@@ -125,16 +125,16 @@ pub join_all-requires-clause-known : goal.join_all-requires-clause-known
 join_all-requires-clause-known g c = grind (arith, common_steps)
 
 pub seat_all-requires-clause-hub : goal.seat_all-requires-clause-hub
-seat_all-requires-clause-hub g c = grind (arith, common_steps)
+seat_all-requires-clause-hub g c κs within = c.requires.hub
 
 pub seat_all-requires-clause-none : goal.seat_all-requires-clause-none
-seat_all-requires-clause-none g c = grind (arith, common_steps)
+seat_all-requires-clause-none g c κs within = c.requires.none
 
 pub seat_all-requires-clause-opens : goal.seat_all-requires-clause-opens
-seat_all-requires-clause-opens g c = grind (arith, common_steps)
+seat_all-requires-clause-opens g c κs within = c.requires.opens
 
 pub seat_all-requires-clause-empty : goal.seat_all-requires-clause-empty
-seat_all-requires-clause-empty g c = grind (arith, common_steps)
+seat_all-requires-clause-empty g c κs within = c.in_ok-room.ensures.no_seats
 
 pub seat_all-requires-clause-room : goal.seat_all-requires-clause-room
-seat_all-requires-clause-room g c = grind (arith, common_steps)
+seat_all-requires-clause-room g c κs within = c.in_ok-room.ensures.seats'

@@ -1,5 +1,5 @@
 use Rattle.std.proofs.Common.{◌≡◌, ◌∙◌, ◌∷◌, ◌++◌, [], List, ap, append_assoc, length, length-append, map, subst, sym}
-use Rattle.std.proofs.Common.{arith}
+use Rattle.std.proofs.Common.{arith, true≢false}
 use Rattle.std.proofs.lemmas.Grind.{common_steps}
 use Rattle.std.specs.List.{AllByRecursion}
 use Rattle.std.specs.Vec.Iter.{into_iter_items}
@@ -56,7 +56,7 @@ loop-preserved g c =
       out = omega (arith, longer, out, counted);
       kept = c.accept.ensures.others_kept ∙ i.kept;
       ports = c.accept.ensures.ports_kept ∙ i.ports;
-      faults = c.in-Ok.ensures.faults.2 (λ e. cc) ∙ i.faults;
+      faults = c.in-Ok.ensures.faults.2 (λ e. true≢false (sym e)) ∙ i.faults;
     }
 
 pub loop-init : goal.loop-init
@@ -66,13 +66,13 @@ pub returns-in_default-clause-came : goal.returns-in_default-clause-came
 returns-in_default-clause-came g c = grind (arith, common_steps)
 
 pub returns-in_default-clause-seats : goal.returns-in_default-clause-seats
-returns-in_default-clause-seats g c = grind (arith, common_steps)
+returns-in_default-clause-seats g c = c.loop.invariant.seats'
 
 pub returns-in_default-clause-boards : goal.returns-in_default-clause-boards
-returns-in_default-clause-boards g c = grind (arith, common_steps)
+returns-in_default-clause-boards g c = c.loop.invariant.boards
 
 pub returns-in_default-clause-all : goal.returns-in_default-clause-all
-returns-in_default-clause-all g c = grind (arith, common_steps)
+returns-in_default-clause-all g c = λ never. absurd (true≢false (sym never))
 
 pub returns-in_default-clause-door_faults : goal.returns-in_default-clause-door_faults
 returns-in_default-clause-door_faults g c = grind (arith, common_steps)
@@ -81,10 +81,10 @@ pub returns-in_default-clause-out : goal.returns-in_default-clause-out
 returns-in_default-clause-out g c = grind (arith, common_steps)
 
 pub returns-in_default-clause-kept : goal.returns-in_default-clause-kept
-returns-in_default-clause-kept g c = grind (arith, common_steps)
+returns-in_default-clause-kept g c = c.accept.ensures.others_kept ∙ c.loop.invariant.kept
 
 pub returns-in_default-clause-ports : goal.returns-in_default-clause-ports
-returns-in_default-clause-ports g c = grind (arith, common_steps)
+returns-in_default-clause-ports g c = c.accept.ensures.ports_kept ∙ c.loop.invariant.ports
 
 pub returns-clause-came : goal.returns-clause-came
 returns-clause-came g c = c.loop.invariant.came

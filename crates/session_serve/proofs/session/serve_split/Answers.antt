@@ -1,4 +1,4 @@
-use Rattle.std.proofs.Common.{◌≡◌, ◌∙◌, ℕ, List, Vec, Global, Err, ap, length, map, subst, sym, arith}
+use Rattle.std.proofs.Common.{◌∙◌, ℕ, List, Vec, Global, Err, ap, length, map, refl, subst, sym, arith, true≢false}
 use Rattle.std.specs.List.{AllByRecursion}
 use Rattle.std.specs.Prelude.{IfOk}
 use Rattle.std.proofs.lemmas.List.{length-map}
@@ -13,7 +13,7 @@ use Rattle.board_greeting.proofs.Splitting.{have_lanes}
 use Rattle.session_serve.specs.Finish.{link_in}
 use Rattle.session_serve.specs.Hubs.{AreServedAt}
 use Rattle.session_serve.specs.Prepared.{told_by}
-use Rattle.session_serve.specs.declared.report.ServeFault.TheVariants.{Door, Rack}
+use Rattle.session_serve.proofs.EachDone.{err_same, ok_not_err}
 use Rattle.session_serve.proofs.Executing.{came_in_frames}
 use Rattle.session_serve.proofs.Reporting.{are_served, boards_back, boards_long, links_back}
 use Rattle.session_serve.proofs.Standing.{back_as_told, states_within}
@@ -91,10 +91,9 @@ returns-in-Ok-clause-served g c =
 pub returns-in-Err-clause-door_faults : goal.returns-in-Err-clause-door_faults
 returns-in-Err-clause-door_faults g c =
     let served = c.serve_at_hub-lanes.ensures.door_faults in (
-      λ failed. let same : c.in-Err.fault ≡ Door = cc in served.0 (c.in-Err.is ∙ ap Err same),
+      λ failed. served.0 (c.in-Err.is ∙ ap Err (err_same _ refl failed)),
       served.1,
-      λ no_door. served.2 (λ e. no_door (ap Err (let same : c.in-Err.fault ≡ Door =
-          (let is = c.in-Err.is in cc) in same))),
+      λ no_door. served.2 (λ failed. no_door (ap Err (err_same _ c.in-Err.is failed))),
     )
 
 -- the boards stood as their greetings told
@@ -114,7 +113,8 @@ returns-in-Err-clause-pairs g c =
 
 -- a server that has no report
 pub returns-in-Err-clause-listens : goal.returns-in-Err-clause-listens
-returns-in-Err-clause-listens g c = (λ never. absurd cc, c.serve_at_hub-lanes.ensures.listens.1)
+returns-in-Err-clause-listens g c =
+    (λ never. absurd (true≢false (sym never)), c.serve_at_hub-lanes.ensures.listens.1)
 
 -- no board executed a body of its own
 pub returns-in-Ok-clause-in_frames : goal.returns-in-Ok-clause-in_frames
@@ -161,7 +161,7 @@ pub returns-in-Ok-clause-rack_faults : goal.returns-in-Ok-clause-rack_faults
 returns-in-Ok-clause-rack_faults g c = c.finish_boards.ensures.faults
 
 pub returns-in-Ok-clause-not_rack : goal.returns-in-Ok-clause-not_rack
-returns-in-Ok-clause-not_rack g c = λ never. cc
+returns-in-Ok-clause-not_rack g c = λ never. ok_not_err never
 
 pub returns-in-Err-clause-none_out : goal.returns-in-Err-clause-none_out
 returns-in-Err-clause-none_out g c = c.serve_at_hub-lanes.ensures.none_out
@@ -174,7 +174,7 @@ returns-in-Err-clause-rack_faults g c = c.finish_boards.ensures.faults
 
 pub returns-in-Err-clause-not_rack : goal.returns-in-Err-clause-not_rack
 returns-in-Err-clause-not_rack g c failed =
-    c.serve_at_hub-lanes.ensures.not_rack (c.in-Err.is ∙ ap Err (let same : c.in-Err.fault ≡ Rack = cc in same))
+    c.serve_at_hub-lanes.ensures.not_rack (c.in-Err.is ∙ ap Err (err_same _ refl failed))
 
 pub finish_boards-requires-clause-empty : goal.finish_boards-requires-clause-empty
 finish_boards-requires-clause-empty g c κs within = c.requires.ready.prepared'.no_lines
@@ -199,4 +199,4 @@ pub returns-in-Ok-clause-door_faults : goal.returns-in-Ok-clause-door_faults
 returns-in-Ok-clause-door_faults g c =
     let served = c.serve_at_hub-lanes.ensures.door_faults in
     let is = c.in-Ok.is in
-    (λ failed. absurd cc, served.1, λ no_door. served.2 (λ failed. cc))
+    (λ failed. absurd (ok_not_err failed), served.1, λ no_door. served.2 (λ failed. ok_not_err (sym is ∙ failed)))
