@@ -4,6 +4,7 @@ use Rattle.std.specs.Prelude.{IfSome}
 use Rattle.world_core.specs.Telling.{IfTelling}
 use Rattle.hub_lane.specs.Carrying.{Pumping}
 use Rattle.hub_lane.specs.Lanes.{LaneState}
+use Rattle.hub_lane.specs.Links.{CountsPump, KeepsCounting}
 use Rattle.hub_lane.proofs.Carrying.{pumping}
 use Rattle.hub_lane.specs.Rounds.{HasPaid, Pumps, RoundAfter, round_of}
 use Rattle.hub_lane.proofs.Datagrams.{heard_down, heard_still}
@@ -12,7 +13,7 @@ use Rattle.hub_lane.proofs.Pumps.{lost_keeps, pump_down, pump_heard, pump_listen
 use Rattle.hub_lane.proofs.Pumps.{pump_spent}
 use Rattle.hub_lane.proofs.Rounds.{pays_pumped, pays_stopped, still_up}
 use Rattle.hub_lane.proofs.InRounds.{lane_round, same_lane_idle}
-use Rattle.hub_lane.proofs.Links.{same_record}
+use Rattle.hub_lane.proofs.Links.{did_not_go_down, same_record, went_down}
 use Rattle.hub_lane.proofs.lane.Lane.pump.Goals as goal
 
 pub invariant_of-self : goal.invariant_of-self
@@ -149,3 +150,35 @@ returns-in-Err-Failed-clause-same g c =
           (c.lose_all.ensures.lates ∙ c.in-Err-Failed.ensures.unsettled.lates) ∙ there;
       give_ups = omega (arith, same_give_ups);
     })
+
+pub returns-in-Ok-clause-down : goal.returns-in-Ok-clause-down
+returns-in-Ok-clause-down g c =
+    did_not_go_down c.self.view_is g.L.Link _ refl c.exchange.ensures.faults.unfaulted (λ e. cc)
+
+pub returns-in-Ok-clause-counts : goal.returns-in-Ok-clause-counts
+returns-in-Ok-clause-counts g c =
+    subst (λ (v : LaneState _). KeepsCounting g.L.Link v.link c.exchange.new.link) c.self.view_is
+    c.exchange.ensures.counts
+
+pub returns-in-Err-Failed-clause-down : goal.returns-in-Err-Failed-clause-down
+returns-in-Err-Failed-clause-down g c =
+    went_down c.self.view_is g.L.Link refl (c.exchange.ensures.faults.failed (cc))
+
+pub returns-in-Err-Failed-clause-counts : goal.returns-in-Err-Failed-clause-counts
+returns-in-Err-Failed-clause-counts g c =
+    subst (λ (v : LaneState _). KeepsCounting g.L.Link v.link c.exchange.new.link) c.self.view_is
+    c.exchange.ensures.counts
+
+pub returns-in-Err-NoMemory-clause-down : goal.returns-in-Err-NoMemory-clause-down
+returns-in-Err-NoMemory-clause-down g c =
+    did_not_go_down c.self.view_is g.L.Link _ refl c.exchange.ensures.faults.unfaulted (λ e. cc)
+
+pub returns-in-Err-NoMemory-clause-counts : goal.returns-in-Err-NoMemory-clause-counts
+returns-in-Err-NoMemory-clause-counts g c =
+    subst (λ (v : LaneState _). KeepsCounting g.L.Link v.link c.exchange.new.link) c.self.view_is
+    c.exchange.ensures.counts
+
+pub returns-in-Ok-clause-counted : goal.returns-in-Ok-clause-counted
+returns-in-Ok-clause-counted g c =
+    subst (λ (v : LaneState _). CountsPump g.L.Link c.in-Ok.pumped v.link c.exchange.new.link) c.self.view_is
+    c.in-Ok.ensures.received.counts

@@ -2,6 +2,7 @@ use Rattle.std.proofs.Common.{◌∙◌, ℕ, List, Option, ap, arith, refl, sym
 use Rattle.lane_record.specs.Lates.{late_in}
 use Rattle.std.specs.Prelude.{IfSome}
 use Rattle.hub_lane.specs.Lanes.{LaneState}
+use Rattle.hub_lane.specs.Links.{ReceivesNothing}
 use Rattle.world_core.specs.Telling.{IfTelling}
 use Rattle.hub_lane.specs.Rounds.{HasPaid, RoundAfter, Sends, round_of}
 use Rattle.hub_lane.proofs.Datagrams.{heard_down, heard_still}
@@ -107,3 +108,22 @@ returns-in-Err-Failed-clause-down g c =
 pub returns-in-Err-NoMemory-clause-down : goal.returns-in-Err-NoMemory-clause-down
 returns-in-Err-NoMemory-clause-down g c =
     did_not_go_down c.self.view_is g.L.Link _ refl c.send_all.ensures.faults.unfaulted (λ e. cc)
+
+pub returns-in-Ok-clause-down : goal.returns-in-Ok-clause-down
+returns-in-Ok-clause-down g c =
+    did_not_go_down c.self.view_is g.L.Link _ refl c.send_all.ensures.faults.unfaulted (λ e. cc)
+
+pub returns-in-Ok-clause-unreceived : goal.returns-in-Ok-clause-unreceived
+returns-in-Ok-clause-unreceived g c =
+    subst (λ (v : LaneState _). ReceivesNothing g.L.Link v.link c.send_all.new.link) c.self.view_is
+    c.send_all.ensures.unreceived
+
+pub returns-in-Err-Failed-clause-unreceived : goal.returns-in-Err-Failed-clause-unreceived
+returns-in-Err-Failed-clause-unreceived g c =
+    subst (λ (v : LaneState _). ReceivesNothing g.L.Link v.link c.send_all.new.link) c.self.view_is
+    c.send_all.ensures.unreceived
+
+pub returns-in-Err-NoMemory-clause-unreceived : goal.returns-in-Err-NoMemory-clause-unreceived
+returns-in-Err-NoMemory-clause-unreceived g c =
+    subst (λ (v : LaneState _). ReceivesNothing g.L.Link v.link c.send_all.new.link) c.self.view_is
+    c.send_all.ensures.unreceived
