@@ -1,7 +1,7 @@
-use Rattle.std.proofs.Common.{◌∙◌, ℕ, List, Option, ap, arith, refl, sym, subst, Bool, true, ◌||◌, inl}
+use Rattle.std.proofs.Common.{◌≡◌, ◌∙◌, ℕ, List, Option, ap, arith, refl, sym, subst, Bool, true, ◌||◌, inl}
 use Rattle.lane_record.specs.Lates.{late_in}
 use Rattle.std.specs.Prelude.{IfSome}
-use Rattle.hub_lane.specs.Lanes.{LaneState}
+use Rattle.hub_lane.specs.Lanes.{LaneState, opening_of}
 use Rattle.hub_lane.specs.Links.{ReceivesNothing}
 use Rattle.world_core.specs.Telling.{IfTelling}
 use Rattle.hub_lane.specs.Rounds.{HasPaid, RoundAfter, Sends, round_of}
@@ -10,7 +10,7 @@ use Rattle.hub_lane.proofs.Listened.{listened_sent, lost_answers, same_answers, 
 use Rattle.hub_lane.proofs.Pumps.{lost_keeps, pump_down, pump_sent, pump_spent}
 use Rattle.hub_lane.proofs.Rounds.{pays_pumped, pays_stopped, still_up}
 use Rattle.hub_lane.proofs.InRounds.{lane_round}
-use Rattle.hub_lane.proofs.Links.{did_not_go_down, same_record, went_down}
+use Rattle.hub_lane.proofs.Links.{did_not_go_down, same_opening, same_record, went_down}
 use Rattle.hub_lane.proofs.lane.Lane.send_wanted.Goals as goal
 
 pub invariant_of-self : goal.invariant_of-self
@@ -127,3 +127,21 @@ pub returns-in-Err-NoMemory-clause-unreceived : goal.returns-in-Err-NoMemory-cla
 returns-in-Err-NoMemory-clause-unreceived g c =
     subst (λ (v : LaneState _). ReceivesNothing g.L.Link v.link c.send_all.new.link) c.self.view_is
     c.send_all.ensures.unreceived
+
+pub returns-in-Ok-clause-opening : goal.returns-in-Ok-clause-opening
+returns-in-Ok-clause-opening g c =
+    let telling = g.L.Link.telling in
+    subst (λ (v : LaneState _). opening_of (telling c.send_all.new.link) ≡ opening_of (telling v.link)) c.self.view_is
+    (same_opening (telling c.self.inside.link) (telling c.send_all.new.link) c.send_all.ensures.unreceived.board)
+
+pub returns-in-Err-Failed-clause-opening : goal.returns-in-Err-Failed-clause-opening
+returns-in-Err-Failed-clause-opening g c =
+    let telling = g.L.Link.telling in
+    subst (λ (v : LaneState _). opening_of (telling c.send_all.new.link) ≡ opening_of (telling v.link)) c.self.view_is
+    (same_opening (telling c.self.inside.link) (telling c.send_all.new.link) c.send_all.ensures.unreceived.board)
+
+pub returns-in-Err-NoMemory-clause-opening : goal.returns-in-Err-NoMemory-clause-opening
+returns-in-Err-NoMemory-clause-opening g c =
+    let telling = g.L.Link.telling in
+    subst (λ (v : LaneState _). opening_of (telling c.send_all.new.link) ≡ opening_of (telling v.link)) c.self.view_is
+    (same_opening (telling c.self.inside.link) (telling c.send_all.new.link) c.send_all.ensures.unreceived.board)
