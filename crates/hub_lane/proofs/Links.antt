@@ -1,7 +1,7 @@
 -- What calls leave of a link, one after another.
 use Rattle.std.proofs.Common.{◌≡◌, ◌∙◌, ap, subst, sym, inl, inr, Bool, true, false, ℕ, ◌≤◌}
 use Rattle.std.proofs.Common.{List, [], ◌∷◌, ◌++◌, Option, Some, None, arith}
-use Rattle.std.specs.Prelude.{Result, Ok, Err, IfSome}
+use Rattle.std.specs.Prelude.{Result, Ok, Err, IfSome, OnErr}
 use Rattle.board_bus.specs.Cells.{CellMap}
 use Rattle.ipb_base.specs.Faults.{Rose}
 use Rattle.ipb_base.specs.Lists.{IsPrefix}
@@ -20,6 +20,11 @@ use Rattle.hub_lane.specs.Links.{IsDownByFault, KeepsCounting, ReceivesNothing}
 use Rattle.hub_lane.proofs.Linked.{received_board}
 use Rattle.hub_lane.proofs.Listened.{same_prefix}
 use Rattle.hub_lane.proofs.Standing.{SameBoard}
+
+-- what holds of a call that failed, whatever its fault became
+pub on_any_err : {T E P : Type 0} (r : Result T E) → P → OnErr r P
+on_any_err (Ok x) p = tt
+on_any_err (Err e) p = p
 
 pub nothing_keeps : {L : Type 0} (seen : Ghosts L) (old new : L) → ReceivesNothing seen old new
     → KeepsCounting seen old new

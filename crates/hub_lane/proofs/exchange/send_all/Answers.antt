@@ -1,4 +1,4 @@
-use Rattle.std.proofs.Common.{◌∙◌, ℕ, List, Result, Ok, Err, OnErr, subst, refl, sym, arith}
+use Rattle.std.proofs.Common.{◌∙◌, ℕ, List, subst, refl, sym, arith}
 use Rattle.world_model.specs.Hub.{Hub}
 use Rattle.world_model.specs.Sends.{Next}
 use Rattle.world_core.specs.Telling.{IfTelling, IsSent}
@@ -11,14 +11,10 @@ use Rattle.hub_lane.specs.Standing.{GoesOn, StaysUnanswered}
 use Rattle.hub_lane.proofs.Carrying.{put_more, put_none_by}
 use Rattle.hub_lane.proofs.Linked.{none_counted, refused_on, refused_stays, sent_board, sent_on, sent_stays, stays_here}
 use Rattle.hub_lane.proofs.Linked.{still_spelled, still_uncounted}
+use Rattle.hub_lane.proofs.Links.{on_any_err}
 use Rattle.hub_lane.proofs.Rounds.{pays_sent}
 use Rattle.hub_lane.proofs.InRounds.{none_sent, round_sent, same_link}
 use Rattle.hub_lane.proofs.exchange.send_all.Goals as goal
-
--- what holds of a call that failed, whatever its fault became
-on_any_err : {T E P : Type 0} (r : Result T E) → P → OnErr r P
-on_any_err (Ok x) p = tt
-on_any_err (Err e) p = p
 
 pub returns-in_err-write_send-clause-some : goal.returns-in_err-write_send-clause-some
 returns-in_err-write_send-clause-some g c =

@@ -1,4 +1,5 @@
-use Rattle.std.proofs.Common.{◌≡◌, ◌∙◌, ℕ, List, Option, ap, arith, sym, subst, refl, Bool, true, ◌||◌, inr}
+use Rattle.std.proofs.Common.{◌≡◌, ◌∙◌, ℕ, List, Option, ap, arith, sym, subst, refl}
+use Rattle.std.proofs.Common.{Bool, true, ◌||◌, inr}
 use Rattle.lane_record.specs.Lates.{late_in}
 use Rattle.std.specs.Prelude.{IfSome}
 use Rattle.world_core.specs.Telling.{IfTelling}
@@ -187,20 +188,23 @@ returns-in-Ok-clause-counted g c =
 pub returns-in-Ok-clause-opening : goal.returns-in-Ok-clause-opening
 returns-in-Ok-clause-opening g c =
     let telling = g.L.Link.telling in
-    subst (λ (v : LaneState _). opening_of (telling c.exchange.new.link) ≡ opening_of (telling v.link)) c.self.view_is
-    (same_opening (telling c.self.inside.link) (telling c.exchange.new.link) c.exchange.ensures.counts.board)
+    subst (λ (v : LaneState _). opening_of (telling c.exchange.new.link) ≡ opening_of (telling v.link))
+    c.self.view_is (same_opening (telling c.self.inside.link) (telling c.exchange.new.link)
+    c.exchange.ensures.counts.board)
 
 pub returns-in-Err-Failed-clause-opening : goal.returns-in-Err-Failed-clause-opening
 returns-in-Err-Failed-clause-opening g c =
     let telling = g.L.Link.telling in
-    subst (λ (v : LaneState _). opening_of (telling c.exchange.new.link) ≡ opening_of (telling v.link)) c.self.view_is
-    (same_opening (telling c.self.inside.link) (telling c.exchange.new.link) c.exchange.ensures.counts.board)
+    subst (λ (v : LaneState _). opening_of (telling c.exchange.new.link) ≡ opening_of (telling v.link))
+    c.self.view_is (same_opening (telling c.self.inside.link) (telling c.exchange.new.link)
+    c.exchange.ensures.counts.board)
 
 pub returns-in-Err-NoMemory-clause-opening : goal.returns-in-Err-NoMemory-clause-opening
 returns-in-Err-NoMemory-clause-opening g c =
     let telling = g.L.Link.telling in
-    subst (λ (v : LaneState _). opening_of (telling c.exchange.new.link) ≡ opening_of (telling v.link)) c.self.view_is
-    (same_opening (telling c.self.inside.link) (telling c.exchange.new.link) c.exchange.ensures.counts.board)
+    subst (λ (v : LaneState _). opening_of (telling c.exchange.new.link) ≡ opening_of (telling v.link))
+    c.self.view_is (same_opening (telling c.self.inside.link) (telling c.exchange.new.link)
+    c.exchange.ensures.counts.board)
 
 pub returns-in-Err-Failed-clause-link : goal.returns-in-Err-Failed-clause-link
 returns-in-Err-Failed-clause-link g c =

@@ -1,4 +1,5 @@
-use Rattle.std.proofs.Common.{◌≡◌, ◌∙◌, ℕ, List, Option, ap, arith, refl, sym, subst, Bool, true, ◌||◌, inl}
+use Rattle.std.proofs.Common.{◌≡◌, ◌∙◌, ℕ, List, Option, ap, arith, refl, sym, subst}
+use Rattle.std.proofs.Common.{Bool, true, ◌||◌, inl}
 use Rattle.lane_record.specs.Lates.{late_in}
 use Rattle.std.specs.Prelude.{IfSome}
 use Rattle.hub_lane.specs.Lanes.{LaneState, opening_of}
@@ -131,17 +132,20 @@ returns-in-Err-NoMemory-clause-unreceived g c =
 pub returns-in-Ok-clause-opening : goal.returns-in-Ok-clause-opening
 returns-in-Ok-clause-opening g c =
     let telling = g.L.Link.telling in
-    subst (λ (v : LaneState _). opening_of (telling c.send_all.new.link) ≡ opening_of (telling v.link)) c.self.view_is
-    (same_opening (telling c.self.inside.link) (telling c.send_all.new.link) c.send_all.ensures.unreceived.board)
+    subst (λ (v : LaneState _). opening_of (telling c.send_all.new.link) ≡ opening_of (telling v.link))
+    c.self.view_is (same_opening (telling c.self.inside.link) (telling c.send_all.new.link)
+    c.send_all.ensures.unreceived.board)
 
 pub returns-in-Err-Failed-clause-opening : goal.returns-in-Err-Failed-clause-opening
 returns-in-Err-Failed-clause-opening g c =
     let telling = g.L.Link.telling in
-    subst (λ (v : LaneState _). opening_of (telling c.send_all.new.link) ≡ opening_of (telling v.link)) c.self.view_is
-    (same_opening (telling c.self.inside.link) (telling c.send_all.new.link) c.send_all.ensures.unreceived.board)
+    subst (λ (v : LaneState _). opening_of (telling c.send_all.new.link) ≡ opening_of (telling v.link))
+    c.self.view_is (same_opening (telling c.self.inside.link) (telling c.send_all.new.link)
+    c.send_all.ensures.unreceived.board)
 
 pub returns-in-Err-NoMemory-clause-opening : goal.returns-in-Err-NoMemory-clause-opening
 returns-in-Err-NoMemory-clause-opening g c =
     let telling = g.L.Link.telling in
-    subst (λ (v : LaneState _). opening_of (telling c.send_all.new.link) ≡ opening_of (telling v.link)) c.self.view_is
-    (same_opening (telling c.self.inside.link) (telling c.send_all.new.link) c.send_all.ensures.unreceived.board)
+    subst (λ (v : LaneState _). opening_of (telling c.send_all.new.link) ≡ opening_of (telling v.link))
+    c.self.view_is (same_opening (telling c.self.inside.link) (telling c.send_all.new.link)
+    c.send_all.ensures.unreceived.board)
