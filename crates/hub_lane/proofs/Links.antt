@@ -1,9 +1,11 @@
 -- What calls leave of a link, one after another.
 use Rattle.std.proofs.Common.{◌≡◌, ◌∙◌, ap, subst, sym, inl, inr, Bool, true, false, ℕ, ◌≤◌}
 use Rattle.std.proofs.Common.{List, [], ◌∷◌, ◌++◌, Option, Some, None, arith}
-use Rattle.std.specs.Prelude.{Result, Ok, Err, IfSome}
+use Rattle.std.specs.Prelude.{Result, Ok, Err, IfSome, OnErr}
+use Rattle.board_bus.specs.Cells.{CellMap}
 use Rattle.ipb_base.specs.Faults.{Rose}
 use Rattle.ipb_base.specs.Lists.{IsPrefix}
+use Rattle.world_model.specs.Board.{Board}
 use Rattle.world_core.specs.declared.link.Link.{Ghosts}
 use Rattle.world_core.specs.declared.link.LinkFault.{LinkFault}
 use Rattle.world_core.specs.declared.link.Received.{Received}
@@ -13,11 +15,16 @@ use Rattle.world_core.specs.Telling.{IfTelling, IsQuiet, Receives, Telling}
 use Rattle.hub_lane.specs.declared.answers.Pumped.TheVariants.{Quiet}
 use Rattle.hub_lane.specs.Calls.{IsSameRecord}
 use Rattle.hub_lane.specs.Hearing.{WasReceived}
-use Rattle.hub_lane.specs.Lanes.{LaneState}
+use Rattle.hub_lane.specs.Lanes.{LaneState, board_of, opening_of}
 use Rattle.hub_lane.specs.Links.{IsDownByFault, KeepsCounting, ReceivesNothing}
 use Rattle.hub_lane.proofs.Linked.{received_board}
 use Rattle.hub_lane.proofs.Listened.{same_prefix}
 use Rattle.hub_lane.proofs.Standing.{SameBoard}
+
+-- what holds of a call that failed, whatever its fault became
+pub on_any_err : {T E P : Type 0} (r : Result T E) → P → OnErr r P
+on_any_err (Ok x) p = tt
+on_any_err (Err e) p = p
 
 pub nothing_keeps : {L : Type 0} (seen : Ghosts L) (old new : L) → ReceivesNothing seen old new
     → KeepsCounting seen old new
@@ -72,6 +79,26 @@ was_quiet bytes held now None None quiet = tt
 was_quiet bytes held now None (Some u) quiet = absurd quiet
 was_quiet bytes held now (Some t) None quiet = absurd quiet
 was_quiet bytes held now (Some t) (Some u) quiet = quiet.none_due
+
+-- ---- what a call leaves of the board that a link tells
+
+abbrev opening_in : Option Board → Option CellMap
+opening_in None = None
+opening_in (Some board) = Some board.opening
+
+pub same_opening : (old new : Option Telling) → board_of new ≡ board_of old → opening_of new ≡ opening_of old
+same_opening None None same = ap opening_in same
+same_opening None (Some u) same = ap opening_in same
+same_opening (Some t) None same = ap opening_in same
+same_opening (Some t) (Some u) same = ap opening_in same
+
+-- what holds of all that links tell
+pub if_both : (R : Telling → Telling → Type 0) (old new : Option Telling) → board_of new ≡ board_of old
+    → ((t u : Telling) → R t u) → IfTelling old new R
+if_both R None None same holds = tt
+if_both R None (Some u) same holds = absurd cc
+if_both R (Some t) None same holds = absurd cc
+if_both R (Some t) (Some u) same holds = holds t u
 
 -- ---- what a call leaves of a lane
 

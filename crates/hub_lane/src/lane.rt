@@ -261,9 +261,9 @@ impl<L: Link> Lane<L> {
         ensures refused { IfErr result (IsRefused self.old.items (payload_of self.old.status.mtu) body) }
         ensures unchanged { OnErr result (self.new ≡ self.old) }
     {
+        let payload = self.payload();
+        make_room(&mut self.book, payload, body.as_slice(), reply_words)?;
         entries_go_into_the_book();
-        self.check_plan(body.as_slice(), reply_words)?;
-        self.book.reserve()?;
         Ok(self.book.plan(client, body, reply_words)?)
     }
 
@@ -348,14 +348,14 @@ impl<L: Link> Lane<L> {
         // So the head of its record stays.
         ensures opening { opening_of (L.telling self.new.link) ≡ opening_of (L.telling self.old.link) }
     {
-        laws_of_pumps();
-        laws_of_rounds();
         if self.spent {
             return;
         }
         if self.down {
             return;
         }
+        laws_of_pumps();
+        laws_of_rounds();
         match send_all(&mut self.engine, &mut self.link, &mut self.buffer) {
             Ok(()) => {}
             Err(LinkFault::Failed) => {
@@ -402,8 +402,6 @@ impl<L: Link> Lane<L> {
         // So the head of its record stays.
         ensures opening { opening_of (L.telling self.new.link) ≡ opening_of (L.telling self.old.link) }
     {
-        laws_of_pumps();
-        laws_of_rounds();
         if self.spent {
             return Err(NoMemory);
         }
@@ -413,6 +411,8 @@ impl<L: Link> Lane<L> {
         if !self.engine.waiting() {
             return Ok(Pumped::Idle);
         }
+        laws_of_pumps();
+        laws_of_rounds();
         let _asks = self.outcomes.len();
         match exchange(
             self.alloc,
@@ -457,26 +457,33 @@ impl<L: Link> Lane<L> {
         let taken = self.book.take(client, seq, answer, self.give_ups);
         Ok(Taken::Ready(taken))
     }
+}
 
-    /// Whether a body may be planned.
-    fn check_plan(&self, body: &[u32], reply_words: u32) -> Result<(), PlanRefusal>
-        requires reply { reply_words ≡ reply_room body.now }
-        ensures can { OnOk result (CanPlan self.now.items (payload_of self.now.status.mtu) body.now) }
-        ensures refused { IfErr result (IsRefused self.now.items (payload_of self.now.status.mtu) body.now) }
-    {
-        let payload = self.payload() as usize;
-        if self.book.is_sealed() {
-            return Err(PlanRefusal::Sealed);
-        }
-        if body.len() >= payload {
-            return Err(PlanRefusal::TooLong);
-        }
-        if reply_words as usize >= payload {
-            return Err(PlanRefusal::ReplyTooLong);
-        }
-        if self.book.is_full(body.len(), reply_words) {
-            return Err(PlanRefusal::Overfull);
-        }
-        Ok(())
+/// Takes room for the Plan of a body, where it may be planned.
+fn make_room(
+    book: &mut Book,
+    payload: u32,
+    body: &[u32],
+    reply_words: u32,
+) -> Result<(), PlanRefusal>
+    requires reply { reply_words ≡ reply_room body.now }
+    ensures can { OnOk result (CanPlan book.old.items payload body.now) }
+    ensures room { OnOk result (2 ≤ book.new.room) }
+    ensures refused { IfErr result (IsRefused book.old.items payload body.now) }
+    ensures items { book.new.items ≡ book.old.items }
+{
+    let payload = payload as usize;
+    if book.is_sealed() {
+        return Err(PlanRefusal::Sealed);
     }
+    if body.len() >= payload {
+        return Err(PlanRefusal::TooLong);
+    }
+    if reply_words as usize >= payload {
+        return Err(PlanRefusal::ReplyTooLong);
+    }
+    if book.is_full(body.len(), reply_words) {
+        return Err(PlanRefusal::Overfull);
+    }
+    Ok(book.reserve()?)
 }

@@ -97,8 +97,7 @@ impl Datagrams {
             ≡ self.old ++ record { direction = direction; bytes = datagram.now; birth = birth } ∷ []) }
         ensures unchanged { OnErr result (self.new ≡ self.old) }
     {
-        self.entries.reserve(1)?;
-        self.bytes.reserve(datagram.len())?;
+        make_room(&mut self.bytes, &mut self.entries, datagram.len())?;
         put(
             &mut self.bytes,
             &mut self.entries,
@@ -121,10 +120,9 @@ impl Datagrams {
         ensures board { OnErr result (board.new ≡ board.old) }
         ensures air { OnErr result (self.new ≡ self.old) }
     {
+        make_room(&mut self.bytes, &mut self.entries, MAX_DATAGRAM)?;
         board.keeps_its_ranges();
         board.answers_fit();
-        self.entries.reserve(1)?;
-        self.bytes.reserve(MAX_DATAGRAM)?;
         let Some(datagram) = datagram_at(&self.bytes, &self.entries, place) else {
             unreachable!();
         };
@@ -132,6 +130,18 @@ impl Datagrams {
         put_answer(&mut self.bytes, &mut self.entries, &self.answer, sent);
         Ok(())
     }
+}
+
+/// Takes room for one more datagram of so many bytes. The datagrams that are there stay as they are.
+fn make_room(bytes: &mut Vec<u8>, entries: &mut Vec<Entry>, count: usize) -> Result<(), NoMemory>
+    ensures bytes { bytes.new.items ≡ bytes.old.items }
+    ensures entries { entries.new.items ≡ entries.old.items }
+    ensures room { OnOk result (vec_len bytes.new + count ≤ vec_capacity bytes.new) }
+    ensures place { OnOk result (vec_len entries.new < vec_capacity entries.new) }
+{
+    entries.reserve(1)?;
+    bytes.reserve(count)?;
+    Ok(())
 }
 
 /// The datagram at a place.

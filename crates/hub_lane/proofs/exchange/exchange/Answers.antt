@@ -1,6 +1,12 @@
-use Rattle.std.proofs.Common.{◌∙◌, sym, arith}
+use Rattle.std.proofs.Common.{◌∙◌, ap, subst, refl, sym, arith}
+use Rattle.world_model.specs.Hub.{Hub, after_handing_out}
+use Rattle.lane_record.specs.Lates.{put_lates}
+use Rattle.lane_record.specs.Offers.{put_all}
+use Rattle.hub_lane.specs.Exchange.{Hears}
+use Rattle.hub_lane.specs.Hearing.{give_ups_of, gots_of, quiets_of, receives_of}
+use Rattle.hub_lane.specs.Sends.{HasSent}
 use Rattle.hub_lane.proofs.Carrying.{carried}
-use Rattle.hub_lane.proofs.Links.{keeps_then, nothing_keeps}
+use Rattle.hub_lane.proofs.Links.{keeps_then, nothing_keeps, on_any_err}
 use Rattle.hub_lane.proofs.Ready.{exchanged, exchanged_unanswered, ready_sent, same_sent}
 use Rattle.hub_lane.proofs.Rounds.{exchanged_pays}
 use Rattle.hub_lane.proofs.InRounds.{round_exchanged}
@@ -91,3 +97,51 @@ pub returns-clause-counts : goal.returns-clause-counts
 returns-clause-counts g c =
     keeps_then g.L.Link c.args.link.now c.send_all.new.link c.receive.new.link c.send_all.ensures.unreceived
     c.receive.ensures.counts
+
+pub returns-clause-settled : goal.returns-clause-settled
+returns-clause-settled g c =
+    let pumped = c.in_ok-pumped.pumped in
+    let heard = subst (λ (h : Hub). Hears pumped c.receive.new.buffer.items h c.receive.new.hub)
+    c.in_ok-send_all.ensures.all c.in_ok-pumped.ensures.heard in
+    record {
+      event = heard.event;
+      hub = c.settle.ensures.hub ∙ ap after_handing_out heard.hub;
+      outcomes = c.settle.ensures.outcomes ∙ ap (λ (h : Hub). put_all h.fates c.args.outcomes.now.items) heard.hub;
+      lates = c.settle.ensures.lates ∙ ap (λ (h : Hub). put_lates h.lates c.args.outcomes.now.lates) heard.hub;
+      give_ups = c.settle.ensures.give_ups ∙ ap (λ (h : Hub). give_ups_of pumped h c.args.give_ups.now) heard.hub;
+    }
+
+pub returns-clause-received : goal.returns-clause-received
+returns-clause-received g c =
+    let pumped = c.in_ok-pumped.pumped in
+    let sent = c.send_all.ensures.unreceived in
+    let is = c.in_ok-pumped.ensures.received in
+    record {
+      counts = record {
+        quiets = is.counts.quiets ∙ ap (quiets_of pumped) sent.quiets;
+        gots = is.counts.gots ∙ ap (gots_of pumped) sent.gots;
+      };
+      receives = is.receives ∙ ap (receives_of pumped c.receive.new.buffer.items) sent.receives;
+    }
+
+pub returns-in_err-send_all-clause-unsettled : goal.returns-in_err-send_all-clause-unsettled
+returns-in_err-send_all-clause-unsettled g c =
+    on_any_err c.from_residual.result
+    (record { sent = c.send_all.ensures.some; outcomes = refl; lates = refl; give_ups = refl })
+
+pub returns-in_err-send_all-clause-stopped : goal.returns-in_err-send_all-clause-stopped
+returns-in_err-send_all-clause-stopped g c =
+    on_any_err c.from_residual.result c.in_err-send_all.ensures.stopped
+
+pub returns-in_err-send_all-clause-failed : goal.returns-in_err-send_all-clause-failed
+returns-in_err-send_all-clause-failed g c =
+    λ failed. record { receives = c.send_all.ensures.unreceived; unanswered = c.send_all.ensures.unanswered }
+
+pub returns-in_err-pumped-clause-unsettled : goal.returns-in_err-pumped-clause-unsettled
+returns-in_err-pumped-clause-unsettled g c =
+    on_any_err c.from_residual-in_err-pumped.result (record {
+      sent = subst (HasSent c.args.hub.now) (sym c.in_err-pumped.ensures.unheard) c.send_all.ensures.some;
+      outcomes = refl;
+      lates = refl;
+      give_ups = refl;
+    })

@@ -1,13 +1,17 @@
 use Rattle.std.proofs.Common.{◌∙◌, ℕ, List, subst, refl, sym, arith}
+use Rattle.world_model.specs.Hub.{Hub}
 use Rattle.world_model.specs.Sends.{Next}
 use Rattle.world_core.specs.Telling.{IfTelling, IsSent}
 use Rattle.world_core.proofs.Sends.{next_is}
 use Rattle.hub_lane.proofs.Sends.{all_out, none_is, one_less, same_hub, sent_more}
 use Rattle.hub_lane.specs.Carrying.{HasPut}
 use Rattle.hub_lane.specs.PumpLaws.{SendLeaves}
+use Rattle.hub_lane.specs.Rounds.{PaysOn, RoundFor, Sends}
+use Rattle.hub_lane.specs.Standing.{GoesOn, StaysUnanswered}
 use Rattle.hub_lane.proofs.Carrying.{put_more, put_none_by}
-use Rattle.hub_lane.proofs.Linked.{none_counted, refused_stays, sent_board, sent_on, sent_stays, stays_here}
+use Rattle.hub_lane.proofs.Linked.{none_counted, refused_on, refused_stays, sent_board, sent_on, sent_stays, stays_here}
 use Rattle.hub_lane.proofs.Linked.{still_spelled, still_uncounted}
+use Rattle.hub_lane.proofs.Links.{on_any_err}
 use Rattle.hub_lane.proofs.Rounds.{pays_sent}
 use Rattle.hub_lane.proofs.InRounds.{none_sent, round_sent, same_link}
 use Rattle.hub_lane.proofs.exchange.send_all.Goals as goal
@@ -117,3 +121,84 @@ returns-in_err-send-clause-unanswered g c =
     let is = next_is before.hub c.next_send.new.self c.in-Some.send c.in-Some.ensures.send c.next_send.ensures.hub in
     refused_stays c.args.hub.now before.hub next (telling c.args.link.now) (telling before.link)
     (telling c.send.new.self) is before.invariant.running before.invariant.unanswered c.in_err-send.ensures.refused
+
+pub returns-clause-running : goal.returns-clause-running
+returns-clause-running g c =
+    let telling = g.L.Link.telling in
+    let told = sym c.in_default.is ∙ c.next_send.ensures.send in
+    subst (λ (hub : Hub). GoesOn (telling c.args.link.now) c.args.hub.now (telling c.loop-send.link) hub)
+    (sym (same_hub c.loop-send.hub c.next_send.new.self told c.next_send.ensures.hub)) c.loop-send.invariant.running
+
+pub returns-clause-unanswered : goal.returns-clause-unanswered
+returns-clause-unanswered g c =
+    let telling = g.L.Link.telling in
+    let told = sym c.in_default.is ∙ c.next_send.ensures.send in
+    subst (λ (hub : Hub). StaysUnanswered (telling c.args.link.now) c.args.hub.now (telling c.loop-send.link) hub)
+    (sym (same_hub c.loop-send.hub c.next_send.new.self told c.next_send.ensures.hub)) c.loop-send.invariant.unanswered
+
+pub returns-clause-pays : goal.returns-clause-pays
+returns-clause-pays g c =
+    let telling = g.L.Link.telling in
+    let held = g.L.Link.held in
+    let told = sym c.in_default.is ∙ c.next_send.ensures.send in
+    subst (λ (hub : Hub). PaysOn (telling c.args.link.now) c.args.hub.now (held c.args.link.now)
+    (telling c.loop-send.link) hub (held c.loop-send.link))
+    (sym (same_hub c.loop-send.hub c.next_send.new.self told c.next_send.ensures.hub)) c.loop-send.invariant.pays
+
+pub returns-clause-round : goal.returns-clause-round
+returns-clause-round g c =
+    let telling = g.L.Link.telling in
+    let held = g.L.Link.held in
+    let told = sym c.in_default.is ∙ c.next_send.ensures.send in
+    subst (λ (hub : Hub). RoundFor Sends (telling c.args.link.now) c.args.hub.now (held c.args.link.now)
+    (telling c.loop-send.link) hub (held c.loop-send.link))
+    (sym (same_hub c.loop-send.hub c.next_send.new.self told c.next_send.ensures.hub)) c.loop-send.invariant.round
+
+pub returns-clause-put : goal.returns-clause-put
+returns-clause-put g c =
+    let telling = g.L.Link.telling in
+    let told = sym c.in_default.is ∙ c.next_send.ensures.send in
+    subst (λ (hub : Hub). IfTelling (telling c.args.link.now) (telling c.loop-send.link) (HasPut c.args.hub.now hub))
+    (sym (same_hub c.loop-send.hub c.next_send.new.self told c.next_send.ensures.hub)) c.loop-send.invariant.put
+
+pub returns-in_err-write_send-clause-stopped : goal.returns-in_err-write_send-clause-stopped
+returns-in_err-write_send-clause-stopped g c =
+    let before = c.loop-send in
+    let telling = g.L.Link.telling in
+    let next : Next = record { send = c.in-Some.send; hub = c.next_send.new.self } in
+    let is = next_is before.hub c.next_send.new.self c.in-Some.send c.in-Some.ensures.send c.next_send.ensures.hub in
+    on_any_err c.from_residual.result (refused_on c.args.hub.now before.hub next (telling c.args.link.now)
+    (telling before.link) (telling before.link) is before.invariant.running refl)
+
+pub returns-in_err-send-clause-stopped : goal.returns-in_err-send-clause-stopped
+returns-in_err-send-clause-stopped g c =
+    let before = c.loop-send in
+    let telling = g.L.Link.telling in
+    let next : Next = record { send = c.in-Some.send; hub = c.next_send.new.self } in
+    let is = next_is before.hub c.next_send.new.self c.in-Some.send c.in-Some.ensures.send c.next_send.ensures.hub in
+    on_any_err c.from_residual-in_err-send.result (refused_on c.args.hub.now before.hub next (telling c.args.link.now)
+    (telling before.link) (telling c.send.new.self) is before.invariant.running c.in_err-send.ensures.refused)
+
+pub returns-clause-unreceived : goal.returns-clause-unreceived
+returns-clause-unreceived g c =
+    let is = c.loop-send.invariant in
+    record {
+      faults = is.fault;
+      quiets = is.quiet;
+      gots = is.got;
+      receives = is.receive;
+      held = is.hold;
+      board = is.board;
+    }
+
+pub returns-in_err-write_send-clause-unreceived : goal.returns-in_err-write_send-clause-unreceived
+returns-in_err-write_send-clause-unreceived g c =
+    let is = c.loop-send.invariant in
+    record {
+      faults = is.fault;
+      quiets = is.quiet;
+      gots = is.got;
+      receives = is.receive;
+      held = is.hold;
+      board = is.board;
+    }

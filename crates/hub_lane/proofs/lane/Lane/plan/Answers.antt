@@ -14,13 +14,14 @@ invariant_of-self-2 g c =
     let status : BoardStatus = record { mtu = l.mtu; buffers = l.buffers; next = l.first } in
     let items = l.book.items in
     let x = plan_of c.args.client (planned_count c.args.client items) c.args.body in
+    let payload : c.payload-payload.result ≡ payload_of l.mtu = c.payload-payload.ensures
+    ∙ ap (λ (v : LaneState _). payload_of v.status.mtu) (sym c.self.view_is) in
     let can : CanPlan items (payload_of l.mtu) c.args.body =
     subst (λ (body : List ℕ). CanPlan items (payload_of l.mtu) body) c.as_slice.ensures
-    (subst (λ (v : LaneState _). CanPlan v.items (payload_of v.status.mtu) c.as_slice.result.now) (sym c.self.view_is)
-    c.in_ok-check_plan.ensures.can) in
+    (subst (λ (words : ℕ). CanPlan items words c.as_slice.result.now) payload c.in_ok-make_room.ensures.can) in
     let entry : c.plan.new.self.items ≡ items ++ x ∷ [] = c.in_ok-plan.ensures.entry
     ∙ ap (λ (xs : List Item). xs ++ plan_of c.args.client (planned_count c.args.client xs) c.args.body ∷ [])
-    c.in_ok-reserve.ensures.items in (
+    c.make_room.ensures.items in (
       subst (λ (xs : List Item). IsLane l.settings status l.engine xs l.outcomes.items l.outcomes.lates l.give_ups
           l.down l.spent
           (g.L.Link.telling l.link) (g.L.Link.faults l.link) (g.L.Link.quiets l.link)) (sym entry)

@@ -1,9 +1,12 @@
-use Rattle.std.proofs.Common.{◌∙◌, ℕ, List, Option, ap, arith, sym, subst, refl, Bool, true, ◌||◌, inr}
+use Rattle.std.proofs.Common.{◌≡◌, ◌∙◌, ℕ, List, Option, ap, arith, sym, subst, refl}
+use Rattle.std.proofs.Common.{Bool, true, ◌||◌, inr}
 use Rattle.lane_record.specs.Lates.{late_in}
 use Rattle.std.specs.Prelude.{IfSome}
 use Rattle.world_core.specs.Telling.{IfTelling}
 use Rattle.hub_lane.specs.Carrying.{Pumping}
-use Rattle.hub_lane.specs.Lanes.{LaneState}
+use Rattle.hub_lane.specs.declared.answers.Pumped.TheVariants.{LinkDown}
+use Rattle.hub_lane.specs.Lanes.{LaneState, opening_of}
+use Rattle.hub_lane.specs.Links.{CountsPump, KeepsCounting}
 use Rattle.hub_lane.proofs.Carrying.{pumping}
 use Rattle.hub_lane.specs.Rounds.{HasPaid, Pumps, RoundAfter, round_of}
 use Rattle.hub_lane.proofs.Datagrams.{heard_down, heard_still}
@@ -12,7 +15,7 @@ use Rattle.hub_lane.proofs.Pumps.{lost_keeps, pump_down, pump_heard, pump_listen
 use Rattle.hub_lane.proofs.Pumps.{pump_spent}
 use Rattle.hub_lane.proofs.Rounds.{pays_pumped, pays_stopped, still_up}
 use Rattle.hub_lane.proofs.InRounds.{lane_round, same_lane_idle}
-use Rattle.hub_lane.proofs.Links.{same_record}
+use Rattle.hub_lane.proofs.Links.{did_not_go_down, if_both, same_opening, same_record, went_down}
 use Rattle.hub_lane.proofs.lane.Lane.pump.Goals as goal
 
 pub invariant_of-self : goal.invariant_of-self
@@ -149,3 +152,80 @@ returns-in-Err-Failed-clause-same g c =
           (c.lose_all.ensures.lates ∙ c.in-Err-Failed.ensures.unsettled.lates) ∙ there;
       give_ups = omega (arith, same_give_ups);
     })
+
+pub returns-in-Ok-clause-down : goal.returns-in-Ok-clause-down
+returns-in-Ok-clause-down g c =
+    did_not_go_down c.self.view_is g.L.Link _ refl c.exchange.ensures.faults.unfaulted (λ e. cc)
+
+pub returns-in-Ok-clause-counts : goal.returns-in-Ok-clause-counts
+returns-in-Ok-clause-counts g c =
+    subst (λ (v : LaneState _). KeepsCounting g.L.Link v.link c.exchange.new.link) c.self.view_is
+    c.exchange.ensures.counts
+
+pub returns-in-Err-Failed-clause-down : goal.returns-in-Err-Failed-clause-down
+returns-in-Err-Failed-clause-down g c =
+    went_down c.self.view_is g.L.Link refl (c.exchange.ensures.faults.failed (cc))
+
+pub returns-in-Err-Failed-clause-counts : goal.returns-in-Err-Failed-clause-counts
+returns-in-Err-Failed-clause-counts g c =
+    subst (λ (v : LaneState _). KeepsCounting g.L.Link v.link c.exchange.new.link) c.self.view_is
+    c.exchange.ensures.counts
+
+pub returns-in-Err-NoMemory-clause-down : goal.returns-in-Err-NoMemory-clause-down
+returns-in-Err-NoMemory-clause-down g c =
+    did_not_go_down c.self.view_is g.L.Link _ refl c.exchange.ensures.faults.unfaulted (λ e. cc)
+
+pub returns-in-Err-NoMemory-clause-counts : goal.returns-in-Err-NoMemory-clause-counts
+returns-in-Err-NoMemory-clause-counts g c =
+    subst (λ (v : LaneState _). KeepsCounting g.L.Link v.link c.exchange.new.link) c.self.view_is
+    c.exchange.ensures.counts
+
+pub returns-in-Ok-clause-counted : goal.returns-in-Ok-clause-counted
+returns-in-Ok-clause-counted g c =
+    subst (λ (v : LaneState _). CountsPump g.L.Link c.in-Ok.pumped v.link c.exchange.new.link) c.self.view_is
+    c.in-Ok.ensures.received.counts
+
+pub returns-in-Ok-clause-opening : goal.returns-in-Ok-clause-opening
+returns-in-Ok-clause-opening g c =
+    let telling = g.L.Link.telling in
+    subst (λ (v : LaneState _). opening_of (telling c.exchange.new.link) ≡ opening_of (telling v.link))
+    c.self.view_is (same_opening (telling c.self.inside.link) (telling c.exchange.new.link)
+    c.exchange.ensures.counts.board)
+
+pub returns-in-Err-Failed-clause-opening : goal.returns-in-Err-Failed-clause-opening
+returns-in-Err-Failed-clause-opening g c =
+    let telling = g.L.Link.telling in
+    subst (λ (v : LaneState _). opening_of (telling c.exchange.new.link) ≡ opening_of (telling v.link))
+    c.self.view_is (same_opening (telling c.self.inside.link) (telling c.exchange.new.link)
+    c.exchange.ensures.counts.board)
+
+pub returns-in-Err-NoMemory-clause-opening : goal.returns-in-Err-NoMemory-clause-opening
+returns-in-Err-NoMemory-clause-opening g c =
+    let telling = g.L.Link.telling in
+    subst (λ (v : LaneState _). opening_of (telling c.exchange.new.link) ≡ opening_of (telling v.link))
+    c.self.view_is (same_opening (telling c.self.inside.link) (telling c.exchange.new.link)
+    c.exchange.ensures.counts.board)
+
+pub returns-in-Err-Failed-clause-link : goal.returns-in-Err-Failed-clause-link
+returns-in-Err-Failed-clause-link g c =
+    let l = c.self.inside in
+    let telling = g.L.Link.telling in
+    subst (λ (v : LaneState _). IfTelling (telling v.link) (telling c.exchange.new.link)
+    (Pumping LinkDown v.hub c.exchange.new.hub)) c.self.view_is
+    (if_both (Pumping LinkDown l.engine c.exchange.new.hub) (telling l.link) (telling c.exchange.new.link)
+    c.exchange.ensures.counts.board (λ t u. tt))
+
+pub returns-in-Err-Failed-clause-round : goal.returns-in-Err-Failed-clause-round
+returns-in-Err-Failed-clause-round g c =
+    let l = c.self.inside in
+    let telling = g.L.Link.telling in
+    let held = g.L.Link.held in
+    subst (λ (v : LaneState _). IfTelling (telling v.link) (telling c.exchange.new.link)
+    (λ t u. RoundAfter (Pumps LinkDown) (round_of v (held v.link) t) (record {
+      hub = c.exchange.new.hub;
+      stopped = true;
+      told = u;
+      held = held c.exchange.new.link;
+    }))) c.self.view_is
+    (if_both (λ t u. true ≡ true) (telling l.link) (telling c.exchange.new.link) c.exchange.ensures.counts.board
+    (λ t u. refl))

@@ -1,7 +1,9 @@
-use Rattle.std.proofs.Common.{◌∙◌, ℕ, List, Option, ap, arith, refl, sym, subst, Bool, true, ◌||◌, inl}
+use Rattle.std.proofs.Common.{◌≡◌, ◌∙◌, ℕ, List, Option, ap, arith, refl, sym, subst}
+use Rattle.std.proofs.Common.{Bool, true, ◌||◌, inl}
 use Rattle.lane_record.specs.Lates.{late_in}
 use Rattle.std.specs.Prelude.{IfSome}
-use Rattle.hub_lane.specs.Lanes.{LaneState}
+use Rattle.hub_lane.specs.Lanes.{LaneState, opening_of}
+use Rattle.hub_lane.specs.Links.{ReceivesNothing}
 use Rattle.world_core.specs.Telling.{IfTelling}
 use Rattle.hub_lane.specs.Rounds.{HasPaid, RoundAfter, Sends, round_of}
 use Rattle.hub_lane.proofs.Datagrams.{heard_down, heard_still}
@@ -9,7 +11,7 @@ use Rattle.hub_lane.proofs.Listened.{listened_sent, lost_answers, same_answers, 
 use Rattle.hub_lane.proofs.Pumps.{lost_keeps, pump_down, pump_sent, pump_spent}
 use Rattle.hub_lane.proofs.Rounds.{pays_pumped, pays_stopped, still_up}
 use Rattle.hub_lane.proofs.InRounds.{lane_round}
-use Rattle.hub_lane.proofs.Links.{did_not_go_down, same_record, went_down}
+use Rattle.hub_lane.proofs.Links.{did_not_go_down, same_opening, same_record, went_down}
 use Rattle.hub_lane.proofs.lane.Lane.send_wanted.Goals as goal
 
 pub invariant_of-self : goal.invariant_of-self
@@ -107,3 +109,43 @@ returns-in-Err-Failed-clause-down g c =
 pub returns-in-Err-NoMemory-clause-down : goal.returns-in-Err-NoMemory-clause-down
 returns-in-Err-NoMemory-clause-down g c =
     did_not_go_down c.self.view_is g.L.Link _ refl c.send_all.ensures.faults.unfaulted (λ e. cc)
+
+pub returns-in-Ok-clause-down : goal.returns-in-Ok-clause-down
+returns-in-Ok-clause-down g c =
+    did_not_go_down c.self.view_is g.L.Link _ refl c.send_all.ensures.faults.unfaulted (λ e. cc)
+
+pub returns-in-Ok-clause-unreceived : goal.returns-in-Ok-clause-unreceived
+returns-in-Ok-clause-unreceived g c =
+    subst (λ (v : LaneState _). ReceivesNothing g.L.Link v.link c.send_all.new.link) c.self.view_is
+    c.send_all.ensures.unreceived
+
+pub returns-in-Err-Failed-clause-unreceived : goal.returns-in-Err-Failed-clause-unreceived
+returns-in-Err-Failed-clause-unreceived g c =
+    subst (λ (v : LaneState _). ReceivesNothing g.L.Link v.link c.send_all.new.link) c.self.view_is
+    c.send_all.ensures.unreceived
+
+pub returns-in-Err-NoMemory-clause-unreceived : goal.returns-in-Err-NoMemory-clause-unreceived
+returns-in-Err-NoMemory-clause-unreceived g c =
+    subst (λ (v : LaneState _). ReceivesNothing g.L.Link v.link c.send_all.new.link) c.self.view_is
+    c.send_all.ensures.unreceived
+
+pub returns-in-Ok-clause-opening : goal.returns-in-Ok-clause-opening
+returns-in-Ok-clause-opening g c =
+    let telling = g.L.Link.telling in
+    subst (λ (v : LaneState _). opening_of (telling c.send_all.new.link) ≡ opening_of (telling v.link))
+    c.self.view_is (same_opening (telling c.self.inside.link) (telling c.send_all.new.link)
+    c.send_all.ensures.unreceived.board)
+
+pub returns-in-Err-Failed-clause-opening : goal.returns-in-Err-Failed-clause-opening
+returns-in-Err-Failed-clause-opening g c =
+    let telling = g.L.Link.telling in
+    subst (λ (v : LaneState _). opening_of (telling c.send_all.new.link) ≡ opening_of (telling v.link))
+    c.self.view_is (same_opening (telling c.self.inside.link) (telling c.send_all.new.link)
+    c.send_all.ensures.unreceived.board)
+
+pub returns-in-Err-NoMemory-clause-opening : goal.returns-in-Err-NoMemory-clause-opening
+returns-in-Err-NoMemory-clause-opening g c =
+    let telling = g.L.Link.telling in
+    subst (λ (v : LaneState _). opening_of (telling c.send_all.new.link) ≡ opening_of (telling v.link))
+    c.self.view_is (same_opening (telling c.self.inside.link) (telling c.send_all.new.link)
+    c.send_all.ensures.unreceived.board)
