@@ -9,25 +9,18 @@ use config_input::{read_for_apply, read_for_save};
 use ipb_base::NoMemory;
 use script_steps::{Step, Steps};
 use session_input::{Runnable, read_for_run};
-use std::alloc::Global;
 use std::{fmt, str};
 use toml::Value;
 
-/// For each rule of a document's policy that denied an operation of what a command runs, in the order of the rules, its
-/// number, how many it denied, and its text; and behind these how many operations no rule allowed. Nothing where the
+/// Says for each rule of a document's policy that denied an operation of what a command runs, in the order of the rules,
+/// its number, how many it denied, and its text; and behind these how many operations no rule allowed. Nothing where the
 /// document has no policy, or the command refuses it or runs nothing of it.
-pub fn denial_notes(
-    alloc: Global,
-    command: &Command,
-    bytes: &[u8],
-) -> Result<Vec<String>, NoMemory> {
-    let mut notes = Notes::new(alloc);
+pub(crate) fn say_denials(notes: &mut Notes, command: &Command, bytes: &[u8]) {
     if may_have_policy(bytes)
-        && let Some(value) = value_of(&mut notes, bytes, "policy")
+        && let Some(value) = value_of(notes, bytes, "policy")
     {
-        say_denied(&mut notes, &value, command, bytes);
+        say_denied(notes, &value, command, bytes);
     }
-    notes.finish()
 }
 
 /// Whether the text may have the key, which can be written by escapes too: a document without it is not read again.

@@ -1,18 +1,12 @@
 //! Names and words of others, as they are shown in a line.
 
-use ipb_base::NoMemory;
-use std::alloc::Global;
 use std::fmt;
 
 /// So many characters of a text are shown, and two dots for those behind them.
-pub const MOST_SHOWN: usize = 200;
+const MOST_SHOWN: usize = 200;
 
-/// A text as it is shown in a line: each control character as its code, and no more than `MOST_SHOWN` characters.
-pub fn shown(alloc: Global, text: &str) -> Result<String, NoMemory> {
-    Ok(OneLine(text).to_string(alloc)?)
-}
-
-/// A text that is written as it is shown in a line.
+/// A text that is written as it is shown in a line: each control character as its code, and no more than `MOST_SHOWN`
+/// characters.
 #[derive(Clone, Copy)]
 pub(crate) struct OneLine<'a>(pub(crate) &'a str);
 

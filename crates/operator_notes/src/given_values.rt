@@ -8,10 +8,10 @@ use std::fmt;
 
 /// What was written to the configuration of boards: the document with the values, and whether all was done that it
 /// asked for.
-#[derive(Drop)]
-pub struct Applied<'a> {
-    pub document: &'a [u8],
-    pub is_all_done: bool,
+#[derive(Clone, Copy)]
+pub(crate) struct Applied<'a> {
+    pub(crate) document: &'a [u8],
+    pub(crate) is_all_done: bool,
 }
 
 /// What is said where a write was not done, and each register shows the value that it was given.
@@ -23,7 +23,7 @@ const NO_REGISTER: &str =
 /// was not read, or the board has changed the value since. A write that was not done is not named where the register had
 /// the value before, or has it by a write that was executed late: the board is as it was wanted then. Where none is
 /// named, all registers were read and not all was done, that is said.
-pub(crate) fn say_given(notes: &mut Notes, applied: &Applied<'_>, text: &[u8], is_all_read: bool) {
+pub(crate) fn say_given(notes: &mut Notes, applied: Applied<'_>, text: &[u8], is_all_read: bool) {
     let is_missed = is_all_read && !applied.is_all_done;
     if let Some(given) = state_in(notes, applied.document) {
         say_given_values(notes, given.as_slice(), text, is_missed);

@@ -1,10 +1,11 @@
 //! The page of help, and the version.
 
 /// The version of the program, of the protocol and of the documents that it reads.
-pub const VERSION: &str = "version 2, for IPbus 2.0 and session documents of formats 1 and 2";
+pub(crate) const VERSION: &str =
+    "version 2, for IPbus 2.0 and session documents of formats 1 and 2";
 
 /// The lines of the page of help: each command with what it does and an example.
-pub const HELP: [&str; 21] = [
+pub(crate) const HELP: [&str; 21] = [
     "ipbus run                runs the scripts of the session document on standard input on its boards",
     "                           bin/ipbus run < examples/start/first.toml",
     "ipbus check TABLE        lists the registers of a table of the document, and which of them overlap",

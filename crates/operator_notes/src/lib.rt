@@ -6,6 +6,7 @@
 mod audits;
 mod belonging;
 mod captures;
+mod closing;
 mod configurations;
 mod denials;
 mod escaping;
@@ -24,17 +25,7 @@ mod unread;
 mod usage;
 mod verdicts;
 
-pub use audit_command::MAX_AUDIT;
-pub use capture_commands::MAX_CAPTURE;
+pub use closing::{Ending, closing_notes, most_given, most_written};
 pub use command_words::{Command, command_of};
-pub use denials::denial_notes;
-pub use escaping::{MOST_SHOWN, shown};
-pub use given_values::Applied;
-pub use help::{HELP, VERSION};
 pub use ipb_base::NoMemory;
-pub use refusals::refusal_notes;
-pub use session_input::Refusal;
-pub use statuses::{door_note, memory_note, rack_note, read_note, write_note};
-pub use summaries::configuration_summary;
-pub use usage::usage_notes;
-pub use verdicts::verdict_notes;
+pub use statuses::MEMORY_NOTE;

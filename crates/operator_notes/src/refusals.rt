@@ -13,28 +13,16 @@ use audit_command::read_for_audit;
 use capture_commands::{read_for_describe, read_for_undescribe};
 use command_words::Command;
 use config_input::{read_for_apply, read_for_save};
-use ipb_base::NoMemory;
 use script_lang::{DocWhy, ScriptWhy};
 use session_input::{
     Refusal, Unread, read_for_check, read_for_record, read_for_run, read_for_serve,
 };
-use std::alloc::Global;
 use std::fmt;
 
-/// What to look for in an input that a command refuses: its place and the rule in words; of a document that is no
+/// Says what to look for in an input that a command refuses: its place and the rule in words; of a document that is no
 /// TOML also what the parser says, and of a line of a script the line and the word that is at fault. Nothing where the
 /// command does not refuse it.
-pub fn refusal_notes(
-    alloc: Global,
-    command: &Command,
-    bytes: &[u8],
-) -> Result<Vec<String>, NoMemory> {
-    let mut notes = Notes::new(alloc);
-    say_of_input(&mut notes, command, bytes);
-    notes.finish()
-}
-
-fn say_of_input(notes: &mut Notes, command: &Command, bytes: &[u8]) {
+pub(crate) fn say_of_input(notes: &mut Notes, command: &Command, bytes: &[u8]) {
     let alloc = notes.alloc;
     match command {
         Command::Run => say_refused(notes, read_for_run(alloc, bytes), bytes),

@@ -3,13 +3,23 @@
 use command_words::Command;
 
 /// The input could not be read.
-pub fn read_note() -> &'static str {
-    "the input could not be read; nothing was executed or written"
-}
+pub(crate) const READ_NOTE: &str = "the input could not be read; nothing was executed or written";
+
+/// Memory ran out.
+pub const MEMORY_NOTE: &str =
+    "memory ran out; nothing was written, and what boards were asked before may have been executed";
+
+/// A link could not be made.
+pub(crate) const RACK_NOTE: &str =
+    "a link to a board could not be made; nothing was executed or written";
+
+/// The port could not be used.
+pub(crate) const DOOR_NOTE: &str =
+    "the port could not be listened to, or a connection not be accepted: the boards were asked before, and only the text is missing";
 
 /// The text could not be written: what was done before, by what the words asked for. `refused` says that the input was
 /// refused.
-pub fn write_note(command: Option<&Command>, refused: bool) -> &'static str {
+pub(crate) fn write_note(command: Option<&Command>, refused: bool) -> &'static str {
     if refused {
         return refusal_cut(command);
     }
@@ -61,19 +71,4 @@ fn refusal_cut(command: Option<&Command>) -> &'static str {
             "the output could not be written: the document was refused, nothing was executed, and the line that says so is cut or missing"
         }
     }
-}
-
-/// Memory ran out.
-pub fn memory_note() -> &'static str {
-    "memory ran out; nothing was written, and what boards were asked before may have been executed"
-}
-
-/// A link could not be made.
-pub fn rack_note() -> &'static str {
-    "a link to a board could not be made; nothing was executed or written"
-}
-
-/// The port could not be used.
-pub fn door_note() -> &'static str {
-    "the port could not be listened to, or a connection not be accepted: the boards were asked before, and only the text is missing"
 }

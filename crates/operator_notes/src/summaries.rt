@@ -3,8 +3,6 @@
 use crate::escaping::OneLine;
 use crate::given_values::{Applied, say_given};
 use crate::notes::Notes;
-use ipb_base::NoMemory;
-use std::alloc::Global;
 use std::str;
 
 /// What a text of a configuration has, line by line.
@@ -16,21 +14,15 @@ struct Seen<'a> {
     missing: u32,
 }
 
-/// How many registers of how many boards the text of a configuration has, and which of them were not read; and where
+/// Says how many registers of how many boards the text of a configuration has, and which of them were not read; and where
 /// values were written before, which registers do not show them.
-pub fn configuration_summary(
-    alloc: Global,
-    text: &[u8],
-    applied: Option<&Applied<'_>>,
-) -> Result<Vec<String>, NoMemory> {
-    let mut notes = Notes::new(alloc);
+pub(crate) fn say_summary(notes: &mut Notes, text: &[u8], applied: Option<Applied<'_>>) {
     if let Ok(lines) = str::from_utf8(text) {
-        let is_all_read = say_registers(&mut notes, lines);
+        let is_all_read = say_registers(notes, lines);
         if let Some(applied) = applied {
-            say_given(&mut notes, applied, text, is_all_read);
+            say_given(notes, applied, text, is_all_read);
         }
     }
-    notes.finish()
 }
 
 /// Says how many registers of how many boards a text has, and which of them were not read. It says whether all were.

@@ -4,8 +4,7 @@ use crate::escaping::OneLine;
 use crate::help::{HELP, VERSION};
 use crate::notes::Notes;
 use command_words::{MAX_CONNECTIONS, MAX_OPERATIONS, MAX_PORT};
-use ipb_base::{NoMemory, number_in_text};
-use std::alloc::Global;
+use ipb_base::number_in_text;
 
 /// How to go on where words are no command.
 const TRY: &str =
@@ -44,19 +43,17 @@ const OPERATIONS: Needed = Needed {
     most: MAX_OPERATIONS,
 };
 
-/// The notes for words that are no command: the page of help or the version where a word asks for it, and else which
-/// word is wrong, and how to go on.
-pub fn usage_notes(alloc: Global, words: &[String]) -> Result<Vec<String>, NoMemory> {
-    let mut notes = Notes::new(alloc);
+/// Says of words that are no command the page of help or the version where a word asks for it, and else which word is
+/// wrong, and how to go on.
+pub(crate) fn say_usage(notes: &mut Notes, words: &[String]) {
     if has_word(words, "--help") || has_word(words, "-h") {
         notes.say_each(&HELP);
     } else if has_word(words, "--version") {
         notes.say(VERSION);
     } else {
-        say_wrong_word(&mut notes, words);
+        say_wrong_word(notes, words);
         notes.say(TRY);
     }
-    notes.finish()
 }
 
 fn has_word(words: &[String], wanted: &str) -> bool {

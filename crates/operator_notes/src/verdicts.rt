@@ -13,17 +13,15 @@ use std::alloc::Global;
 use std::str;
 use transcript::{OpResult, push_result};
 
-/// Of a transcript that does not fit its session: what the first line at fault shows, and what the rule wants there.
+/// Says of a transcript that does not fit its session what the first line at fault shows, and what the rule wants there.
 /// Nothing where it fits, or the input is refused.
-pub fn verdict_notes(alloc: Global, bytes: &[u8]) -> Result<Vec<String>, NoMemory> {
-    let mut notes = Notes::new(alloc);
-    if let Some(read) = notes.made(read_for_audit(alloc, bytes)) {
-        say_verdict(&mut notes, &read);
+pub(crate) fn say_verdict(notes: &mut Notes, bytes: &[u8]) {
+    if let Some(read) = notes.made(read_for_audit(notes.alloc, bytes)) {
+        say_fault(notes, &read);
     }
-    notes.finish()
 }
 
-fn say_verdict(notes: &mut Notes, read: &Audited<'_>)
+fn say_fault(notes: &mut Notes, read: &Audited<'_>)
     requires { CanBeAudited read.now.session read.now.steps.items }
 {
     let steps = read.steps.as_slice();

@@ -4,51 +4,12 @@ use crate::fixtures::{
     DOCUMENT, FIRST, FIRST_TRANSCRIPT, LENGTH, NOT_KEPT, POLICY, VALUE, words_of,
 };
 use ipb_base::NoMemory;
-use operator_notes::{
-    Applied, Command, configuration_summary, denial_notes, refusal_notes, usage_notes,
-    verdict_notes,
-};
+use ipbus_program::{DONE, NOT_ALL_DONE, READ_FAULT, REFUSED, USAGE, WRITE_FAULT};
+use operator_notes::{Ending, closing_notes, command_of};
 use std::alloc::Global;
-
-/// Of what is said: words that are no command, an input that a command refuses, what a policy denied to `run` and to
-/// `apply`, a transcript that does not fit, and the text of a configuration, where all was done or not.
-#[derive(Clone, Copy)]
-enum About {
-    Words,
-    Run,
-    Load,
-    Apply,
-    Undescribe,
-    DeniedToRun,
-    DeniedToApply,
-    Transcript,
-    Registers(bool),
-}
 
 /// Values for two registers.
 const GIVEN: &str = "[state.b0]\n\"a\" = 9\n\"b\" = 1\n";
-
-fn notes_about(alloc: Global, about: About, text: &str) -> Result<Vec<String>, NoMemory> {
-    let bytes = text.as_bytes();
-    match about {
-        About::Words => usage_notes(alloc, words_of(alloc, text)?.as_slice()),
-        About::Run => refusal_notes(alloc, &Command::Run, bytes),
-        About::Load => refusal_notes(alloc, &Command::Load { count: 1 }, bytes),
-        About::Apply => refusal_notes(alloc, &Command::Apply, bytes),
-        About::Undescribe => refusal_notes(alloc, &Command::Undescribe, bytes),
-        About::DeniedToRun => denial_notes(alloc, &Command::Run, bytes),
-        About::DeniedToApply => denial_notes(alloc, &Command::Apply, bytes),
-        About::Transcript => verdict_notes(alloc, bytes),
-        About::Registers(is_all_done) => {
-            let document = GIVEN.as_bytes();
-            let applied = Applied {
-                document,
-                is_all_done,
-            };
-            configuration_summary(alloc, bytes, Some(&applied))
-        }
-    }
-}
 
 /// These lines, one below the other.
 fn joined(alloc: Global, notes: &[String]) -> Result<String, NoMemory> {
@@ -60,15 +21,35 @@ fn joined(alloc: Global, notes: &[String]) -> Result<String, NoMemory> {
     Ok(text)
 }
 
-/// What stands in front of a text, the text, and what stands behind it.
-type Input = (&'static str, &'static str, &'static str);
+/// How the program ends: the status, the words, what stands in front of a text in the input, the text, what stands behind
+/// it, and the output, if it was kept.
+type End = (u8, &'static str, [&'static str; 3], Option<&'static str>);
 
-/// Whether this is said of an input.
-fn is_said(alloc: Global, about: About, input: Input, wanted: &str) -> Result<bool, NoMemory> {
-    let (front, text, behind) = input;
-    let text = format!(in alloc; "{front}{text}{behind}")?;
-    let notes = notes_about(alloc, about, text.as_str())?;
-    Ok(joined(alloc, &notes)?.as_str() == wanted)
+fn bytes_of(text: Option<&str>) -> Option<&[u8]> {
+    match text {
+        Some(text) => Some(text.as_bytes()),
+        None => None,
+    }
+}
+
+fn notes_of(alloc: Global, end: End) -> Result<Vec<String>, NoMemory> {
+    let (status, words, [front, text, behind], output) = end;
+    let words = words_of(alloc, words)?;
+    let command = command_of(alloc, words.as_slice())?;
+    let input = format!(in alloc; "{front}{text}{behind}")?;
+    let ending = Ending {
+        status,
+        words: words.as_slice(),
+        command: command.as_ref(),
+        given: Some(input.as_bytes()),
+        written: bytes_of(output),
+    };
+    closing_notes(alloc, ending)
+}
+
+/// Whether this is said at an end.
+fn is_said(alloc: Global, end: End, wanted: &str) -> Result<bool, NoMemory> {
+    Ok(joined(alloc, &notes_of(alloc, end)?)?.as_str() == wanted)
 }
 
 /// A policy that allows nothing.
@@ -87,94 +68,102 @@ const ANOTHER_WORD: &str =
 const ANOTHER_COUNT: &str =
     "client 1\n1 read b0:id = 0x0000abcd @1.1\nboard b0 places 1 replied 0 timeout 0 lost 0\n";
 
-const NOTES: &[(About, Input, &str)] = &[
+const NOTES: &[(End, &str)] = &[
     (
-        About::Words,
-        ("", "serve", ""),
+        (USAGE, "serve", ["", "", ""], None),
         "a port from 1 to 65535 is missing\n\
         the session document is read from standard input; \
         try: bin/ipbus run < examples/start/first.toml, or --help\n",
     ),
     (
-        About::Words,
-        ("", "--version", ""),
+        (USAGE, "--version", ["", "", ""], None),
         "version 2, for IPbus 2.0 and session documents of formats 1 and 2\n",
     ),
     (
-        About::Run,
-        ("", "a = ", ""),
+        (REFUSED, "run", ["", "a = ", ""], None),
         "the document is no TOML\n\
         line 1, column 5: invalid value, \
         expected a string, number, boolean, date-time, array or inline table\n",
     ),
-    (About::Load, ("", "a = ", ""), ""),
+    ((REFUSED, "load 1", ["", "a = ", ""], None), ""),
     (
-        About::Apply,
-        ("", DOCUMENT, NOT_KEPT),
+        (REFUSED, "apply", ["", DOCUMENT, NOT_KEPT], None),
         "board b0, register a: the register is not one word that is read and written, \
         or others stand below its name\n",
     ),
     (
-        About::Undescribe,
-        ("", "", ""),
+        (REFUSED, "undescribe", ["", "", ""], None),
         "no capture has this description\nline 1: what stands here describes nothing\n",
     ),
     (
-        About::Undescribe,
-        ("", "first 1\n> raw 200001f2\nproved 0\n", ""),
+        (
+            REFUSED,
+            "undescribe",
+            ["", "first 1\n> raw 200001f2\nproved 0\n", ""],
+            None,
+        ),
         "no capture has this description\nline 2: what stands here describes nothing\n",
     ),
     (
-        About::Undescribe,
-        ("", "first 1\n> raw -\nproved 1\n", ""),
+        (
+            REFUSED,
+            "undescribe",
+            ["", "first 1\n> raw -\nproved 1\n", ""],
+            None,
+        ),
         "no capture has this description\nline 3: here belongs the last line, proved 0\n",
     ),
     (
-        About::Undescribe,
-        ("", "first 1\n> raw -\n", ""),
+        (REFUSED, "undescribe", ["", "first 1\n> raw -\n", ""], None),
         "no capture has this description\nline 3: here belongs the last line, proved 0\n",
     ),
     (
-        About::DeniedToRun,
-        (NO_RULES, FIRST, ""),
+        (NOT_ALL_DONE, "run", [NO_RULES, FIRST, ""], None),
         "no rule of the policy allowed 1 operation\n",
     ),
     (
-        About::DeniedToApply,
-        (POLICY, DOCUMENT, VALUE),
+        (NOT_ALL_DONE, "apply", [POLICY, DOCUMENT, VALUE], None),
         "policy rule 1 denied 1 operation: deny w b0:a.top\n",
     ),
-    (About::Transcript, (LENGTH, FIRST, FIRST_TRANSCRIPT), ""),
     (
-        About::Transcript,
-        (LENGTH, FIRST, CUT),
+        (
+            NOT_ALL_DONE,
+            "audit",
+            [LENGTH, FIRST, FIRST_TRANSCRIPT],
+            None,
+        ),
+        "",
+    ),
+    (
+        (NOT_ALL_DONE, "audit", [LENGTH, FIRST, CUT], None),
         "line 3: the transcript ends before it\nhere belongs the line of board b0\n",
     ),
     (
-        About::Transcript,
-        (LENGTH, FIRST, ANOTHER_PLACE),
+        (NOT_ALL_DONE, "audit", [LENGTH, FIRST, ANOTHER_PLACE], None),
         "line 2: 1 read b0:id = 0x0000abcd @2.1\n\
         each piece shows the place of its body, from 1 to the places of the board's line, and its number there; \
         a body has one place, no two have the same, and those of a client rise\n",
     ),
     (
-        About::Transcript,
-        (LENGTH, FIRST, ANOTHER_WORD),
+        (NOT_ALL_DONE, "audit", [LENGTH, FIRST, ANOTHER_WORD], None),
         "line 2: 1 read b0:id = 0x0000abce @1.1\n\
         the registers of its board give at these places: = 0x0000abcd; a timeout tells 8 rounds, \
         and operations of one packet are answered, timed out or lost together\n",
     ),
     (
-        About::Transcript,
-        (LENGTH, FIRST, ANOTHER_COUNT),
+        (NOT_ALL_DONE, "audit", [LENGTH, FIRST, ANOTHER_COUNT], None),
         "line 3: board b0 places 1 replied 0 timeout 0 lost 0\n\
         a board's line counts the places that the lines above show, \
         and these are replied, timeout and lost together\n",
     ),
     // a text that shows another value, and none
     (
-        About::Registers(false),
-        ("", "[state.b0]\n\"a\" = 0x00000007\n# \"b\" unsent\n", ""),
+        (
+            NOT_ALL_DONE,
+            "apply",
+            ["", GIVEN, ""],
+            Some("[state.b0]\n\"a\" = 0x00000007\n# \"b\" unsent\n"),
+        ),
         "registers: 2, boards: 1; not read: 1\n\
         board b0: \"b\" unsent\n\
         not as given: 2\n\
@@ -183,32 +172,44 @@ const NOTES: &[(About, Input, &str)] = &[
     ),
     // one that shows what was given, where all was done, and where a write was not
     (
-        About::Registers(true),
         (
-            "",
-            "[state.b0]\n\"a\" = 0x00000009\n\"b\" = 0x00000001\n",
-            "",
+            DONE,
+            "apply",
+            ["", GIVEN, ""],
+            Some("[state.b0]\n\"a\" = 0x00000009\n\"b\" = 0x00000001\n"),
         ),
         "registers: 2, boards: 1\n",
     ),
     (
-        About::Registers(false),
         (
-            "",
-            "[state.b0]\n\"a\" = 0x00000009\n\"b\" = 0x00000001\n",
-            "",
+            NOT_ALL_DONE,
+            "apply",
+            ["", GIVEN, ""],
+            Some("[state.b0]\n\"a\" = 0x00000009\n\"b\" = 0x00000001\n"),
         ),
         "registers: 2, boards: 1\n\
         not done: one write or more, of registers that show the values given all the same\n",
+    ),
+    // the text of a refusal could not be written, and that of a run
+    (
+        (WRITE_FAULT, "describe", ["", "first 0\n", ""], None),
+        "the output could not be written: the capture was refused, and the line that says so is cut or missing\n\
+        line 1: the first line is the word first and an identifier from 1 to 65535\n",
+    ),
+    (
+        (WRITE_FAULT, "run", [NO_RULES, FIRST, ""], None),
+        "no rule of the policy allowed 1 operation\n\
+        the output could not be written: the scripts were executed, and only the text is cut or missing\n",
+    ),
+    (
+        (READ_FAULT, "run", ["", "", ""], None),
+        "the input could not be read; nothing was executed or written\n",
     ),
 ];
 
 #[test]
 fn notes_are_said(rt: HostRuntime) {
-    for (about, input, wanted) in NOTES {
-        assert!(rt;
-            is_said(rt.alloc(), *about, *input, wanted) == Ok(true),
-            "{wanted}"
-        );
+    for (end, wanted) in NOTES {
+        assert!(rt; is_said(rt.alloc(), *end, wanted) == Ok(true), "{wanted}");
     }
 }
