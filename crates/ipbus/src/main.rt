@@ -45,6 +45,13 @@ fn say_all(to: Stderr, lines: &[String]) {
     }
 }
 
+/// Says what is to be said at the end. Without memory for its words the status says it alone.
+fn say_closing(to: Stderr, alloc: Global, ending: Ending<'_>) {
+    if let Ok(notes) = closing_notes(alloc, ending) {
+        say_all(to, notes.as_slice());
+    }
+}
+
 /// How many connections a command serves, if it serves any.
 fn connections_of(command: Option<&Command>) -> Option<u32> {
     match command {
@@ -79,9 +86,6 @@ fn main(rt: HostRuntime) -> ExitCode {
         given: input.given(),
         written: out.taken(),
     };
-    // without memory for its words the status says it alone
-    if let Ok(notes) = closing_notes(alloc, ending) {
-        say_all(to, notes.as_slice());
-    }
+    say_closing(to, alloc, ending);
     ExitCode::from(status)
 }
