@@ -27,10 +27,11 @@ pub(crate) fn say_summary(notes: &mut Notes, text: &[u8], applied: Option<Applie
 
 /// Says how many registers of how many boards a text has, and which of them were not read. It says whether all were.
 fn say_registers(notes: &mut Notes, text: &str) -> bool {
+    let place = notes.count();
     let seen = seen_in(notes, text);
     notes.say_others(seen.missing);
     say_counts(notes, seen);
-    notes.put_behind(0);
+    notes.put_behind(place);
     seen.missing == 0
 }
 

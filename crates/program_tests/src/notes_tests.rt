@@ -128,6 +128,17 @@ const NOTES: &[(End, &str)] = &[
     (
         (
             NOT_ALL_DONE,
+            "save",
+            [NO_RULES, DOCUMENT, ""],
+            Some("[state.b0]\n# \"a.top\" denied by rule 0\n"),
+        ),
+        "no rule of the policy allowed 1 operation\n\
+        registers: 1, boards: 1; not read: 1\n\
+        board b0: \"a.top\" denied by rule 0\n",
+    ),
+    (
+        (
+            NOT_ALL_DONE,
             "audit",
             [LENGTH, FIRST, FIRST_TRANSCRIPT],
             None,
