@@ -1,12 +1,16 @@
 //! The words of a command line as `clap` reads them: one command with exactly its words.
 
-ghost use Rattle.std.specs.Prelude.{◌≡◌, ℕ, true, false, map, IfOk, IsErrOf, Some, List};
-ghost use Rattle.clap.specs.Words.{app_of, rule_of, rows_of, found_of, first_of};
+ghost use Rattle.std.specs.Prelude.{◌≡◌, ◌≤◌, ◌+◌, ◌∷◌, ◌++◌, ℕ, true, false, length, map, [], IfOk, IsErrOf, Ok, Some};
+ghost use Rattle.std.specs.Prelude.{List};
+ghost use Rattle.std.specs.List.{AllByRecursion};
+ghost use Rattle.std.specs.Vec.{vec_capacity};
+ghost use Rattle.clap.specs.declared.builder.arg.Arg.{Arg as Argument};
+ghost use Rattle.clap.specs.declared.builder.command.Command.{Command as Made};
+ghost use Rattle.clap.specs.Simple.{new_app};
+ghost use Rattle.clap.specs.Words.{AddsArg, app_of, rule_of, rows_of, found_of, first_of};
 ghost use Rattle.command_words.specs.Forms.{Form, words_of, IsNamed, IsPlain, ArePlain, texts};
-ghost use Rattle.clap.specs.Simple.{new_app, with_rule, with_subcommand};
-ghost use Rattle.command_words.specs.App.{bare as bare_app, ipbus, needed_word, serve_app, worded_app};
-ghost use Rattle.command_words.specs.App.{with_alone as with_names};
-ghost use Rattle.command_words.specs.App.{HasShapeBelow, IsBehind, IsFor, name_of, rows_of_form};
+ghost use Rattle.command_words.specs.App.{bare as bare_app, check_app, ipbus, load_app, needed_word, serve_app};
+ghost use Rattle.command_words.specs.App.{HasShapeBelow, IsFor, name_of, rows_of_form};
 ghost use Rattle.command_words.specs.Read.{form_of};
 
 use clap::error::ErrorKind;
@@ -25,7 +29,7 @@ const ALONE: [&str; 7] = [
 ];
 
 /// A command that is a name alone, or another and the words behind its name as they are written.
-#[derive(Clone, Copy, PartialEq, Eq)]
+#[derive(Clone, Copy)]
 pub(crate) enum Line<'a> {
     Alone(&'a str),
     Check(&'a str),
@@ -34,26 +38,22 @@ pub(crate) enum Line<'a> {
 }
 
 /// Why words are no command, or were not read.
-#[derive(Clone, Copy, PartialEq, Eq)]
+#[derive(Clone, Copy)]
 pub(crate) enum LineError {
     Usage,
     NoMemory,
 }
 
-/// A word of a command, which has to be there.
-fn needed<'a>(alloc: Global, name: &'a str) -> Arg<'a>
-    ensures rule { rule_of result ≡ needed_word name.entry.now }
-    ensures local { result.global ≡ false }
+/// A command with one word more, which has to be there.
+fn with_word<'a>(
+    alloc: Global,
+    command: Command<'a>,
+    word: &'a str,
+) -> Result<Command<'a>, AllocError>
+    ensures { IfOk result (λ c. (arg : Argument) × (rule_of arg ≡ needed_word word.entry.now) × (arg.global ≡ false)
+        × AddsArg command.entry arg c) }
 {
-    Arg::new(alloc, name).required(true)
-}
-
-/// A command of this name with one word, which has to be there.
-fn with_word<'a>(alloc: Global, name: &'a str, word: &'a str) -> Result<Command<'a>, AllocError>
-    ensures app { IfOk result (λ c. app_of c ≡ with_rule (new_app name.entry.now) (needed_word word.entry.now)) }
-    ensures below { IfOk result HasShapeBelow }
-{
-    Command::new(alloc, name).arg(needed(alloc, word))
+    command.arg(Arg::new(alloc, word).required(true))
 }
 
 /// The command `serve`, with its two words.
@@ -61,9 +61,53 @@ fn serve<'a>(alloc: Global) -> Result<Command<'a>, AllocError>
     ensures app { IfOk result (λ c. app_of c ≡ serve_app) }
     ensures below { IfOk result HasShapeBelow }
 {
-    Command::new(alloc, "serve")
-        .arg(needed(alloc, "port"))?
-        .arg(needed(alloc, "count"))
+    let with_port = with_word(alloc, Command::new(alloc, "serve"), "port")?;
+    with_word(alloc, with_port, "count")
+}
+
+/// Commands, and behind them one that was to be made, if it could be.
+fn with_made<'a>(
+    commands: Vec<Command<'a>>,
+    made: Result<Command<'a>, AllocError>,
+) -> Result<Vec<Command<'a>>, AllocError>
+    requires room { length commands.items + 1 ≤ vec_capacity commands }
+    ensures behind { IfOk result (λ cs. (c : Made) × (made.entry ≡ Ok c) × (cs.items ≡ commands.entry.items ++ c ∷ [])) }
+    ensures room { IfOk result (λ cs. vec_capacity cs ≡ vec_capacity commands.entry) }
+{
+    let command = made?;
+    let mut commands = commands;
+    commands.push_reserved(command);
+    Ok(commands)
+}
+
+/// The commands that have words, with room for all others.
+fn worded<'a>(alloc: Global) -> Result<Vec<Command<'a>>, AllocError>
+    ensures apps { IfOk result (λ cs. map app_of cs.items ≡ check_app ∷ serve_app ∷ load_app ∷ []) }
+    ensures below { IfOk result (λ cs. AllByRecursion HasShapeBelow cs.items) }
+    ensures room { IfOk result (λ cs. 10 ≤ vec_capacity cs) }
+{
+    let none = Vec::with_capacity(alloc, 3 + ALONE.len())?;
+    let check = with_word(alloc, Command::new(alloc, "check"), "table");
+    let with_check = with_made(none, check)?;
+    let with_serve = with_made(with_check, serve(alloc))?;
+    let load = with_word(alloc, Command::new(alloc, "load"), "count");
+    with_made(with_serve, load)
+}
+
+/// Commands, and behind them commands of these names, which have no words.
+fn with_alone<'a>(alloc: Global, commands: Vec<Command<'a>>, names: &[&'a str]) -> Vec<Command<'a>>
+    requires room { length commands.items + length names.now ≤ vec_capacity commands }
+    ensures apps { map app_of result.items ≡ map app_of commands.entry.items ++ map (λ name. new_app name.now) names.now }
+    ensures below { AllByRecursion HasShapeBelow commands.entry.items → AllByRecursion HasShapeBelow result.items }
+{
+    match names {
+        [name, rest @ ..] => {
+            let mut more = commands;
+            more.push_reserved(Command::new(alloc, name));
+            with_alone(alloc, more, rest)
+        }
+        [] => commands,
+    }
 }
 
 /// The program without its commands. There is no help and no version, and a command has to be there.
@@ -78,59 +122,12 @@ fn bare<'a>(alloc: Global) -> Command<'a>
         .subcommand_required(true)
 }
 
-/// The program with a command behind its others, if that could be made.
-fn with_below<'a>(
-    program: Command<'a>,
-    below: Result<Command<'a>, AllocError>,
-) -> Result<Command<'a>, AllocError>
-    ensures { IfOk result (IsBehind (app_of program.entry) below.entry) }
-{
-    program.subcommand(below?)
-}
-
-/// The program with the commands that have words.
-fn worded<'a>(alloc: Global) -> Result<Command<'a>, AllocError>
-    ensures { IfOk result (λ c. app_of c ≡ worded_app) }
-{
-    let with_check = with_below(bare(alloc), with_word(alloc, "check", "table"))?;
-    let with_serve = with_below(with_check, serve(alloc))?;
-    with_below(with_serve, with_word(alloc, "load", "count"))
-}
-
-/// The commands, each with its words.
+/// The program with its commands.
 fn command<'a>(alloc: Global) -> Result<Command<'a>, AllocError>
     ensures { IfOk result (λ c. app_of c ≡ ipbus) }
 {
-    let worded = worded(alloc)?;
-    with_alone(alloc, worded, &ALONE)
-}
-
-/// A command with a command of this name below it, which has no words.
-fn with_one_alone<'a>(
-    alloc: Global,
-    command: Command<'a>,
-    name: &'a str,
-) -> Result<Command<'a>, AllocError>
-    ensures { IfOk result (λ c. app_of c ≡ with_subcommand (app_of command.entry) (new_app name.entry.now).top) }
-{
-    command.subcommand(Command::new(alloc, name))
-}
-
-/// A command with commands of these names below it, which have no words.
-fn with_alone<'a>(
-    alloc: Global,
-    command: Command<'a>,
-    names: &[&'a str],
-) -> Result<Command<'a>, AllocError>
-    ensures { IfOk result (λ c. app_of c ≡ with_names (app_of command.entry) (map (λ name. name.now) names.now)) }
-{
-    match names {
-        [name, rest @ ..] => {
-            let more = with_one_alone(alloc, command, name)?;
-            with_alone(alloc, more, rest)
-        }
-        [] => Ok(command),
-    }
+    let commands = with_alone(alloc, worded(alloc)?, &ALONE);
+    bare(alloc).subcommands(commands)
 }
 
 /// What clap finds in words of which none begins with a hyphen.

@@ -1,12 +1,16 @@
-use Rattle.std.proofs.Common.{◌∙◌}
-use Rattle.std.proofs.lemmas.Result.{IfOk-weaker}
-use Rattle.command_words.proofs.Below.{none_alone, first_alone}
+use Rattle.std.proofs.Common.{◌∙◌, subst, sym}
+use Rattle.std.specs.List.{AllByRecursion}
+use Rattle.command_words.specs.App.{HasShapeBelow}
+use Rattle.command_words.proofs.Below.{first_alone, shape_behind}
 use Rattle.command_words.proofs.line.+with_alone.Goals as goal
 
-pub returns-in-empty : goal.returns-in-empty
-returns-in-empty t c = none_alone _ c.args.names.now c.in-empty.len_below
+pub returns-in-len1-up-clause-apps : goal.returns-in-len1-up-clause-apps
+returns-in-len1-up-clause-apps t c =
+    c.with_alone.ensures.apps
+    ∙ first_alone c.args.commands.items c.push_reserved.new.self.items c.new.result c.args.names.now _
+    c.in-len1-up.len_at_least c.push_reserved.ensures.items c.new.ensures.app
 
-pub returns-in_ok-more-in-len1-up : goal.returns-in_ok-more-in-len1-up
-returns-in_ok-more-in-len1-up t c =
-    let left = first_alone _ _ c.args.names.now _ c.in-len1-up.len_at_least c.in_ok-more-in-len1-up.ensures in
-    IfOk-weaker c.with_alone.result _ _ (λ r same. same ∙ left) c.with_alone.ensures
+pub returns-in-len1-up-clause-below : goal.returns-in-len1-up-clause-below
+returns-in-len1-up-clause-below t c = λ all.
+    c.with_alone.ensures.below (subst (AllByRecursion HasShapeBelow) (sym c.push_reserved.ensures.items)
+    (shape_behind c.args.commands.items c.new.result all (λ old new added. added.shape c.new.ensures.local)))
