@@ -1,5 +1,5 @@
 -- What a recording leaves, put together from what its steps say.
-use Rattle.std.proofs.Common.{◌≡◌, ℕ, ◌==◌, ◌&&◌, List, Result, Ok, Err, ◌≤◌, refl, ap}
+use Rattle.std.proofs.Common.{◌≡◌, ℕ, ◌==◌, ◌&&◌, List, Result, Ok, Err, IfErr, IfOk, length, ◌≤◌, refl, ap}
 use Rattle.std.specs.Result.{IsErr, IsErrAnd}
 use Rattle.ipb_base.specs.Faults.{Rose}
 use Rattle.board_node.specs.declared.spec.LinkSpec.{LinkSpec}
@@ -10,7 +10,7 @@ use Rattle.script_steps.specs.declared.operation.Step.{Step}
 use Rattle.script_lang.specs.declared.session.Session.{Session}
 use Rattle.session_input.specs.Recording.{IsRecordable}
 use Rattle.session_run.specs.declared.session.RunFault.{RunFault}
-use Rattle.session_run.specs.declared.session.RunFault.TheVariants.{Rack}
+use Rattle.session_run.specs.declared.session.RunFault.TheVariants.{NoMemory, Rack}
 use Rattle.session_run.specs.Faults.{IsRunFailure, run_fault}
 use Rattle.session_run.proofs.Faults.{no_memory_is_no_rack}
 use Rattle.transcript.specs.Lines.{all_good, transcript_of}
@@ -23,7 +23,8 @@ use Rattle.command_terms.proofs.Leaving.{same_Err}
 use Rattle.command_terms.proofs.Statuses.{told_is_done}
 use Rattle.run_laws.specs.Leaving.{RunLeaves}
 use Rattle.run_laws.specs.Steps.{CanRunSteps}
-use Rattle.run_laws.proofs.Leaving.{RunsLaw, run_left}
+use Rattle.run_laws.proofs.Leaving.{RunsLaw, run_answered, run_failed, run_left}
+use Rattle.session_run.specs.Links.{AreLeft, AreMadeFor}
 use Rattle.record_command.specs.Headline.{body_count}
 use Rattle.record_command.specs.Steps.{Records}
 use Rattle.record_command.specs.Terms.{record_terms}
@@ -37,6 +38,22 @@ rises_by rack.Failed (Err why) before now fails is failed later calm =
     (λ told. failed refl, later, λ other. absurd (other (ap Err is)))
 rises_by rack.NoMemory (Err why) before now fails is failed later calm =
     (λ told. absurd (no_memory_is_no_rack why is (same_Err why Rack told)), later, λ other. calm (λ same. cc))
+
+-- the answer was written, or memory ran out
+pub written_left : (Tells : List LinkReport → ℕ → List ℕ → Type 0) (session : Session) (steps : List (List Step))
+    (made makes : List LinkSpec) (result : Result Answer RunFault) (links : List LinkReport)
+    → AreLeft 0 session.boards steps links → AreMadeFor session.boards (length links) made makes
+    → IfErr result (λ why. why ≡ NoMemory) → IfOk result (λ answer. Tells links answer.status answer.text.items)
+    → RunLeaves Tells session steps made makes result links
+written_left Tells session steps made makes (Ok answer) links left links_made fails tells =
+    run_answered Tells session steps made makes answer links left links_made tells
+written_left Tells session steps made makes (Err why) links left links_made fails tells =
+    run_failed Tells session steps made makes (Err why) NoMemory links left links_made refl fails
+    (λ rack. absurd (no_memory_is_no_rack NoMemory refl rack))
+
+pub no_rack_fault : (result : Result Answer RunFault) → IfErr result (λ why. why ≡ NoMemory) → result ≡ Err Rack → ⊥
+no_rack_fault (Ok answer) fails is = absurd cc
+no_rack_fault (Err why) fails is = no_memory_is_no_rack why fails (same_Err why Rack is)
 
 pub record_leaves : RunsLaw → (bytes : List ℕ) (session : Session) (steps : List (List Step))
     (made makes : List LinkSpec) (result : Result Answer RunFault) (links : List LinkReport)

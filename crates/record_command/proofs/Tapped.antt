@@ -1,7 +1,7 @@
 -- A board that was greeted over a tap, and what is given back behind it.
 use Rattle.std.proofs.Common.{◌≡◌, ◌≤◌, ◌∙◌, ℕ, ◌++◌, ◌&&◌, Bool, true, false, List, [], ◌∷◌, length}
 use Rattle.std.proofs.Common.{Result, Ok, Err, IfOk, Option, Some, None, IfSome}
-use Rattle.std.proofs.Common.{ap, refl, slice_index_or, subst, sym, arith}
+use Rattle.std.proofs.Common.{ap, ap₂, map, refl, slice_index_or, subst, sym, arith}
 use Rattle.std.proofs.lemmas.List.{length-map}
 use Rattle.std.specs.Global.{Vec}
 use Rattle.ipb_base.specs.Lists.{IsPrefix}
@@ -81,6 +81,15 @@ reached_alone shows settings (spec ∷ other ∷ specs) board one reached = absu
 pub pushed_alone : {A : Type 0} (before now : List A) (item : A) → now ≡ before ++ item ∷ [] → before ≡ []
     → now ≡ item ∷ []
 pushed_alone before now item is none = is ∙ ap (λ (l : List _). l ++ item ∷ []) none
+
+-- and one that is given back alone
+pub back_alone : {A B : Type 0} (link : A → B) (old : List B) (items : List A) (now : List B) (item : A)
+    → now ≡ old ++ map link items → old ≡ [] → items ≡ item ∷ [] → now ≡ link item ∷ []
+back_alone link old items now item is none one =
+    is ∙ ap₂ (λ (before : List _) (given : List _). before ++ map link given) none one
+
+pub same_alone : {A : Type 0} (one other : A) → one ∷ [] ≡ other ∷ [] → one ≡ other
+same_alone one other same = ap (λ (l : List _). slice_index_or l 0 one) same
 
 -- as many taps are given back as there are boards, so one
 pub kept_one : {L : Type 0} (shows : L → LinkReport) (old new : List L) → old ≡ [] → (specs : List BoardSpec)

@@ -1,6 +1,6 @@
 //! What `record` makes of the bytes of a document.
 
-ghost use Rattle.std.specs.Prelude.{◌≡◌, ◌≤◌, ◌∷◌, ◌==◌, [], length, Some, Err, IfOk, IfSome, false};
+ghost use Rattle.std.specs.Prelude.{◌≡◌, ◌≤◌, ◌∷◌, ◌==◌, [], length, Some, Err, IfErr, IfOk, IfSome, false};
 ghost use Rattle.std.specs.Vec.{vec_capacity};
 ghost use Rattle.lossy_network.specs.Racks.{made_after};
 ghost use Rattle.lane_history.specs.Runs.{AreRunsOver};
@@ -26,7 +26,7 @@ ghost use Rattle.record_command.specs.Terms.{record_terms};
 
 use crate::taps::Taps;
 use board_bus::laws::words_stay_words;
-use board_greeting::into_link;
+use board_greeting::keep_all;
 use board_node::{BoardSpec, LinkSpec};
 use capture_laws::laws::a_capture_of_a_lane_proves_what_was_executed;
 use capture_reader::{Capture, Id, proved, write_capture};
@@ -102,26 +102,25 @@ fn recorded<R: Rack, T: Threads + Wait + Sync, G: Gate>(
 {
     a_capture_of_a_lane_proves_what_was_executed();
     a_lane_sends_a_merge_at_any_moment();
+    let settings = session.settings;
     let boards = session.boards.as_slice();
     let board = &boards[0];
     let first = first_of(&board.link);
-    let taps = Taps::new(alloc, &board.link)?;
+    let mut taps = Taps::new(alloc, &board.link)?;
     let room = room_for_one(alloc)?;
-    let greeted = greet_tapped(alloc, session.settings, board, rack)?;
+    let greeted = match greet_tapped(alloc, settings, board, rack) {
+        Ok(greeted) => greeted,
+        Err(fault) => {
+            keep_all(&mut taps, room);
+            return Err(RunFault::from(fault));
+        }
+    };
     let (tap, runs) = run_tapped(
-        rt,
-        alloc,
-        session.settings,
-        boards,
-        steps,
-        room,
-        greeted,
-        taps,
-        gate,
+        rt, alloc, settings, boards, steps, room, greeted, taps, gate,
     );
     let (link, capture) = tap.into_parts(first);
     rack.keep(link);
-    Ok(written(alloc, &capture, steps, runs)?)
+    written(alloc, &capture, steps, runs)
 }
 
 /// The identifier that a simulated board expects first.
@@ -197,12 +196,14 @@ fn run_tapped<L: Link + Send + Drop, T: Threads + Wait + Sync, G: Gate>(
     ensures left { AreLeft 0 specs.now steps.now (shown_by L.Link result.0.link ∷ []) }
 {
     a_fresh_link_is_left();
-    if is_out_of_memory(&greeted) {
-        return (into_link(greeted), Err(NoMemory));
-    }
+    let no_memory = is_out_of_memory(&greeted);
     let mut boards = room;
     let mut taps = taps;
     boards.push_reserved(greeted);
+    if no_memory {
+        keep_all(&mut taps, boards);
+        return (taps.into_tap(), Err(NoMemory));
+    }
     let runs = run_greeted(rt, alloc, settings, boards, specs, steps, &mut taps, gate);
     (taps.into_tap(), runs)
 }
@@ -213,14 +214,15 @@ fn written(
     capture: &Capture,
     steps: &[Steps],
     runs: Result<Vec<BoardRun>, NoMemory>,
-) -> Result<Answer, NoMemory>
+) -> Result<Answer, RunFault>
     requires { AreItems capture.now.items }
-    ensures { IfOk result (λ answer. WritesOf steps.now runs capture.now answer) }
+    ensures writes { IfOk result (λ answer. WritesOf steps.now runs capture.now answer) }
+    ensures fails { IfErr result (λ fault. fault ≡ RunFault.NoMemory) }
 {
     let runs = runs?;
     let printed = print_runs(alloc, &runs, steps)?;
     let Some(bodies) = body_count(&runs) else {
-        return Err(NoMemory);
+        return Err(RunFault::NoMemory);
     };
     let text = write_capture(alloc, capture)?;
     let place = proved(capture);

@@ -1,6 +1,7 @@
 use Rattle.std.proofs.Common.{◌≡◌, ◌∙◌, ◌++◌, [], ◌∷◌, List, ap, append-nil, length, refl, subst, sym}
 use Rattle.std.proofs.Common.{Err, Some, arith, length-append, slice_index_or}
 use Rattle.std.proofs.lemmas.Grind.{common_steps}
+use Rattle.std.proofs.lemmas.Result.{IfOk-weaker}
 use Rattle.board_node.specs.declared.spec.BoardSpec.{BoardSpec}
 use Rattle.hub_lane.specs.Greeting.{link_of}
 use Rattle.session_input.specs.Recording.{IsOneSimulated}
@@ -10,12 +11,12 @@ use Rattle.board_greeting.proofs.Boards.{made_still, none_made, one_made}
 use Rattle.session_run.specs.declared.session.RunFault.TheVariants.{NoMemory}
 use Rattle.session_run.specs.Faults.{run_fault}
 use Rattle.session_run.specs.Links.{AreLeft, CanBeReached}
-use Rattle.session_run.proofs.Faults.{no_memory_is_no_rack}
 use Rattle.command_terms.proofs.Leaving.{same_Err}
+use Rattle.command_terms.specs.declared.answer.Answer.{Answer}
 use Rattle.record_command.specs.Taps.{TapsState, tap_ghosts}
-use Rattle.run_laws.proofs.Leaving.{run_answered, run_failed}
+use Rattle.run_laws.proofs.Leaving.{run_failed}
 use Rattle.record_command.specs.Steps.{Records}
-use Rattle.record_command.proofs.Leaving.{rises_by}
+use Rattle.record_command.proofs.Leaving.{no_rack_fault, rises_by, written_left}
 use Rattle.record_command.proofs.Tapped.{at_first, one_board, one_is_one, ran_for, records_of}
 use Rattle.record_command.proofs.record.recorded.Goals as goal
 
@@ -29,25 +30,24 @@ returns-in_err-taps-clause-leaves g c =
           c.from_residual.ensures.1 (λ rack. tt),
     )
 
-pub returns-in_err-greeted-clause-leaves : goal.returns-in_err-greeted-clause-leaves
-returns-in_err-greeted-clause-leaves g c =
+pub returns-in-Err-clause-leaves : goal.returns-in-Err-clause-leaves
+returns-in-Err-clause-leaves g c =
     let boards = c.args.session.now.boards in
     let made = g.R.Rack.made c.args.rack.now in
     let makes = g.R.Rack.made c.greet_tapped.new.rack in (
       [],
       c.greet_tapped.ensures.kept ∙ sym (append-nil (g.R.Rack.kept c.args.rack.now)),
       run_failed (Records c.args.session.now c.args.steps.now) c.args.session.now c.args.steps.now made makes
-          c.from_residual-in_err-greeted.result (run_fault c.in_err-greeted.field-0.0) [] tt
-          (made_still boards 0 0 made made makes (none_made boards made) refl c.in_err-greeted.ensures.made)
-          c.from_residual-in_err-greeted.ensures.0 c.from_residual-in_err-greeted.ensures.1 (λ rack. tt),
+          (Err c.from.result) (run_fault c.in-Err.fault) [] tt
+          (made_still boards 0 0 made made makes (none_made boards made) refl c.in-Err.ensures.made)
+          refl c.from.ensures (λ rack. tt),
     )
 
-pub returns-in_err-greeted-clause-rack_faults : goal.returns-in_err-greeted-clause-rack_faults
-returns-in_err-greeted-clause-rack_faults g c =
-    rises_by c.in_err-greeted.field-0.0 c.from_residual-in_err-greeted.result (g.R.Rack.faults c.args.rack.now)
-    (g.R.Rack.faults c.greet_tapped.new.rack) c.from_residual-in_err-greeted.ensures.0
-    c.from_residual-in_err-greeted.ensures.1 (λ is. c.in_err-greeted.ensures.faults.0 (ap Err is))
-    c.in_err-greeted.ensures.faults.1 (λ other. c.in_err-greeted.ensures.faults.2 (λ e. other (same_Err _ _ e)))
+pub returns-in-Err-clause-rack_faults : goal.returns-in-Err-clause-rack_faults
+returns-in-Err-clause-rack_faults g c =
+    rises_by c.in-Err.fault (Err c.from.result) (g.R.Rack.faults c.args.rack.now)
+    (g.R.Rack.faults c.greet_tapped.new.rack) refl c.from.ensures (λ is. c.in-Err.ensures.faults.0 (ap Err is))
+    c.in-Err.ensures.faults.1 (λ other. c.in-Err.ensures.faults.2 (λ e. other (same_Err _ _ e)))
 
 pub run_tapped-tap-requires-clause-reached : goal.run_tapped-tap-requires-clause-reached
 run_tapped-tap-requires-clause-reached g c κs within = λ spec is.
@@ -55,8 +55,8 @@ run_tapped-tap-requires-clause-reached g c κs within = λ spec is.
     let board = c.index-boards-0.result in
     let shows = shown_by (tap_ghosts it) in
     let same : board ≡ spec = c.index-boards-0.is ∙ ap (λ (bs : List BoardSpec). slice_index_or bs 0 board) is in
-    subst (λ (s : BoardSpec). IsReached c.args.session.now.settings s c.in_ok-greeted.greeted
-    (shows (link_of c.in_ok-greeted.greeted))) same c.in_ok-greeted.ensures.reached
+    subst (λ (s : BoardSpec). IsReached c.args.session.now.settings s c.in-Ok.greeted
+    (shows (link_of c.in-Ok.greeted))) same c.in-Ok.ensures.reached
 
 pub returns-in_err-room-clause-leaves : goal.returns-in_err-room-clause-leaves
 returns-in_err-room-clause-leaves g c =
@@ -79,31 +79,6 @@ pub run_tapped-tap-requires-clause-one : goal.run_tapped-tap-requires-clause-one
 run_tapped-tap-requires-clause-one g c κs within =
     ap length c.as_slice-boards.ensures ∙ one_is_one c.args.session.now.boards c.requires.one
 
-pub returns-in_err-written-clause-leaves : goal.returns-in_err-written-clause-leaves
-returns-in_err-written-clause-leaves g c =
-    let shows = shown_by g.R.L.Link in
-    let link = c.into_parts-link.result.0 in
-    let boards = c.as_slice-boards.ensures in
-    let session = c.args.session.now in
-    let steps = c.args.steps.now in
-    let board = c.index-boards-0.result in
-    let there = subst (λ (boards : List BoardSpec). board ≡ slice_index_or boards 0 board) boards c.index-boards-0.is in
-    let made = g.R.Rack.made c.args.rack.now in
-    let makes = g.R.Rack.made c.keep.new.self in
-    let links_made = one_made session.boards board made makes (one_board session.boards board c.requires.one there)
-    (c.keep.ensures.made ∙ c.in_ok-greeted.ensures.made) in (
-      link ∷ [],
-      c.keep.ensures.kept ∙ ap (λ (l : List _). l ++ link ∷ []) c.greet_tapped.ensures.kept,
-      run_failed (Records session steps) session steps made makes c.from_residual-in_err-written.result
-          NoMemory (shows link ∷ [])
-          (subst (λ (specs : List BoardSpec). AreLeft 0 specs steps (shows link ∷ [])) boards
-          (subst (λ link. AreLeft 0 c.as_slice-boards.result.now steps (shows link ∷ [])) (sym c.into_parts-link.ensures.link)
-          c.run_tapped-tap.ensures.left))
-          links_made
-          c.from_residual-in_err-written.ensures.0 c.from_residual-in_err-written.ensures.1
-          (λ rack. absurd (no_memory_is_no_rack _ refl rack)),
-    )
-
 pub returns-clause-leaves : goal.returns-clause-leaves
 returns-clause-leaves g c =
     let shows = shown_by g.R.L.Link in
@@ -113,25 +88,27 @@ returns-clause-leaves g c =
     let steps = c.args.steps.now in
     let board = c.index-boards-0.result in
     let there = subst (λ (boards : List BoardSpec). board ≡ slice_index_or boards 0 board) boards c.index-boards-0.is in
+    let one = one_board session.boards board c.requires.one there in
     let laws = c.a_capture_of_a_lane_proves_what_was_executed.ensures in
     let left = subst (λ (specs : List BoardSpec). AreLeft 0 specs steps (shows link ∷ [])) boards
     (subst (λ link. AreLeft 0 c.as_slice-boards.result.now steps (shows link ∷ [])) (sym c.into_parts-link.ensures.link)
     c.run_tapped-tap.ensures.left) in
     let made = g.R.Rack.made c.args.rack.now in
     let makes = g.R.Rack.made c.keep.new.self in
-    let links_made = one_made session.boards board made makes (one_board session.boards board c.requires.one there)
-    (c.keep.ensures.made ∙ c.in_ok-greeted.ensures.made) in (
+    let links_made = one_made session.boards board made makes one (c.keep.ensures.made ∙ c.in-Ok.ensures.made) in
+    let records = IfOk-weaker c.written.result _
+    (λ (answer : Answer). Records session steps (shows link ∷ []) answer.status answer.text.items)
+    (λ answer writes. records_of laws.sent laws.executed laws.proved c.a_lane_sends_a_merge_at_any_moment.ensures.first
+    session steps board c.run_tapped-tap.result.1 c.into_parts-link.result.1 answer (shows link) one
+    (ran_for session steps c.as_slice-boards.result.now shows _ link c.run_tapped-tap.result.1 boards
+    c.into_parts-link.ensures.link c.run_tapped-tap.ensures.ran) left
+    (c.first_of-first.ensures ∙ sym (ap (λ capture. Some capture.first) c.into_parts-link.ensures.capture))
+    c.into_parts-link.ensures.caught writes)
+    c.written.ensures.writes in (
       link ∷ [],
       c.keep.ensures.kept ∙ ap (λ (l : List _). l ++ link ∷ []) c.greet_tapped.ensures.kept,
-      run_answered (Records session steps) session steps made makes c.in_ok-written.field-0 (shows link ∷ []) left
-          links_made
-          (records_of laws.sent laws.executed laws.proved c.a_lane_sends_a_merge_at_any_moment.ensures.first session
-          steps board c.run_tapped-tap.result.1 c.into_parts-link.result.1 c.in_ok-written.field-0 (shows link)
-          (one_board session.boards board c.requires.one there)
-          (ran_for session steps c.as_slice-boards.result.now shows _ link c.run_tapped-tap.result.1 boards
-          c.into_parts-link.ensures.link c.run_tapped-tap.ensures.ran) left
-          (c.first_of-first.ensures ∙ sym (ap (λ capture. Some capture.first) c.into_parts-link.ensures.capture))
-          c.into_parts-link.ensures.caught c.in_ok-written.ensures),
+      written_left (Records session steps) session steps made makes c.written.result (shows link ∷ []) left links_made
+          c.written.ensures.fails records,
     )
 
 pub bounds-boards-0 : goal.bounds-boards-0
@@ -170,7 +147,7 @@ keep-requires g c =
       arith,
       ap length c.greet_tapped.ensures.kept,
       c.greet_tapped.ensures.within,
-      ap length c.in_ok-greeted.ensures.made ∙ length-append (g.R.Rack.made c.args.rack.now) (board.link ∷ []),
+      ap length c.in-Ok.ensures.made ∙ length-append (g.R.Rack.made c.args.rack.now) (board.link ∷ []),
     )
 
 pub written-requires : goal.written-requires
@@ -182,8 +159,10 @@ returns-in_err-taps-clause-rack_faults g c = grind (arith, common_steps)
 pub returns-in_err-room-clause-rack_faults : goal.returns-in_err-room-clause-rack_faults
 returns-in_err-room-clause-rack_faults g c = grind (arith, common_steps)
 
-pub returns-in_err-written-clause-rack_faults : goal.returns-in_err-written-clause-rack_faults
-returns-in_err-written-clause-rack_faults g c = grind (arith, common_steps)
-
 pub returns-clause-rack_faults : goal.returns-clause-rack_faults
-returns-clause-rack_faults g c = grind (arith, common_steps)
+returns-clause-rack_faults g c =
+    let same = c.keep.ensures.faults ∙ c.in-Ok.ensures.faults.2 (λ e. cc) in (
+      λ failed. absurd (no_rack_fault c.written.result c.written.ensures.fails failed),
+      omega (arith, same),
+      λ other. same,
+    )

@@ -9,8 +9,8 @@ use Rattle.record_command.proofs.Tapped.{both_true, one_false}
 use Rattle.record_command.proofs.record.written.Goals.{then-printed, else-printed}
 use Rattle.record_command.proofs.record.written.Goals as goal
 
-pub returns : goal.returns
-returns c =
+pub returns-clause-writes : goal.returns-clause-writes
+returns-clause-writes c =
     let steps = c.args.steps.now in
     let runs = c.in_ok-runs.runs in
     let place = c.proved-place.result in
