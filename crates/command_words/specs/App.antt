@@ -1,6 +1,6 @@
 -- The command line as `clap` sees it: its commands and their words, and what it makes of the words of each. No public
 -- clause but the laws speaks of these.
-use Rattle.std.specs.Prelude.{◌≡◌, ℕ, true, false, List, [], ◌∷◌, codes, Some, None, IfOk, Result, slice_index_or}
+use Rattle.std.specs.Prelude.{◌≡◌, ℕ, true, false, List, [], ◌∷◌, codes, Some, None, slice_index_or}
 use Rattle.clap.specs.Simple.{App, Shape, built, new_app, new_rule, new_shape, on_top, with_rule, with_subcommand}
 use Rattle.clap.specs.Simple.{subcommand_rows_of}
 use Rattle.clap.specs.Walk.{Held, Row, Rule, Text, Walk, arg_by_index, finished, idle, nothing_held, to_positional}
@@ -27,11 +27,6 @@ load_app = with_rule (new_app (codes "load")) (needed_word (codes "count"))
 abbrev pub HasShapeBelow : Command → Type 0
 HasShapeBelow c = (old new : Command) → AddsSubcommand old c new
     → app_of new ≡ with_subcommand (app_of old) (app_of c).top
-
--- a command has the shape of a program with a command that was made behind its others
-abbrev pub IsBehind : {E : Type 0} → App → Result Command E → Command → Type 0
-IsBehind program below c = (app : App) → IfOk below (λ b. app_of b ≡ app) → IfOk below HasShapeBelow
-    → app_of c ≡ with_subcommand program app.top
 
 -- no help, no version, and a command has to be there
 abbrev pub bare : App
