@@ -1,6 +1,7 @@
 //! The room that serving takes, so that memory does not run out once the door listens.
 
-ghost use Rattle.std.specs.Prelude.{IfOk};
+ghost use Rattle.std.specs.Prelude.{◌≡◌, ◌≤◌, [], IfOk};
+ghost use Rattle.std.specs.Vec.{vec_capacity};
 ghost use Rattle.session_serve.specs.Room.{HasRoomFor};
 
 use crate::connection::{Done, Running};
@@ -19,6 +20,19 @@ pub(crate) struct Room<S: Source + Drop, O: Sink + Drop> {
     pub(crate) served: Vec<Served>,
 }
 
+/// Two vectors with room for so many each.
+fn two_with_room<A: Drop, B: Drop>(
+    alloc: Global,
+    count: usize,
+) -> Result<(Vec<A>, Vec<B>), NoMemory>
+    ensures none { IfOk result (λ two. (two.0.items ≡ []) × (two.1.items ≡ [])) }
+    ensures room { IfOk result (λ two. (count ≤ vec_capacity two.0) × (count ≤ vec_capacity two.1)) }
+{
+    let first = Vec::with_capacity(alloc, count)?;
+    let second = Vec::with_capacity(alloc, count)?;
+    Ok((first, second))
+}
+
 /// Room for so many connections.
 pub(crate) fn room_for<S: Source + Drop, O: Sink + Drop>(
     alloc: Global,
@@ -26,10 +40,12 @@ pub(crate) fn room_for<S: Source + Drop, O: Sink + Drop>(
 ) -> Result<Room<S, O>, NoMemory>
     ensures { IfOk result (HasRoomFor count) }
 {
+    let (seats, running) = two_with_room(alloc, count)?;
+    let (done, served) = two_with_room(alloc, count)?;
     Ok(Room {
-        seats: Vec::with_capacity(alloc, count)?,
-        running: Vec::with_capacity(alloc, count)?,
-        done: Vec::with_capacity(alloc, count)?,
-        served: Vec::with_capacity(alloc, count)?,
+        seats,
+        running,
+        done,
+        served,
     })
 }

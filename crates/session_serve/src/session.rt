@@ -1,17 +1,18 @@
 //! Connections of a door served at the boards of a document.
 
-ghost use Rattle.std.specs.Prelude.{◌≡◌, ◌≢◌, ◌^◌, ◌<◌, length, Err, IfOk, IsOk};
+ghost use Rattle.std.specs.Prelude.{◌≡◌, ◌≢◌, ◌^◌, ◌<◌, length, map, Err, IfErr, IfOk, IsOk};
 ghost use Rattle.std.specs.List.{AllByRecursion};
 ghost use Rattle.ipb_outside.specs.Faults.{RisesExactlyIf};
 ghost use Rattle.ipb_outside.specs.Doors.{Listens};
 ghost use Rattle.ipb_outside.specs.Pairs.{GivesBack};
 ghost use Rattle.lane_history.specs.Links.{IsUntouched};
 ghost use Rattle.board_greeting.specs.Boards.{AreReached, HasMemory, HasRoom};
+ghost use Rattle.board_greeting.specs.Places.{IsApart};
 ghost use Rattle.board_greeting.specs.Reports.{shown_by};
 ghost use Rattle.board_greeting.specs.Links.{AreMadeFor, CanBeReached, Keeps};
 ghost use Rattle.session_serve.specs.Boards.{AreLinksTo};
 ghost use Rattle.session_serve.specs.Executed.{CameInFrames};
-ghost use Rattle.session_serve.specs.Prepared.{IsReady};
+ghost use Rattle.session_serve.specs.Prepared.{IsPrepared, IsReady, told_by};
 ghost use Rattle.session_serve.specs.Serving.{AreBack, AreServed, HadMemory};
 
 use crate::below::laws_of_reports;
@@ -29,6 +30,7 @@ use std::alloc::Global;
 use std::marker::Sync;
 use std::sync::Wait;
 use std::thread::Threads;
+use world_core::Link;
 
 /// Serves connections at boards that were taken apart, and gives each link back to the rack.
 fn serve_split<R: Rack, D: Door, T: Threads + Wait + Sync>(
@@ -85,6 +87,27 @@ fn serve_split<R: Rack, D: Door, T: Threads + Wait + Sync>(
     }
 }
 
+/// Boards that were greeted taken apart, and what their report takes. Where memory runs out the boards are given back.
+fn take_apart<L: Link + Drop>(
+    alloc: Global,
+    specs: &[BoardSpec],
+    boards: Vec<Greeted<L>>,
+) -> Result<(Split<L>, Prepared), Vec<Greeted<L>>>
+    requires few_boards { length boards.items < 2 ^ 32 }
+    requires memory { AllByRecursion HasMemory boards.items }
+    ensures apart { IfOk result (λ made. IsApart boards.items made.0) }
+    ensures told { IfOk result (λ made. IsPrepared specs.now (map (λ board. told_by board) boards.items) made.1) }
+    ensures given_back { IfErr result (λ back. back ≡ boards) }
+{
+    let Ok(prepared) = prepare(alloc, specs, &boards) else {
+        return Err(boards);
+    };
+    match split_boards(alloc, boards) {
+        Ok(split) => Ok((split, prepared)),
+        Err(boards) => Err(boards),
+    }
+}
+
 /// Serves connections at boards that were greeted, and gives each link back to the rack.
 fn serve_greeted<R: Rack, D: Door, T: Threads + Wait + Sync>(
     rt: &T,
@@ -119,12 +142,8 @@ fn serve_greeted<R: Rack, D: Door, T: Threads + Wait + Sync>(
     ensures door_faults { RisesExactlyIf (result ≡ Err ServeFault.Door) (D.faults door.old) (D.faults door.new) }
     ensures not_rack { result ≢ Err ServeFault.Rack }
 {
-    let Ok(prepared) = prepare(alloc, specs, &boards) else {
-        keep_all(rack, boards);
-        return Err(ServeFault::NoMemory);
-    };
-    match split_boards(alloc, boards) {
-        Ok(split) => serve_split(
+    match take_apart(alloc, specs, boards) {
+        Ok((split, prepared)) => serve_split(
             rt, alloc, settings, split, prepared, specs, port, count, rack, door,
         ),
         Err(boards) => {

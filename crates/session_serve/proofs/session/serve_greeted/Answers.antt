@@ -5,45 +5,26 @@ use Rattle.hub_lane.specs.Greeting.{link_of}
 use Rattle.board_greeting.specs.Boards.{AreReached, LeavesRoom}
 use Rattle.board_greeting.specs.Reports.{shown_by}
 use Rattle.session_serve.specs.Executed.{CameInFrames}
-use Rattle.session_serve.specs.Prepared.{IsPrepared, told_by}
 use Rattle.session_serve.specs.Serving.{AreBack}
 use Rattle.session_serve.proofs.Executing.{greeted_untouched, none_executed}
 use Rattle.session_serve.proofs.Reporting.{greeted_links}
 use Rattle.session_serve.proofs.Standing.{gives_none, none_served}
 use Rattle.session_serve.proofs.session.serve_greeted.Goals as goal
 
-pub keep_all-requires-clause-room : goal.keep_all-requires-clause-room
-keep_all-requires-clause-room g c κs within =
-    subst (λ (n : ℕ). LeavesRoom (length (g.R.Rack.kept c.args.rack.now)) (length (g.R.Rack.made c.args.rack.now)) n)
-    (sym c.requires.all) c.requires.room
-
-pub returns-in_default-clause-links : goal.returns-in_default-clause-links
-returns-in_default-clause-links g c =
-    let boards = c.args.boards.items in (
-      map (λ (b : Greeted _). link_of b) boards,
-      c.keep_all.ensures.kept,
-      greeted_links (shown_by g.R.L.Link) c.args.settings c.args.specs.now boards c.requires.reached c.requires.all,
-    )
-
-pub returns-in_default-clause-pairs : goal.returns-in_default-clause-pairs
-returns-in_default-clause-pairs g c =
-    gives_none g.D.Door g.D.Incoming.Source g.D.Outgoing.Sink c.args.door.now AreBack none_served
-
 pub serve_split-requires-clause-ready : goal.serve_split-requires-clause-ready
 serve_split-requires-clause-ready g c κs within = record {
   apart = record {
     boards = c.args.boards.items;
-    apart = c.in-Ok-split_boards.ensures.apart;
+    apart = c.in-Ok.ensures.apart;
     all = c.requires.all;
     memory = c.requires.memory;
     reached = c.requires.reached;
   };
-  prepared' = subst (λ (l : List (Greeted _)). IsPrepared c.args.specs.now (map (λ b. told_by b) l) c.in-Ok.prepared)
-      c.deref.ensures.value c.in-Ok.ensures;
+  prepared' = c.in-Ok.ensures.told;
 }
 
-pub keep_all-requires-in-Err-clause-room : goal.keep_all-requires-in-Err-clause-room
-keep_all-requires-in-Err-clause-room g c κs within =
+pub keep_all-requires-clause-room : goal.keep_all-requires-clause-room
+keep_all-requires-clause-room g c κs within =
     subst (λ (n : ℕ). LeavesRoom (length (g.R.Rack.kept c.args.rack.now)) (length (g.R.Rack.made c.args.rack.now)) n)
     (sym (ap (λ (v : Vec (Greeted _) _). length v.items) c.in-Err.ensures.given_back ∙ c.requires.all)) c.requires.room
 
@@ -54,7 +35,7 @@ returns-in-Err-clause-links g c =
     let same : boards ≡ c.args.boards.items =
     ap (λ (v : Vec (Greeted _) _). v.items) c.in-Err.ensures.given_back in (
       map (λ (b : Greeted _). link_of b) boards,
-      c.keep_all-in-Err.ensures.kept,
+      c.keep_all.ensures.kept,
       greeted_links shows c.args.settings c.args.specs.now boards
           (subst (AreReached shows c.args.settings c.args.specs.now) (sym same) c.requires.reached)
           (ap (λ (l : List (Greeted _)). length l) same ∙ c.requires.all),
@@ -64,18 +45,6 @@ pub returns-in-Err-clause-pairs : goal.returns-in-Err-clause-pairs
 returns-in-Err-clause-pairs g c =
     gives_none g.D.Door g.D.Incoming.Source g.D.Outgoing.Sink c.args.door.now AreBack none_served
 
-pub returns-in_default-clause-in_frames : goal.returns-in_default-clause-in_frames
-returns-in_default-clause-in_frames g c =
-    let shows = shown_by g.R.L.Link in
-    let boards = c.args.boards.items in
-    let links = map (λ (b : Greeted _). link_of b) boards in (
-      links,
-      c.keep_all.ensures.kept,
-      gives_none g.D.Door g.D.Incoming.Source g.D.Outgoing.Sink c.args.door.now (CameInFrames (map shows links))
-          (none_executed (map shows links)
-          (greeted_untouched shows c.args.settings c.args.specs.now boards c.requires.reached)),
-    )
-
 pub returns-in-Err-clause-in_frames : goal.returns-in-Err-clause-in_frames
 returns-in-Err-clause-in_frames g c =
     let shows = shown_by g.R.L.Link in
@@ -84,29 +53,11 @@ returns-in-Err-clause-in_frames g c =
     let same : boards ≡ c.args.boards.items =
     ap (λ (v : Vec (Greeted _) _). v.items) c.in-Err.ensures.given_back in (
       links,
-      c.keep_all-in-Err.ensures.kept,
+      c.keep_all.ensures.kept,
       gives_none g.D.Door g.D.Incoming.Source g.D.Outgoing.Sink c.args.door.now (CameInFrames (map shows links))
           (none_executed (map shows links) (greeted_untouched shows c.args.settings c.args.specs.now boards
           (subst (AreReached shows c.args.settings c.args.specs.now) (sym same) c.requires.reached))),
     )
-
-pub returns-in_default-clause-none_out : goal.returns-in_default-clause-none_out
-returns-in_default-clause-none_out g c = grind (arith, common_steps)
-
-pub returns-in_default-clause-listens : goal.returns-in_default-clause-listens
-returns-in_default-clause-listens g c = grind (arith, common_steps)
-
-pub returns-in_default-clause-made : goal.returns-in_default-clause-made
-returns-in_default-clause-made g c = grind (arith, common_steps)
-
-pub returns-in_default-clause-rack_faults : goal.returns-in_default-clause-rack_faults
-returns-in_default-clause-rack_faults g c = grind (arith, common_steps)
-
-pub returns-in_default-clause-door_faults : goal.returns-in_default-clause-door_faults
-returns-in_default-clause-door_faults g c = grind (arith, common_steps)
-
-pub returns-in_default-clause-not_rack : goal.returns-in_default-clause-not_rack
-returns-in_default-clause-not_rack g c = grind (arith, common_steps)
 
 pub returns-in-Err-clause-none_out : goal.returns-in-Err-clause-none_out
 returns-in-Err-clause-none_out g c = grind (arith, common_steps)
@@ -126,15 +77,8 @@ returns-in-Err-clause-door_faults g c = grind (arith, common_steps)
 pub returns-in-Err-clause-not_rack : goal.returns-in-Err-clause-not_rack
 returns-in-Err-clause-not_rack g c = grind (arith, common_steps)
 
-pub prepare-requires : goal.prepare-requires
-prepare-requires g c =
-    let same = ap (λ (l : List (Greeted _)). length l) c.deref.ensures.value in
-    let all = c.requires.all in
-    let few = c.requires.few_boards in
-    omega (arith, same, all, few)
-
-pub returns-in-Ok-split_boards : goal.returns-in-Ok-split_boards
-returns-in-Ok-split_boards g c = record {
+pub returns-in-Ok : goal.returns-in-Ok
+returns-in-Ok g c = record {
   served = c.serve_split.ensures.served;
   all = c.serve_split.ensures.all;
   had_memory = c.serve_split.ensures.had_memory;
