@@ -1,6 +1,6 @@
 //! Serving a connection: pieces of the input, the frames that each completes, and their answers.
 
-ghost use Rattle.std.specs.Prelude.{◌≡◌, ◌≢◌, ◌<◌, ◌++◌, ℕ, List, Err, Some, Option, true};
+ghost use Rattle.std.specs.Prelude.{◌≡◌, ◌≢◌, ◌<◌, ◌++◌, ◌⊎◌, ℕ, List, Err, Some, Option, true};
 ghost use Rattle.std.specs.Prelude.{IfErr, OnErr, OnOk, length};
 ghost use Rattle.std.specs.List.{AllByRecursion};
 ghost use Rattle.ipb_outside.specs.Faults.{RisesExactlyIf};
@@ -9,7 +9,8 @@ ghost use Rattle.ipb_base.specs.Numbers.{in_64_bits};
 ghost use Rattle.hub_lane.specs.declared.answers.BoardState.{BoardState as StateOfBoard};
 ghost use Rattle.hub_multiplexer.specs.OwnItems.{HasAskedAll};
 ghost use Rattle.hub_multiplexer.specs.Seats.{IsSeatOf, SeatState};
-ghost use Rattle.hub_framing.specs.Frames.{RequestFrame, IsBegun, IsFrame, IsFrameStream, frame_bytes};
+ghost use Rattle.hub_framing.specs.Frames.{RequestFrame, IsBegun, IsFrame, IsFrameStream, IsTooLong, IsTooShort};
+ghost use Rattle.hub_framing.specs.Frames.{frame_bytes};
 ghost use Rattle.hub_session.specs.Serving.{IsByInput, IsEndAt, IsLaneBelow, IsServed, IsUnused};
 ghost use Rattle.hub_session.specs.Inside.{ComesToEnd, GoesOn, HasAnswered, IsAtInputEnd, IsSameSeat};
 ghost use Rattle.hub_session.specs.Inside.{IsSettled, NoneWaits, StandsOf, standing};
@@ -148,6 +149,21 @@ fn answer_next<R: Wait, L: Link + Send, O: Sink>(
     answer_one(rt, boards, seat, sink, progress, frame)
 }
 
+/// The end at a length field out of range. The answers that wait are written before.
+fn end_at_bad_frame<O: Sink>(sink: &mut O, progress: &mut Progress) -> SessionEnd
+    ensures ends { (map : List StateOfBoard) (seat : SeatState) (left : Option (List ℕ)) (held : List ℕ)
+        → IsTooLong held ⊎ IsTooShort held
+        → ComesToEnd map (standing seat left (O.written sink.old) held progress.old)
+        (standing seat left (O.written sink.new) held progress.new) result }
+    ensures not_read { result ≢ SessionEnd.ReadFault }
+    ensures faults { RisesExactlyIf (result ≡ SessionEnd.WriteFault) (O.faults sink.old) (O.faults sink.new) }
+{
+    match write_replies(sink, progress) {
+        Ok(()) => SessionEnd::BadFrame,
+        Err(end) => end,
+    }
+}
+
 /// Answers the frames that are whole, in order, and writes all answers.
 fn answer_waiting<R: Wait, L: Link + Send, O: Sink>(
     rt: &R,
@@ -180,12 +196,7 @@ fn answer_waiting<R: Wait, L: Link + Send, O: Sink>(
                 }
             }
             Ok(None) => return write_replies(sink, progress),
-            Err(_refusal) => {
-                if let Err(end) = write_replies(sink, progress) {
-                    return Err(end);
-                }
-                return Err(SessionEnd::BadFrame);
-            }
+            Err(_refusal) => return Err(end_at_bad_frame(sink, progress)),
         }
     }
     unreachable!()
@@ -236,6 +247,40 @@ fn read_piece<S: Source>(
 }
 
 /// Reads piece after piece, and answers their frames, until one of the ends comes.
+fn serve_to_end<R: Wait, L: Link + Send, S: Source, O: Sink>(
+    rt: &R,
+    boards: &Boards<L>,
+    seat: &mut Seat,
+    src: &mut S,
+    sink: &mut O,
+    progress: &mut Progress,
+) -> SessionEnd
+    requires lanes { AllByRecursion (IsLaneBelow (length boards.now.hub.now.turns)) boards.now.map.now }
+    requires seat { IsSeatOf boards.now.hub.now seat.old }
+    requires settled { AllByRecursion IsSettled seat.old.knows }
+    requires begun { IsBegun progress.old.framer }
+    requires waits { NoneWaits progress.old }
+    ensures same { IsSameSeat seat.old seat.new }
+    ensures settled { result ≢ SessionEnd.NoMemory → AllByRecursion IsSettled seat.new.knows }
+    ensures ends { ComesToEnd boards.now.map.now
+        (standing seat.old (S.left src.old) (O.written sink.old) progress.old.framer progress.old)
+        (standing seat.new (S.left src.new) (O.written sink.new) progress.new.framer progress.new) result }
+    ensures read_faults { RisesExactlyIf (result ≡ SessionEnd.ReadFault) (S.faults src.old) (S.faults src.new) }
+    ensures write_faults { RisesExactlyIf (result ≡ SessionEnd.WriteFault) (O.faults sink.old) (O.faults sink.new) }
+{
+    let mut buf = [0; PIECE];
+    for _ in rt.forever() {
+        if let Err(end) = read_piece(src, progress, &mut buf) {
+            return end;
+        }
+        if let Err(end) = answer_waiting(rt, boards, seat, sink, progress) {
+            return end;
+        }
+    }
+    unreachable!()
+}
+
+/// Serves a connection of which nothing was read yet, until one of the ends comes.
 fn serve_pieces<R: Wait, L: Link + Send, S: Source, O: Sink>(
     rt: &R,
     alloc: Global,
@@ -256,22 +301,11 @@ fn serve_pieces<R: Wait, L: Link + Send, S: Source, O: Sink>(
     ensures write_faults { RisesExactlyIf (result.end ≡ SessionEnd.WriteFault) (O.faults sink.old) (O.faults sink.new) }
 {
     let mut progress = Progress::new(alloc);
-    let mut buf = [0; PIECE];
-    for _ in rt.forever() {
-        if let Err(end) = read_piece(src, &mut progress, &mut buf) {
-            return Served {
-                frames: progress.frames,
-                end,
-            };
-        }
-        if let Err(end) = answer_waiting(rt, boards, seat, sink, &mut progress) {
-            return Served {
-                frames: progress.frames,
-                end,
-            };
-        }
+    let end = serve_to_end(rt, boards, seat, src, sink, &mut progress);
+    Served {
+        frames: progress.frames,
+        end,
     }
-    unreachable!()
 }
 
 /// Serves the connection of a client under a seat of the hub: it answers each request frame that comes from the source

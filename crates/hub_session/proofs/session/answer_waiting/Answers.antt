@@ -1,9 +1,8 @@
-use Rattle.std.proofs.Common.{ℕ, List, Option, Err, refl, sym, ap, subst, arith}
+use Rattle.std.proofs.Common.{◌∙◌, ℕ, List, Option, Err, ap, arith}
 use Rattle.std.proofs.lemmas.Grind.{common_steps}
-use Rattle.hub_session.specs.declared.served.SessionEnd.{SessionEnd}
 use Rattle.hub_session.specs.declared.served.SessionEnd.TheVariants as ends
 use Rattle.hub_session.specs.Inside.{ComesToEnd, standing}
-use Rattle.hub_session.proofs.Connections.{bad_by, ends_badly}
+use Rattle.hub_session.proofs.Connections.{bad_by}
 use Rattle.hub_session.proofs.Results.{at_only_error}
 use Rattle.hub_session.proofs.session.answer_waiting.Goals as goal
 
@@ -19,28 +18,13 @@ returns-in-Ok-None-clause-ends g c =
     ends.WriteFault c.write_replies.result c.write_replies.ensures.ends c.write_replies.ensures.only
     (λ on left start s. on map c.loop.seat left now.framer start (c.loop.invariant.3 left start s))
 
-pub returns-in-Err-write_replies-clause-ends : goal.returns-in-Err-write_replies-clause-ends
-returns-in-Err-write_replies-clause-ends g c = λ left.
-    let map = c.args.boards.now.map.now in
-    let was = c.args.progress.now in
-    let now = c.loop.progress in
-    let after = c.write_replies-in-Err.new.progress in
-    subst (λ (end : SessionEnd). ComesToEnd map
-    (standing c.args.seat.now left (g.O.Sink.written c.args.sink.now) was.framer was)
-    (standing c.loop.seat left (g.O.Sink.written c.write_replies-in-Err.new.sink) after.framer after) end)
-    (sym c.in-Err-write_replies.ensures.only) (λ start s.
-    c.in-Err-write_replies.ensures.ends map c.loop.seat left now.framer start (c.loop.invariant.3 left start s))
-
 pub returns-in-Err-clause-ends : goal.returns-in-Err-clause-ends
 returns-in-Err-clause-ends g c = λ left start s.
     let map = c.args.boards.now.map.now in
     let now = c.loop.progress in
-    let after = c.write_replies-in-Err.new.progress in
-    let bad = bad_by c.in-Err._refusal now.framer (λ e. c.in-Err.ensures.too_long.0 (ap Err e))
-    (λ e. c.in-Err.ensures.too_short.0 (ap Err e)) in
-    let new = standing c.loop.seat left (g.O.Sink.written c.write_replies-in-Err.new.sink) now.framer after in
-    ends_badly map new new bad c.in_default-write_replies.ensures.waits refl refl refl refl start
-    (c.in_default-write_replies.ensures.goes_on map c.loop.seat left now.framer start (c.loop.invariant.3 left start s))
+    c.end_at_bad_frame.ensures.ends map c.loop.seat left now.framer
+    (bad_by c.in-Err._refusal now.framer (λ e. c.in-Err.ensures.too_long.0 (ap Err e))
+    (λ e. c.in-Err.ensures.too_short.0 (ap Err e))) start (c.loop.invariant.3 left start s)
 
 pub loop-init : goal.loop-init
 loop-init g c = grind (arith, common_steps)
@@ -49,7 +33,7 @@ pub returns-in-Err-answer_next-clause-settled : goal.returns-in-Err-answer_next-
 returns-in-Err-answer_next-clause-settled g c = grind (arith, common_steps)
 
 pub returns-in-Err-answer_next-clause-goes_on : goal.returns-in-Err-answer_next-clause-goes_on
-returns-in-Err-answer_next-clause-goes_on g c = grind (arith, common_steps)
+returns-in-Err-answer_next-clause-goes_on g c = tt
 
 pub returns-in-Err-answer_next-clause-ends : goal.returns-in-Err-answer_next-clause-ends
 returns-in-Err-answer_next-clause-ends g c = grind (arith, common_steps)
@@ -61,7 +45,7 @@ pub loop-preserved : goal.loop-preserved
 loop-preserved g c = grind (arith, common_steps)
 
 pub returns-in-Ok-None-clause-settled : goal.returns-in-Ok-None-clause-settled
-returns-in-Ok-None-clause-settled g c = grind (arith, common_steps)
+returns-in-Ok-None-clause-settled g c = λ _. c.loop.invariant.2
 
 pub returns-in-Ok-None-clause-goes_on : goal.returns-in-Ok-None-clause-goes_on
 returns-in-Ok-None-clause-goes_on g c = grind (arith, common_steps)
@@ -69,32 +53,26 @@ returns-in-Ok-None-clause-goes_on g c = grind (arith, common_steps)
 pub returns-in-Ok-None-clause-faults : goal.returns-in-Ok-None-clause-faults
 returns-in-Ok-None-clause-faults g c = grind (arith, common_steps)
 
-pub returns-in-Err-write_replies-clause-settled : goal.returns-in-Err-write_replies-clause-settled
-returns-in-Err-write_replies-clause-settled g c = grind (arith, common_steps)
-
-pub returns-in-Err-write_replies-clause-goes_on : goal.returns-in-Err-write_replies-clause-goes_on
-returns-in-Err-write_replies-clause-goes_on g c = grind (arith, common_steps)
-
-pub returns-in-Err-write_replies-clause-faults : goal.returns-in-Err-write_replies-clause-faults
-returns-in-Err-write_replies-clause-faults g c = grind (arith, common_steps)
-
 pub returns-in-Err-clause-settled : goal.returns-in-Err-clause-settled
-returns-in-Err-clause-settled g c = grind (arith, common_steps)
+returns-in-Err-clause-settled g c = λ _. c.loop.invariant.2
 
 pub returns-in-Err-clause-goes_on : goal.returns-in-Err-clause-goes_on
-returns-in-Err-clause-goes_on g c = grind (arith, common_steps)
+returns-in-Err-clause-goes_on g c = tt
 
 pub returns-in-Err-clause-faults : goal.returns-in-Err-clause-faults
 returns-in-Err-clause-faults g c = grind (arith, common_steps)
 
 pub returns-in-Err-answer_next-clause-same : goal.returns-in-Err-answer_next-clause-same
-returns-in-Err-answer_next-clause-same g c = grind (arith, common_steps)
+returns-in-Err-answer_next-clause-same g c = (
+  c.answer_next.ensures.same.0 ∙ c.loop.invariant.1.0,
+  c.answer_next.ensures.same.1 ∙ c.loop.invariant.1.1,
+)
 
 pub returns-in-Err-answer_next-clause-begun : goal.returns-in-Err-answer_next-clause-begun
-returns-in-Err-answer_next-clause-begun g c = grind (arith, common_steps)
+returns-in-Err-answer_next-clause-begun g c = tt
 
 pub returns-in-Err-answer_next-clause-waits : goal.returns-in-Err-answer_next-clause-waits
-returns-in-Err-answer_next-clause-waits g c = grind (arith, common_steps)
+returns-in-Err-answer_next-clause-waits g c = tt
 
 pub returns-in-Err-answer_next-clause-not_read : goal.returns-in-Err-answer_next-clause-not_read
 returns-in-Err-answer_next-clause-not_read g c = grind (arith, common_steps)
@@ -103,34 +81,25 @@ pub loop-smaller : goal.loop-smaller
 loop-smaller g c = grind (arith, common_steps)
 
 pub returns-in-Ok-None-clause-same : goal.returns-in-Ok-None-clause-same
-returns-in-Ok-None-clause-same g c = grind (arith, common_steps)
+returns-in-Ok-None-clause-same g c = c.loop.invariant.1
 
 pub returns-in-Ok-None-clause-begun : goal.returns-in-Ok-None-clause-begun
 returns-in-Ok-None-clause-begun g c = grind (arith, common_steps)
 
 pub returns-in-Ok-None-clause-waits : goal.returns-in-Ok-None-clause-waits
-returns-in-Ok-None-clause-waits g c = grind (arith, common_steps)
+returns-in-Ok-None-clause-waits g c = c.write_replies.ensures.waits
 
 pub returns-in-Ok-None-clause-not_read : goal.returns-in-Ok-None-clause-not_read
 returns-in-Ok-None-clause-not_read g c = grind (arith, common_steps)
 
-pub returns-in-Err-write_replies-clause-same : goal.returns-in-Err-write_replies-clause-same
-returns-in-Err-write_replies-clause-same g c = grind (arith, common_steps)
-
-pub returns-in-Err-write_replies-clause-begun : goal.returns-in-Err-write_replies-clause-begun
-returns-in-Err-write_replies-clause-begun g c = grind (arith, common_steps)
-
-pub returns-in-Err-write_replies-clause-waits : goal.returns-in-Err-write_replies-clause-waits
-returns-in-Err-write_replies-clause-waits g c = grind (arith, common_steps)
-
 pub returns-in-Err-clause-same : goal.returns-in-Err-clause-same
-returns-in-Err-clause-same g c = grind (arith, common_steps)
+returns-in-Err-clause-same g c = c.loop.invariant.1
 
 pub returns-in-Err-clause-begun : goal.returns-in-Err-clause-begun
-returns-in-Err-clause-begun g c = grind (arith, common_steps)
+returns-in-Err-clause-begun g c = tt
 
 pub returns-in-Err-clause-waits : goal.returns-in-Err-clause-waits
-returns-in-Err-clause-waits g c = grind (arith, common_steps)
+returns-in-Err-clause-waits g c = tt
 
 pub returns-in-Err-clause-not_read : goal.returns-in-Err-clause-not_read
 returns-in-Err-clause-not_read g c = grind (arith, common_steps)

@@ -1,8 +1,8 @@
 use Rattle.std.proofs.Common.{◌≡◌, ◌<◌, length}
 use Rattle.std.specs.List.{AllByRecursion}
 use Rattle.hub_framing.specs.Frames.{IsBegun}
-use Rattle.hub_session.specs.Inside.{IsSameSeat, IsServing, IsSettled, NoneWaits, standing}
-use Rattle.hub_session.proofs.session.serve_pieces.Given as goal
+use Rattle.hub_session.specs.Inside.{GoesOn, IsSameSeat, IsSettled, NoneWaits, standing}
+use Rattle.hub_session.proofs.session.serve_to_end.Given as goal
 
 -- the connection went on, no answer waits to be written, and no fault came
 abbrev pub invariant-loop : goal.invariant-loop
@@ -12,8 +12,8 @@ invariant-loop g l =
     × AllByRecursion IsSettled l.seat.knows
     × IsBegun l.progress.framer
     × NoneWaits l.progress
-    × IsServing l.boards.map.now
-    (record { seat = l.fn.seat; left = g.S.Source.left l.fn.src; written = g.O.Sink.written l.fn.sink })
+    × GoesOn l.boards.map.now
+    (standing l.fn.seat (g.S.Source.left l.fn.src) (g.O.Sink.written l.fn.sink) l.fn.progress.framer l.fn.progress)
     (standing l.seat (g.S.Source.left l.src) (g.O.Sink.written l.sink) l.progress.framer l.progress)
     × (g.S.Source.faults l.src ≡ g.S.Source.faults l.fn.src)
     × (g.O.Sink.faults l.sink ≡ g.O.Sink.faults l.fn.sink)
