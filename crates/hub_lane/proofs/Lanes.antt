@@ -168,6 +168,17 @@ lane_entry settings status hub items outcomes lates give_ups down spent telling 
       told = is.told;
     }
 
+-- a lane whose record has the same entries
+pub lane_still : {settings : Limits} {status : BoardStatus} {hub : Hub} {items items_now : List Item}
+    {outcomes : List (Option Outcome)} {lates : List (Option (List ℕ))} {give_ups : ℕ} {down spent : Bool}
+    {telling : Option Telling} {faults quiets : ℕ} → items_now ≡ items
+    → IsLane settings status hub items outcomes lates give_ups down spent telling faults quiets
+    → IsLane settings status hub items_now outcomes lates give_ups down spent telling faults quiets
+lane_still {settings} {status} {hub} {items} {items_now} {outcomes} {lates} {give_ups} {down} {spent} {telling} {faults}
+    {quiets} same =
+    subst (λ (xs : List Item). IsLane settings status hub xs outcomes lates give_ups down spent telling faults quiets)
+    (sym same)
+
 -- ---- an Ask
 
 -- a lane that is not spent lost no late answer

@@ -1,5 +1,5 @@
 -- What calls leave of a link, one after another.
-use Rattle.std.proofs.Common.{◌≡◌, ◌∙◌, ap, subst, sym, inl, inr, Bool, true, false, ℕ, ◌≤◌}
+use Rattle.std.proofs.Common.{◌≡◌, ◌∙◌, ap, refl, subst, sym, inl, inr, Bool, true, false, ℕ, ◌≤◌}
 use Rattle.std.proofs.Common.{List, [], ◌∷◌, ◌++◌, Option, Some, None, arith}
 use Rattle.std.specs.Prelude.{Result, Ok, Err, IfSome, OnErr}
 use Rattle.board_bus.specs.Cells.{CellMap}
@@ -12,8 +12,10 @@ use Rattle.world_core.specs.declared.link.Received.{Received}
 use Rattle.world_core.specs.declared.link.Received.TheVariants.{Got, Quiet as received_quiet}
 use Rattle.world_core.specs.Receives.{receives_after}
 use Rattle.world_core.specs.Telling.{IfTelling, IsQuiet, Receives, Telling}
+use Rattle.lane_record.specs.declared.item.Item.{Item}
 use Rattle.hub_lane.specs.declared.answers.Pumped.TheVariants.{Quiet}
-use Rattle.hub_lane.specs.Calls.{IsSameRecord}
+use Rattle.hub_lane.specs.declared.answers.Pumped.{Pumped}
+use Rattle.hub_lane.specs.Calls.{IsSameRecord, IsSpent, PumpsAs}
 use Rattle.hub_lane.specs.Hearing.{WasReceived}
 use Rattle.hub_lane.specs.Lanes.{LaneState, board_of, opening_of}
 use Rattle.hub_lane.specs.Links.{IsDownByFault, KeepsCounting, ReceivesNothing}
@@ -111,10 +113,69 @@ still_up : (t : Option Telling) (down : Bool) (P Q : Type 0) → IfSome t (λ _.
 still_up None down P Q leads holds = tt
 still_up (Some t) down P Q leads holds = λ _. leads holds
 
+-- a call that did nothing
+pub nothing_counted : {L : Type 0} (seen : Ghosts L) (link : L) → KeepsCounting seen link link
+nothing_counted seen link = record {
+  faults = omega arith;
+  quiets = omega arith;
+  gots = omega arith;
+  receives = same_prefix refl;
+  held = omega arith;
+  board = refl;
+}
+
+nothing_failed : (t : Option Telling) (down : Bool) (faults : ℕ) → IfSome t (λ _. down ≡ false → faults ≡ faults)
+nothing_failed None down faults = tt
+nothing_failed (Some t) down faults = λ _. refl
+
+pub still_as_down : {L : Type 0} (seen : Ghosts L) (lane : LaneState L) → IsDownByFault seen lane lane
+still_as_down seen lane = record {
+  down = λ is. inl is;
+  up = nothing_failed (seen.telling lane.link) lane.down (seen.faults lane.link);
+}
+
+-- a call that left the entries of the record left the lane's view
+pub same_entries : {L : Type 0} {inside old : LaneState L} {items : List Item} → inside ≡ old → items ≡ inside.items
+    → let now : LaneState L = record {
+      link = inside.link;
+      settings = inside.settings;
+      status = inside.status;
+      hub = inside.hub;
+      items = items;
+      outcomes = inside.outcomes;
+      lates = inside.lates;
+      give_ups = inside.give_ups;
+      down = inside.down;
+      spent = inside.spent;
+    } in
+    now ≡ old
+same_entries {L} {inside} {old} {items} view same = ap (λ (xs : List Item). record {
+  link = inside.link;
+  settings = inside.settings;
+  status = inside.status;
+  hub = inside.hub;
+  items = xs;
+  outcomes = inside.outcomes;
+  lates = inside.lates;
+  give_ups = inside.give_ups;
+  down = inside.down;
+  spent = inside.spent;
+}) same ∙ view
+
+pub pumps_as : {L : Type 0} {inside old : LaneState L} → inside ≡ old → (seen : Ghosts L) (new : LaneState L)
+    (telling : Option Telling) (now : List (Option (List ℕ))) (came_to : Pumped)
+    → PumpsAs inside telling (seen.receives inside.link) now new came_to
+    → PumpsAs old telling (seen.receives old.link) now new came_to
+pumps_as {L} view seen new telling now came_to =
+    subst (λ (v : LaneState L). PumpsAs v telling (seen.receives v.link) now new came_to) view
+
 -- a call that began with a lane of this view
 module _ {L : Type 0} {inside old new : LaneState L} (view : inside ≡ old) where
   pub same_record : IsSameRecord inside new → IsSameRecord old new
   same_record is = subst (λ (v : LaneState L). IsSameRecord v new) view is
+
+  pub is_spent : IsSpent inside new → IsSpent old new
+  is_spent is = subst (λ (v : LaneState L). IsSpent v new) view is
 
   -- the network failed
   pub went_down : (seen : Ghosts L) → new.down ≡ true → Rose (seen.faults inside.link) (seen.faults new.link)

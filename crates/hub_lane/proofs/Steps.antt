@@ -23,7 +23,8 @@ use Rattle.hub_lane.specs.declared.answers.Pumped.TheVariants.{Reply, Status, St
 use Rattle.hub_lane.specs.Calls.{GoesDown, IsSameRecord, PumpsAs, TakesNothing, WasAsked}
 use Rattle.hub_lane.specs.Carrying.{Pumping}
 use Rattle.hub_lane.specs.Hearing.{gots_of, quiets_of}
-use Rattle.hub_lane.specs.Lanes.{LaneState}
+use Rattle.hub_lane.specs.Lanes.{LaneState, opening_of}
+use Rattle.hub_lane.specs.Links.{KeepsCounting}
 use Rattle.hub_lane.specs.Step.{IsPump, PumpsOnce}
 use Rattle.lane_tables.specs.Taken.{IsOldest}
 
@@ -154,6 +155,22 @@ same_record {L} old new e = record {
   lates = λ place words there. ap (λ (l : LaneState L). late_in l.lates place) e ∙ there;
   give_ups = let same = ap (λ (l : LaneState L). l.give_ups) e in omega (arith, same);
 }
+
+-- ---- a pump between two takes
+
+-- what a pump counted is counted from the lane before the take in vain before it, and on to the link behind it
+pub pump_counts : {L : Type 0} (seen : Ghosts L) {old before : LaneState L} {now link : L} → before ≡ old
+    → link ≡ now → KeepsCounting seen before.link now → KeepsCounting seen old.link link
+pump_counts {L} seen {old} {before} {now} {link} same after counts =
+    subst (λ (l : L). KeepsCounting seen old.link l) (sym after)
+    (subst (λ (lane : LaneState L). KeepsCounting seen lane.link now) same counts)
+
+pub pump_opening : {L : Type 0} (seen : Ghosts L) {old before : LaneState L} {now link : L} → before ≡ old
+    → link ≡ now → opening_of (seen.telling now) ≡ opening_of (seen.telling before.link)
+    → opening_of (seen.telling link) ≡ opening_of (seen.telling old.link)
+pump_opening {L} seen {old} {before} {now} {link} same after opens =
+    ap (λ (l : L). opening_of (seen.telling l)) after
+    ∙ (opens ∙ ap (λ (lane : LaneState L). opening_of (seen.telling lane.link)) same)
 
 -- ---- one pump
 

@@ -234,22 +234,7 @@ impl<L: Link> Lane<L> {
     pub fn close(self) -> L
         ensures { result ≡ self.link }
     {
-        let Lane {
-            alloc: _alloc,
-            link,
-            settings: _settings,
-            mtu: _mtu,
-            buffers: _buffers,
-            first: _first,
-            engine: _engine,
-            buffer: _buffer,
-            book: _book,
-            outcomes: _outcomes,
-            give_ups: _give_ups,
-            down: _down,
-            spent: _spent,
-        } = self;
-        link
+        self.link
     }
 
     /// Plans a body for a client, from 1. `reply_words` is the words of the longest reply to it. Answers how many
@@ -444,7 +429,6 @@ impl<L: Link> Lane<L> {
         ensures taken { IfOk result (TakesAs self.old client seq self.new) }
         ensures unchanged { OnErr result (self.new ≡ self.old) }
     {
-        an_ask_is_of_its_plan();
         entries_go_into_the_book();
         let Some(ask) = self.book.ask_of(client, seq) else {
             unreachable!()

@@ -1,5 +1,6 @@
 use Rattle.std.proofs.Common.{◌≡◌, ◌∙◌, ℕ, List, sym, ap, subst, refl, length, ◌++◌, ◌∷◌, [], Some, None, ◌≤◌}
 use Rattle.std.proofs.Common.{if◌then◌else◌, ◌||◌}
+use Rattle.std.specs.Prelude.{IfSome}
 use Rattle.world_core.specs.Telling.{IfTelling}
 use Rattle.world_model.specs.Hub.{Hub, offer}
 use Rattle.lane_record.specs.declared.outcome.Outcome.TheVariants.{LinkLost}
@@ -7,11 +8,13 @@ use Rattle.world_model.specs.Facts.{IsSendable}
 use Rattle.lane_record.specs.declared.item.Item.{Item}
 use Rattle.lane_record.specs.Items.{asked_count, told_by_first, plan_in}
 use Rattle.lane_record.specs.NextEntry.{MayAsk, ask_of}
-use Rattle.hub_lane.specs.Lanes.{BoardStatus, LaneState}
-use Rattle.hub_lane.specs.Rounds.{RoundAfter, Sends, round_of}
+use Rattle.hub_lane.specs.Heard.{HasHeard, HasListened}
+use Rattle.hub_lane.specs.Lanes.{BoardStatus, IsLane, LaneState}
+use Rattle.hub_lane.specs.Rounds.{HasPaid, RoundAfter, Sends, round_of}
+use Rattle.hub_lane.proofs.Links.{on_any_err, same_entries}
 use Rattle.hub_lane.proofs.InRounds.{offered_round, same_lane_sends}
 use Rattle.ipb_base.specs.Numbers.{payload_of}
-use Rattle.hub_lane.proofs.Lanes.{body_sendable, found_fits, lane_asks}
+use Rattle.hub_lane.proofs.Lanes.{body_sendable, found_fits, lane_asks, lane_still}
 use Rattle.hub_lane.proofs.Rounds.{pays_asked}
 use Rattle.hub_lane.proofs.Datagrams.{asked_unheard, heard_asked}
 use Rattle.hub_lane.proofs.Listened.{listened_asked}
@@ -104,21 +107,39 @@ returns-clause-round g c =
     c.in_ok-offer.ensures.engine c.self.invariant.0.standing)
 
 -- where memory ran out the lane is the same
+pub returns-in_err-reserve-clause-unchanged : goal.returns-in_err-reserve-clause-unchanged
+returns-in_err-reserve-clause-unchanged g c =
+    on_any_err _ (same_entries c.self.view_is c.reserve.ensures.items)
+
+pub invariant_of-self : goal.invariant_of-self
+invariant_of-self g c = (
+  lane_still c.reserve.ensures.items c.self.invariant.0,
+  c.self.invariant.1,
+  c.self.invariant.2,
+  c.self.invariant.3,
+)
+
+pub invariant_of-self-in_err-offer : goal.invariant_of-self-in_err-offer
+invariant_of-self-in_err-offer g c =
+    let l = c.self.inside in
+    let status : BoardStatus = record { mtu = l.mtu; buffers = l.buffers; next = l.first } in
+    let link = g.L.Link in
+    let holds = λ (hub : Hub) (table : TableState) (items : List Item).
+    IsLane l.settings status hub items table.items table.lates l.give_ups l.down l.spent (link.telling l.link)
+    (link.faults l.link) (link.quiets l.link)
+    × IfSome (link.telling l.link) (HasPaid (l.down || l.spent) l.mtu l.settings.rounds l.give_ups hub
+    (link.held l.link))
+    × HasHeard table.items (link.gots l.link)
+    × HasListened status hub table.items table.lates l.give_ups (link.receives l.link) in
+    subst (λ (hub : Hub). holds hub c.offer.new.self c.reserve.new.self.items) (sym c.in_err-offer.ensures.same_engine)
+    (subst (λ (table : TableState). holds l.engine table c.reserve.new.self.items)
+    (sym c.in_err-offer.ensures.unchanged)
+    (subst (λ (items : List Item). holds l.engine l.outcomes items) (sym c.in_ok-reserve.ensures.items)
+    c.self.invariant))
+
 pub returns-in_err-reserve-clause-round : goal.returns-in_err-reserve-clause-round
 returns-in_err-reserve-clause-round g c =
-    let l = c.self.inside in
-    same_lane_sends g.L.Link c.args.self.now _ (ap (λ (xs : List Item). record {
-      link = l.link;
-      settings = l.settings;
-      status = record { mtu = l.mtu; buffers = l.buffers; next = l.first };
-      hub = l.engine;
-      items = xs;
-      outcomes = l.outcomes.items;
-      lates = l.outcomes.lates;
-      give_ups = l.give_ups;
-      down = l.down;
-      spent = l.spent;
-    }) c.reserve.ensures.items ∙ c.self.view_is)
+    same_lane_sends g.L.Link c.args.self.now _ (same_entries c.self.view_is c.reserve.ensures.items)
 
 pub returns-in_err-offer-clause-round : goal.returns-in_err-offer-clause-round
 returns-in_err-offer-clause-round g c =

@@ -5,8 +5,34 @@ use Rattle.lane_record.specs.Items.{planned_count}
 use Rattle.lane_record.specs.NextEntry.{plan_of}
 use Rattle.hub_lane.specs.Lanes.{BoardStatus, IsLane, LaneState}
 use Rattle.hub_lane.specs.Plans.{CanPlan}
-use Rattle.hub_lane.proofs.Lanes.{lane_entry}
+use Rattle.hub_lane.proofs.Lanes.{lane_entry, lane_still}
+use Rattle.hub_lane.proofs.Links.{on_any_err, same_entries}
 use Rattle.hub_lane.proofs.lane.Lane.plan.Goals as goal
+
+-- what is refused leaves the lane the same
+pub invariant_of-self : goal.invariant_of-self
+invariant_of-self g c = (
+  lane_still c.make_room.ensures.items c.self.invariant.0,
+  c.self.invariant.1,
+  c.self.invariant.2,
+  c.self.invariant.3,
+)
+
+pub invariant_of-self-in_err-plan : goal.invariant_of-self-in_err-plan
+invariant_of-self-in_err-plan g c = (
+  lane_still (c.in_err-plan.ensures.unchanged ∙ c.make_room.ensures.items) c.self.invariant.0,
+  c.self.invariant.1,
+  c.self.invariant.2,
+  c.self.invariant.3,
+)
+
+pub returns-in_err-make_room-clause-unchanged : goal.returns-in_err-make_room-clause-unchanged
+returns-in_err-make_room-clause-unchanged g c =
+    on_any_err _ (same_entries c.self.view_is c.make_room.ensures.items)
+
+pub returns-in_err-plan-clause-unchanged : goal.returns-in_err-plan-clause-unchanged
+returns-in_err-plan-clause-unchanged g c =
+    on_any_err _ (same_entries c.self.view_is (c.in_err-plan.ensures.unchanged ∙ c.make_room.ensures.items))
 
 pub invariant_of-self-2 : goal.invariant_of-self-2
 invariant_of-self-2 g c =

@@ -1,6 +1,10 @@
 use Rattle.std.proofs.Common.{◌≡◌, ◌∙◌, ℕ, List, Option, ap, arith, sym, subst, refl}
 use Rattle.std.proofs.Common.{Bool, true, ◌||◌, inr}
+use Rattle.std.proofs.Common.{length}
+use Rattle.std.specs.List.{slice_get}
+use Rattle.lane_record.specs.declared.outcome.Outcome.{Outcome}
 use Rattle.lane_record.specs.Lates.{late_in}
+use Rattle.lane_record.specs.Offers.{all_lost}
 use Rattle.std.specs.Prelude.{IfSome}
 use Rattle.world_core.specs.Telling.{IfTelling}
 use Rattle.hub_lane.specs.Carrying.{Pumping}
@@ -15,7 +19,9 @@ use Rattle.hub_lane.proofs.Pumps.{lost_keeps, pump_down, pump_heard, pump_listen
 use Rattle.hub_lane.proofs.Pumps.{pump_spent}
 use Rattle.hub_lane.proofs.Rounds.{pays_pumped, pays_stopped, still_up}
 use Rattle.hub_lane.proofs.InRounds.{lane_round, same_lane_idle}
-use Rattle.hub_lane.proofs.Links.{did_not_go_down, if_both, same_opening, same_record, went_down}
+use Rattle.hub_lane.proofs.Links.{did_not_go_down, if_both, is_spent, nothing_counted, pumps_as, same_opening}
+use Rattle.hub_lane.proofs.Links.{same_record, still_as_down, went_down}
+use Rattle.hub_lane.proofs.Steps.{same_record as same_lane}
 use Rattle.hub_lane.proofs.lane.Lane.pump.Goals as goal
 
 pub invariant_of-self : goal.invariant_of-self
@@ -229,3 +235,87 @@ returns-in-Err-Failed-clause-round g c =
     }))) c.self.view_is
     (if_both (λ t u. true ≡ true) (telling l.link) (telling c.exchange.new.link) c.exchange.ensures.counts.board
     (λ t u. refl))
+
+-- a pump that does nothing leaves the lane as it was
+pub returns-then-self-clause-same : goal.returns-then-self-clause-same
+returns-then-self-clause-same g c = same_lane c.args.self.now c.args.self.now refl
+
+pub returns-then-self-clause-down : goal.returns-then-self-clause-down
+returns-then-self-clause-down g c = still_as_down g.L.Link c.args.self.now
+
+pub returns-then-self-clause-counts : goal.returns-then-self-clause-counts
+returns-then-self-clause-counts g c = nothing_counted g.L.Link c.args.self.now.link
+
+pub returns-then-self-2-clause-same : goal.returns-then-self-2-clause-same
+returns-then-self-2-clause-same g c = same_lane c.args.self.now c.args.self.now refl
+
+pub returns-then-self-2-clause-down : goal.returns-then-self-2-clause-down
+returns-then-self-2-clause-down g c = still_as_down g.L.Link c.args.self.now
+
+pub returns-then-self-2-clause-counts : goal.returns-then-self-2-clause-counts
+returns-then-self-2-clause-counts g c = nothing_counted g.L.Link c.args.self.now.link
+
+pub returns-then-not-waiting-clause-same : goal.returns-then-not-waiting-clause-same
+returns-then-not-waiting-clause-same g c = same_lane c.args.self.now c.args.self.now refl
+
+pub returns-then-not-waiting-clause-down : goal.returns-then-not-waiting-clause-down
+returns-then-not-waiting-clause-down g c = still_as_down g.L.Link c.args.self.now
+
+pub returns-then-not-waiting-clause-counts : goal.returns-then-not-waiting-clause-counts
+returns-then-not-waiting-clause-counts g c = nothing_counted g.L.Link c.args.self.now.link
+
+pub exchange-requires-clause-ready : goal.exchange-requires-clause-ready
+exchange-requires-clause-ready g c = c.self.invariant.0.ready
+
+pub exchange-requires-clause-waits : goal.exchange-requires-clause-waits
+exchange-requires-clause-waits g c = sym c.waiting.ensures ∙ c.if-not-waiting.false
+
+pub exchange-requires-clause-first : goal.exchange-requires-clause-first
+exchange-requires-clause-first g c = sym c.self.invariant.0.knows.first
+
+pub returns-in-Err-Failed-clause-pumped : goal.returns-in-Err-Failed-clause-pumped
+returns-in-Err-Failed-clause-pumped g c =
+    let unsettled = c.in-Err-Failed.ensures.unsettled in
+    let lost = c.lose_all.ensures in
+    pumps_as c.self.view_is g.L.Link _ (g.L.Link.telling c.exchange.new.link)
+    (g.L.Link.receives c.exchange.new.link) LinkDown (
+      (c.exchange.ensures.failed (cc)).receives.receives,
+      inr (
+        c.if-self-2.false,
+        sym c.waiting.ensures ∙ c.if-not-waiting.false,
+        record {
+          hub = unsettled.sent;
+          outcomes = lost.outcomes ∙ (ap (λ (n : ℕ). all_lost n c.exchange.new.outcomes.items) c.sent.ensures
+              ∙ ap (all_lost (length c.exchange.new.hub.sent)) unsettled.outcomes);
+          lates = lost.lates ∙ unsettled.lates;
+          give_ups = unsettled.give_ups;
+          down = refl;
+          spent = c.if-self.false;
+        },
+      ),
+    )
+
+pub returns-in-Err-NoMemory-clause-spent : goal.returns-in-Err-NoMemory-clause-spent
+returns-in-Err-NoMemory-clause-spent g c =
+    let unsettled = c.in-Err-NoMemory.ensures.unsettled in
+    is_spent c.self.view_is (record {
+      spent = refl;
+      hub = unsettled.sent;
+      outcomes = unsettled.outcomes;
+      lates = unsettled.lates;
+      give_ups = unsettled.give_ups;
+      down = refl;
+    })
+
+pub returns-in-Err-NoMemory-clause-same : goal.returns-in-Err-NoMemory-clause-same
+returns-in-Err-NoMemory-clause-same g c =
+    let unsettled = c.in-Err-NoMemory.ensures.unsettled in
+    let same_give_ups = unsettled.give_ups in
+    same_record c.self.view_is (record {
+      settings = refl;
+      status = refl;
+      items = refl;
+      outcomes = λ k outcome there. ap (λ (os : List (Option Outcome)). slice_get os k) unsettled.outcomes ∙ there;
+      lates = λ place words there. ap (λ (ls : List (Option (List ℕ))). late_in ls place) unsettled.lates ∙ there;
+      give_ups = omega (arith, same_give_ups);
+    })

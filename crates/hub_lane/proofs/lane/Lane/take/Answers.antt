@@ -9,7 +9,8 @@ use Rattle.lane_record.specs.NextEntry.{took_of}
 use Rattle.lane_record.proofs.Lengths.{short_at}
 use Rattle.hub_lane.specs.Calls.{IsUntaken, Takes, WasAsked}
 use Rattle.hub_lane.specs.Lanes.{BoardStatus, IsLane, LaneState}
-use Rattle.hub_lane.proofs.Lanes.{lane_entry}
+use Rattle.hub_lane.proofs.Lanes.{lane_entry, lane_still}
+use Rattle.hub_lane.proofs.Links.{on_any_err, same_entries}
 use Rattle.hub_lane.proofs.Steps.{asked_below}
 use Rattle.hub_lane.proofs.lane.Lane.take.Goals as goal
 
@@ -54,6 +55,19 @@ take-taken-requires-clause-asked g c =
     c.requires.asked in
     subst (λ (xs : List Item). c.args.seq < asked_count c.args.client xs) (sym c.in_ok-reserve.ensures.items)
     (asked_below c.self.inside.book.items _ c.args.client c.args.seq c.self.invariant.0.kept.legal was)
+
+-- where memory ran out the lane is the same
+pub returns-in_err-reserve-clause-unchanged : goal.returns-in_err-reserve-clause-unchanged
+returns-in_err-reserve-clause-unchanged g c =
+    on_any_err _ (same_entries c.self.view_is c.reserve.ensures.items)
+
+pub invariant_of-self : goal.invariant_of-self
+invariant_of-self g c = (
+  lane_still c.reserve.ensures.items c.self.invariant.0,
+  c.self.invariant.1,
+  c.self.invariant.2,
+  c.self.invariant.3,
+)
 
 pub invariant_of-self-2 : goal.invariant_of-self-2
 invariant_of-self-2 g c =
