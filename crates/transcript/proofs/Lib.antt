@@ -14,6 +14,5 @@ mod PiecesSoFar
 mod LatePieces
 pub mod EndsInOrder
 pub mod GoodResults
-mod TextSoFar
 mod PrintedLines
 pub mod ShownLines

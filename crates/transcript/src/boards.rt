@@ -82,7 +82,7 @@ pub fn board_lines(alloc: Global, runs: &[BoardRun]) -> Result<Vec<BoardLine>, N
 {
     let mut lines = Vec::with_capacity(alloc, runs.len())?;
     for run in runs {
-        lines.push(board_line(alloc, run)?)?;
+        lines.push_reserved(board_line(alloc, run)?);
     }
     Ok(lines)
 }

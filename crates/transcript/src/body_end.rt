@@ -128,7 +128,7 @@ pub(crate) fn ends_of(
         let Some(outcome) = outcomes.get(i) else {
             return Ok(ends);
         };
-        ends.push(end_of(alloc, body.as_slice(), outcome, lates, i)?)?;
+        ends.push_reserved(end_of(alloc, body.as_slice(), outcome, lates, i)?);
     }
     Ok(ends)
 }

@@ -1,6 +1,6 @@
 //! The lines of a run's operations.
 
-ghost use Rattle.std.specs.Prelude.{◌≡◌, ◌+◌, ◌-◌, ◌++◌, ◌^◌, ◌<◌, [], IfOk, OnOk, length, map, option_to_list};
+ghost use Rattle.std.specs.Prelude.{◌≡◌, ◌+◌, ◌-◌, ◌++◌, ◌^◌, ◌<◌, ◌∷◌, [], IfOk, OnOk, length, map, option_to_list};
 ghost use Rattle.std.specs.Prelude.{option_map, slice_get, slice_index};
 ghost use Rattle.transcript.specs.Lines as spec;
 ghost use Rattle.transcript.specs.Steps.{ends_on, denied_line, line_on, one_more_at, AreBelow};
@@ -42,48 +42,9 @@ pub(crate) fn all_ends(
 {
     let mut all = Vec::with_capacity(alloc, runs.len())?;
     for run in runs {
-        all.push(ends_on(alloc, run, client)?)?;
+        all.push_reserved(ends_on(alloc, run, client)?);
     }
     Ok(all)
-}
-
-/// The line of an operation on a board, of which this is told.
-fn line_with(
-    alloc: Global,
-    run: &BoardRun,
-    number: u32,
-    op: &RegOp,
-    shown: Shown,
-) -> Result<OpLine, NoMemory>
-    ensures { IfOk result (λ line. line ≡ spec.line_with number op.now run.now.name shown) }
-{
-    let (result, places) = shown.into_parts();
-    Ok(OpLine {
-        number,
-        verb: op.verb,
-        board: Text::copy_of(alloc, run.name.as_str())?,
-        name: Text::copy_of(alloc, op.name.as_str())?,
-        result,
-        places,
-    })
-}
-
-/// The line of an operation: line `number` of its client, and operation `k`, from 0, of those on its board.
-fn line_on(
-    alloc: Global,
-    run: &BoardRun,
-    client: usize,
-    ends: &[BodyEnd],
-    number: u32,
-    k: usize,
-    op: &RegOp,
-) -> Result<OpLine, NoMemory>
-    requires { ends.now ≡ ends_on client run.now }
-    ensures { IfOk result (λ line. line ≡ line_on client number k op.now run.now) }
-{
-    let mut shown = Shown::new(alloc);
-    shown.tell(run, client, ends, k, op)?;
-    line_with(alloc, run, number, op, shown)
 }
 
 /// The lines of a client so far, and how many operations they are of.
@@ -91,6 +52,24 @@ fn line_on(
 struct Progress {
     lines: Vec<OpLine>,
     counts: Counts,
+}
+
+/// Adds the line of an operation on a board, of which this is told. It has the number that was counted last.
+fn add_shown(
+    alloc: Global,
+    run: &BoardRun,
+    op: &RegOp,
+    shown: Shown,
+    progress: &mut Progress,
+) -> Result<(), NoMemory>
+    ensures counts { OnOk result (progress.new.counts ≡ progress.old.counts) }
+    ensures lines { OnOk result (progress.new.lines.items ≡ progress.old.lines.items
+        ++ (spec.line_with progress.old.counts.number op.now run.now.name shown ∷ [])) }
+{
+    let board = Text::copy_of(alloc, run.name.as_str())?;
+    let name = Text::copy_of(alloc, op.name.as_str())?;
+    let line = shown.into_line(progress.counts.number, op.verb, board, name);
+    Ok(progress.lines.push(line)?)
 }
 
 /// Adds the line of a client's next operation.
@@ -117,9 +96,9 @@ fn add_line(
     let Some(run) = runs.get(board) else {
         return Ok(());
     };
-    let ends = ends[board].as_slice();
-    let line = line_on(alloc, run, client, ends, progress.counts.number, k, op)?;
-    Ok(progress.lines.push(line)?)
+    let mut shown = Shown::new(alloc);
+    shown.tell(run, client, ends[board].as_slice(), k, op)?;
+    add_shown(alloc, run, op, shown, progress)
 }
 
 /// Adds the line of a client's next operation, which this rule denies. It has the next number and is counted on no
@@ -143,8 +122,7 @@ fn add_denied_line(
     };
     let mut shown = Shown::new(alloc);
     shown.tell_denied(rule);
-    let line = line_with(alloc, run, progress.counts.number, op, shown)?;
-    Ok(progress.lines.push(line)?)
+    add_shown(alloc, run, op, shown, progress)
 }
 
 /// The lines of a client, counted from 0, in the order of its operations: by its steps, and by what became of each
@@ -183,7 +161,7 @@ pub fn lines_of_clients(
 {
     let mut all = Vec::with_capacity(alloc, scripts.len())?;
     for (client, steps) in scripts.iter().enumerate() {
-        all.push(client_lines(alloc, runs, client, steps.as_slice())?)?;
+        all.push_reserved(client_lines(alloc, runs, client, steps.as_slice())?);
     }
     Ok(all)
 }

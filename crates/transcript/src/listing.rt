@@ -6,7 +6,6 @@ ghost use Rattle.std.specs.FinMap as map;
 ghost use Rattle.node_tree.specs.Overlaps.{overlapping};
 ghost use Rattle.transcript.specs.Listing as spec;
 
-use crate::text::push_word;
 use address_table::{Mode, Permission};
 use ipb_base::NoMemory;
 use node_tree::{Index, Register};
@@ -33,28 +32,20 @@ fn mode_text(mode: Mode) -> &'static str
     }
 }
 
-/// What stands behind a register's address and mask: how it may be used, and its words.
-fn push_kinds(text: &mut String, register: &Register) -> Result<(), NoMemory>
-    ensures { OnOk result (string_bytes text.new ≡ string_bytes text.old ++ spec.kinds_text register.now) }
-{
-    let permission = permission_text(register.permission);
-    let mode = mode_text(register.mode);
-    let size = register.size;
-    Ok(write!(text, "{permission} {mode} {size}\n")?)
-}
-
 /// The line of a register: `NAME ADDRESS MASK PERMISSION MODE SIZE`.
 fn push_register(text: &mut String, name: &str, register: &Register) -> Result<(), NoMemory>
     ensures { OnOk result (string_bytes text.new
         ≡ string_bytes text.old ++ spec.register_text (name.now, register.now)) }
 {
-    text.push_str(name)?;
-    text.push_str(" ")?;
-    push_word(text, register.address)?;
-    text.push_str(" ")?;
-    push_word(text, register.mask)?;
-    text.push_str(" ")?;
-    push_kinds(text, register)
+    let address = register.address;
+    let mask = register.mask;
+    let permission = permission_text(register.permission);
+    let mode = mode_text(register.mode);
+    let size = register.size;
+    Ok(write!(
+        text,
+        "{name} 0x{address:08x} 0x{mask:08x} {permission} {mode} {size}\n"
+    )?)
 }
 
 fn push_registers(text: &mut String, index: &Index) -> Result<(), NoMemory>

@@ -164,6 +164,28 @@ impl Printer {
         }
         Ok(())
     }
+
+    /// Prints the lines of the boards, in their order.
+    fn print_boards(&mut self, alloc: Global, runs: &[BoardRun]) -> Result<(), NoMemory>
+        ensures text { OnOk result (string_bytes self.new.text
+            ≡ string_bytes self.old.text ++ texts.boards_text (map spec.board_line runs.now)) }
+        ensures good { OnOk result (self.new.all_good ≡ self.old.all_good) }
+    {
+        let boards = board_lines(alloc, runs)?;
+        push_boards(alloc, &mut self.text, &boards)
+    }
+
+    /// What was printed. It takes no memory.
+    fn into_printed(self) -> PrintedRuns
+        ensures text { result.text.items ≡ string_bytes self.text }
+        ensures good { result.all_good ≡ self.all_good }
+    {
+        let Printer { text, all_good, .. } = self;
+        PrintedRuns {
+            text: text.into_bytes(),
+            all_good,
+        }
+    }
 }
 
 /// The transcript of a run, as `transcript_text` gives it of the lines of its clients and boards, and what `all_good`
@@ -181,11 +203,6 @@ pub fn print_runs(
 {
     let mut printer = Printer::new(alloc);
     printer.print_clients(alloc, runs, scripts)?;
-    let boards = board_lines(alloc, runs)?;
-    push_boards(alloc, &mut printer.text, &boards)?;
-    let Printer { text, all_good, .. } = printer;
-    Ok(PrintedRuns {
-        text: text.into_bytes(),
-        all_good,
-    })
+    printer.print_boards(alloc, runs)?;
+    Ok(printer.into_printed())
 }

@@ -11,13 +11,13 @@ ghost use Rattle.transcript.specs.Steps.{ends_on};
 ghost use Rattle.transcript.specs.Text as texts;
 
 use crate::body_end::BodyEnd;
-use crate::line::{LinePlaces, OpResult};
+use crate::line::{LinePlaces, OpLine, OpResult};
 use crate::results::{op_result, or_value, push_op_places};
 use crate::status::is_good;
-use crate::text::{push_places, push_result, push_value};
-use ipb_base::NoMemory;
+use crate::text::{push_places, push_result, push_text, push_value};
+use ipb_base::{NoMemory, Text};
 use script_plans::{BoardRun, ClientPart, Greeting, PieceAt};
-use script_steps::RegOp;
+use script_steps::{RegOp, Verb};
 use std::alloc::Global;
 use std::marker::Model;
 
@@ -127,16 +127,30 @@ impl Shown {
         Ok(())
     }
 
-    /// What the operation came to, and its places. It takes no memory.
-    pub(crate) fn into_parts(self) -> (OpResult, LinePlaces)
-        ensures { result ≡ self }
+    /// The line of this number and verb, of a register of a board, that shows what is told. It takes no memory.
+    pub(crate) fn into_line(self, number: u32, verb: Verb, board: Text, name: Text) -> OpLine
+        ensures { result ≡ record {
+          number = number;
+          verb = verb;
+          board = board;
+          name = name;
+          result = self.0;
+          places = self.1;
+        } }
     {
         let Shown {
             told,
             words,
             places,
         } = self;
-        (or_value(told, words), LinePlaces::from_vec(places))
+        OpLine {
+            number,
+            verb,
+            board,
+            name,
+            result: or_value(told, words),
+            places: LinePlaces::from_vec(places),
+        }
     }
 
     /// Whether the operation was executed without a fault.
@@ -166,6 +180,6 @@ impl Shown {
     {
         self.push_came_to(text)?;
         push_places(text, self.places.as_slice())?;
-        Ok(text.push_str("\n")?)
+        push_text(text, "\n")
     }
 }

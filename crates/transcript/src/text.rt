@@ -9,6 +9,13 @@ use ipb_base::NoMemory;
 use script_steps::Verb;
 use std::alloc::Global;
 
+/// Puts these characters behind a text.
+pub(crate) fn push_text(text: &mut String, more: &str) -> Result<(), NoMemory>
+    ensures { OnOk result (string_bytes text.new ≡ string_bytes text.old ++ more.now) }
+{
+    Ok(text.push_str(more)?)
+}
+
 /// Puts a word behind a text: `0x` and eight lower-case hexadecimal digits (profile).
 pub fn push_word(text: &mut String, word: u32) -> Result<(), NoMemory>
     ensures { OnOk result (string_bytes text.new ≡ string_bytes text.old ++ spec.word_text word) }
@@ -77,11 +84,11 @@ fn push_answer(text: &mut String, answer: &LateAnswer) -> Result<(), NoMemory>
 {
     match answer {
         LateAnswer::Value(words) => push_value(text, words.as_slice()),
-        LateAnswer::Done => Ok(text.push_str("done")?),
+        LateAnswer::Done => push_text(text, "done"),
         LateAnswer::Was(word) => push_was(text, *word),
         LateAnswer::Error { code, after } => push_error(text, *code, *after),
-        LateAnswer::Skipped => Ok(text.push_str("skipped")?),
-        LateAnswer::Garbled => Ok(text.push_str("garbled")?),
+        LateAnswer::Skipped => push_text(text, "skipped"),
+        LateAnswer::Garbled => push_text(text, "garbled"),
     }
 }
 
@@ -106,25 +113,25 @@ pub fn push_result(text: &mut String, came_to: &OpResult) -> Result<(), NoMemory
 {
     match came_to {
         OpResult::Value(words) => push_value(text, words.as_slice()),
-        OpResult::Done => Ok(text.push_str("done")?),
+        OpResult::Done => push_text(text, "done"),
         OpResult::Was(word) => push_was(text, *word),
         OpResult::Error { code, after } => push_error(text, *code, *after),
-        OpResult::Skipped => Ok(text.push_str("skipped")?),
+        OpResult::Skipped => push_text(text, "skipped"),
         OpResult::TimedOut { rounds } => push_timeout(text, *rounds),
         OpResult::Late { rounds, answer } => push_late(text, *rounds, answer),
-        OpResult::Unsent => Ok(text.push_str("unsent")?),
-        OpResult::LinkLost => Ok(text.push_str("link lost")?),
-        OpResult::Garbled => Ok(text.push_str("garbled")?),
+        OpResult::Unsent => push_text(text, "unsent"),
+        OpResult::LinkLost => push_text(text, "link lost"),
+        OpResult::Garbled => push_text(text, "garbled"),
         OpResult::Denied { rule } => push_denied(text, *rule),
     }
 }
 
-/// The place of a body and the number of a transaction in it.
-fn push_place(text: &mut String, place: (u64, u16)) -> Result<(), NoMemory>
-    ensures { OnOk result (string_bytes text.new ≡ string_bytes text.old ++ spec.place_text place) }
+/// The place of a body and the number of a transaction in it, behind what stands before a place.
+fn push_place(text: &mut String, before: &str, place: (u64, u16)) -> Result<(), NoMemory>
+    ensures { OnOk result (string_bytes text.new ≡ string_bytes text.old ++ (before.now ++ spec.place_text place)) }
 {
     let (place, transaction) = place;
-    Ok(write!(text, "{place}.{transaction}")?)
+    Ok(write!(text, "{before}{place}.{transaction}")?)
 }
 
 /// Places behind the first, each behind a comma.
@@ -132,8 +139,7 @@ fn push_more_places(text: &mut String, places: &[(u64, u16)]) -> Result<(), NoMe
     ensures { OnOk result (string_bytes text.new ≡ string_bytes text.old ++ spec.more_places places.now) }
 {
     for place in places {
-        text.push_str(",")?;
-        push_place(text, *place)?;
+        push_place(text, ",", *place)?;
     }
     Ok(())
 }
@@ -145,8 +151,7 @@ pub(crate) fn push_places(text: &mut String, places: &[(u64, u16)]) -> Result<()
     match places {
         [] => Ok(()),
         [first, others @ ..] => {
-            text.push_str(" @")?;
-            push_place(text, *first)?;
+            push_place(text, " @", *first)?;
             push_more_places(text, others)
         }
     }
@@ -175,7 +180,7 @@ fn push_line(text: &mut String, line: &OpLine) -> Result<(), NoMemory>
     push_asked(text, line.number, line.verb, board, line.name.as_str())?;
     push_result(text, &line.result)?;
     push_places(text, line.places.as_slice())?;
-    Ok(text.push_str("\n")?)
+    push_text(text, "\n")
 }
 
 /// The line of an operation, its line feed included (profile).

@@ -1,4 +1,4 @@
-use Rattle.std.proofs.Common.{◌∙◌}
+use Rattle.std.proofs.Common.{◌∙◌, arith}
 use Rattle.transaction_codec.specs.Request.{SpellsRequests}
 use Rattle.transcript.proofs.EndsInOrder.{ends_more}
 use Rattle.transcript.proofs.ListsLeft.{all_left}
@@ -14,7 +14,7 @@ loop-i-preserved c =
     let before = c.loop-i in
     record {
       ends = rw (
-        c.in_ok-push.ensures.items,
+        c.push_reserved.ensures.items,
         c.in_ok-end_of.ensures,
         c.as_slice.ensures,
         c.index-bodies-i.is,
@@ -25,4 +25,6 @@ loop-i-preserved c =
           ∙ before.invariant.ends);
       spelled = (all_left SpellsRequests c.args.bodies.now before.i c.index-bodies-i.result c.loop-i-test.true
           before.invariant.spelled).1;
+      count = omega (arith, c.push_reserved.ensures.len, before.invariant.count);
+      room = omega (arith, c.push_reserved.ensures.capacity, before.invariant.room);
     }

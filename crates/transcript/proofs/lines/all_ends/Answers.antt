@@ -3,7 +3,11 @@ use Rattle.std.proofs.lemmas.Grind.{common_steps}
 use Rattle.transcript.proofs.lines.all_ends.Goals as goal
 
 pub loop-run-preserved : goal.loop-run-preserved
-loop-run-preserved c = grind (arith, common_steps)
+loop-run-preserved c = (
+  grind (arith, common_steps),
+  omega (arith, c.push_reserved.ensures.len, c.loop-run.invariant.1),
+  omega (arith, c.push_reserved.ensures.capacity, c.loop-run.invariant.2),
+)
 
 pub returns : goal.returns
 returns c = grind (arith, common_steps)
