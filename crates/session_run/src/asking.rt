@@ -67,7 +67,7 @@ fn plan_over(
 {
     let mut all = Vec::with_capacity(alloc, many)?;
     for dispatch in 0..many {
-        all.push(dispatch_over(alloc, boards, client, dispatch)?)?;
+        all.push_reserved(dispatch_over(alloc, boards, client, dispatch)?);
     }
     Ok(ClientPlan {
         client: client as u32 + 1,
@@ -114,7 +114,7 @@ pub fn client_plans(
     let mut plans = Vec::with_capacity(alloc, scripts.len())?;
     for (client, steps) in scripts.iter().enumerate() {
         let many = dispatch_count(steps.as_slice());
-        plans.push(plan_over(alloc, boards, client, many)?)?;
+        plans.push_reserved(plan_over(alloc, boards, client, many)?);
     }
     Ok(plans)
 }

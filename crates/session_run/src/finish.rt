@@ -92,11 +92,11 @@ fn run_idle(
         let planned = plan_on(alloc, steps.as_slice(), position, greeting)?;
         let outcomes = Outcomes::from_vec(Vec::new(alloc));
         let lates = Lates::from_vec(Vec::new(alloc));
-        parts.push(ClientPart {
+        parts.push_reserved(ClientPart {
             planned,
             outcomes,
             lates,
-        })?;
+        });
     }
     named(alloc, spec, greeting, Some(ClientParts::from_vec(parts)))
 }

@@ -49,7 +49,7 @@ fn plan_lanes<L: Link>(
     let mut boards = Vec::with_capacity(alloc, positions.len())?;
     for (index, lane) in lanes.iter_mut().enumerate() {
         let planned = plan_clients(alloc, lane, positions[index], scripts)?;
-        boards.push(BoardPlans::from_vec(planned))?;
+        boards.push_reserved(BoardPlans::from_vec(planned));
     }
     Ok(boards)
 }

@@ -1,6 +1,6 @@
 //! What came late on a lane, put into the parts of its clients.
 
-ghost use Rattle.std.specs.Prelude.{◌≡◌, None, Some, map, is_some, IfOk, IfSome, MatchOption};
+ghost use Rattle.std.specs.Prelude.{◌≡◌, None, Some, map, is_some, IfOk, IfSome, MatchOption, OnOk};
 ghost use Rattle.std.specs.List.{list_any};
 ghost use Rattle.std.specs.Option.{IsSomeAnd};
 ghost use Rattle.lane_history.specs.Lates.{late_for, lates_of};
@@ -69,7 +69,7 @@ fn copy_lates<L: Link>(
 {
     let mut lates = Vec::with_capacity(alloc, outcomes.len())?;
     for outcome in outcomes {
-        lates.push(copy_late(alloc, lane, outcome)?)?;
+        lates.push_reserved(copy_late(alloc, lane, outcome)?);
     }
     Ok(lates)
 }
@@ -89,25 +89,18 @@ fn late_list<L: Link>(
     }
 }
 
-/// The part of a client, with what came late for its bodies.
-fn complete_part<L: Link>(
+/// Puts what came late for the bodies of each client into its part.
+fn complete_each<L: Link>(
     alloc: Global,
     lane: &Lane<L>,
-    part: ClientPart,
-) -> Result<ClientPart, NoMemory>
-    ensures { IfOk result (λ whole. whole ≡ with_lates lane.now.lates part) }
+    parts: &mut [ClientPart],
+) -> Result<(), NoMemory>
+    ensures { OnOk result (parts.new ≡ map (with_lates lane.now.lates) parts.old) }
 {
-    let ClientPart {
-        planned,
-        outcomes,
-        lates: _,
-    } = part;
-    let lates = late_list(alloc, lane, outcomes.as_slice())?;
-    Ok(ClientPart {
-        planned,
-        outcomes,
-        lates,
-    })
+    for at in 0..parts.len() {
+        parts[at].lates = late_list(alloc, lane, parts[at].outcomes.as_slice())?;
+    }
+    Ok(())
 }
 
 /// The parts of all clients, with what came late for their bodies.
@@ -118,12 +111,9 @@ fn complete_parts<L: Link>(
 ) -> Result<ClientParts, NoMemory>
     ensures { IfOk result (λ whole. whole ≡ map (with_lates lane.now.lates) parts) }
 {
-    let parts = parts.into_vec();
-    let mut whole = Vec::with_capacity(alloc, parts.len())?;
-    for part in parts {
-        whole.push(complete_part(alloc, lane, part)?)?;
-    }
-    Ok(ClientParts::from_vec(whole))
+    let mut parts = parts.into_vec();
+    complete_each(alloc, lane, &mut parts)?;
+    Ok(ClientParts::from_vec(parts))
 }
 
 /// The same where there are parts, and memory for what came late.

@@ -33,11 +33,11 @@ fn parts_on_next(
         };
         let outcomes = client.next();
         let lates = Lates::from_vec(Vec::new(alloc));
-        parts.push(ClientPart {
+        parts.push_reserved(ClientPart {
             planned,
             outcomes,
             lates,
-        })?;
+        });
     }
     Ok(ClientParts::from_vec(parts))
 }
@@ -48,7 +48,7 @@ fn all_lanes(alloc: Global, results: Vec<ClientResult>) -> Result<Vec<RestOutcom
 {
     let mut rests = Vec::with_capacity(alloc, results.len())?;
     for client in results {
-        rests.push(RestOutcomes::of(client))?;
+        rests.push_reserved(RestOutcomes::of(client));
     }
     Ok(rests)
 }
@@ -66,7 +66,7 @@ pub fn client_parts(
     let mut parts = Vec::with_capacity(alloc, boards.len())?;
     let mut clients = all_lanes(alloc, results)?;
     for planned in boards {
-        parts.push(parts_on_next(alloc, planned, &mut clients)?)?;
+        parts.push_reserved(parts_on_next(alloc, planned, &mut clients)?);
     }
     Ok(parts)
 }

@@ -111,7 +111,7 @@ pub(crate) fn plan_clients<L: Link>(
             Greeting::Live { payload },
         )?;
         plan_bodies(alloc, lane, client, planned.bodies())?;
-        plans.push(planned)?;
+        plans.push_reserved(planned);
     }
     lane.seal();
     Ok(plans)

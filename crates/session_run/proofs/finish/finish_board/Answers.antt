@@ -1,4 +1,5 @@
-use Rattle.std.proofs.Common.{◌≡◌, subst}
+use Rattle.std.proofs.Common.{◌≡◌, subst, arith}
+use Rattle.std.proofs.lemmas.Grind.{common_steps}
 use Rattle.script_plans.specs.declared.board_run.BoardRun.{BoardRun}
 use Rattle.lane_history.specs.Links.{LinkReport}
 use Rattle.lane_history.specs.Runs.{IsRunOver, ShowsLates, ShowsScripts}
@@ -34,3 +35,24 @@ returns-in-Idle-clause-left g c =
     let came : IsIdleBoard c.args.settings spec c.in-Idle.greeting (shows c.in-Idle.link) =
     subst (IsCameOf shows c.args.settings scripts c.args.position spec) c.in-Idle.is c.requires.came in
     c.a_fresh_link_is_left.ensures c.args.settings spec c.args.position scripts (shows c.in-Idle.link) came.fresh
+
+pub finish_live-requires-clause-stopped : goal.finish_live-requires-clause-stopped
+finish_live-requires-clause-stopped g c = grind (arith, common_steps)
+
+pub finish_live-requires-clause-ran : goal.finish_live-requires-clause-ran
+finish_live-requires-clause-ran g c = grind (arith, common_steps)
+
+pub run_idle-requires-clause-idle : goal.run_idle-requires-clause-idle
+run_idle-requires-clause-idle g c = grind (arith, common_steps)
+
+pub run_idle-requires-clause-can : goal.run_idle-requires-clause-can
+run_idle-requires-clause-can g c = grind (arith, common_steps)
+
+pub run_idle-requires-clause-few : goal.run_idle-requires-clause-few
+run_idle-requires-clause-few g c = grind (arith, common_steps)
+
+pub returns-in-Live-clause-ran : goal.returns-in-Live-clause-ran
+returns-in-Live-clause-ran g c = grind (arith, common_steps)
+
+pub returns-in-Live-clause-left : goal.returns-in-Live-clause-left
+returns-in-Live-clause-left g c = grind (arith, common_steps)

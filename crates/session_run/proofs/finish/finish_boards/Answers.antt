@@ -91,3 +91,12 @@ returns-clause-made g c = c.loop-position.invariant.made
 
 pub returns-clause-faults : goal.returns-clause-faults
 returns-clause-faults g c = c.loop-position.invariant.faults
+
+pub finish_board-link-requires-clause-can : goal.finish_board-link-requires-clause-can
+finish_board-link-requires-clause-can g c = grind (arith, common_steps)
+
+pub finish_board-link-requires-clause-few : goal.finish_board-link-requires-clause-few
+finish_board-link-requires-clause-few g c = grind (arith, common_steps)
+
+pub returns-clause-ran : goal.returns-clause-ran
+returns-clause-ran g c = grind (arith, common_steps)

@@ -1,4 +1,5 @@
 use Rattle.std.proofs.Common.{◌≡◌, ◌+◌, ℕ, Vec, arith, inl, inr, length, map, subst, sym}
+use Rattle.std.proofs.lemmas.Grind.{common_steps}
 use Rattle.std.specs.List.{AllByRecursion}
 use Rattle.std.proofs.lemmas.Result.{IfOk-weaker}
 use Rattle.turn_pass.specs.Pass.{first_knowledge}
@@ -85,3 +86,18 @@ returns-in-Ok-clause-ran g c =
 
 pub returns-in-Err-clause-back : goal.returns-in-Err-clause-back
 returns-in-Err-clause-back g c = inl c.in-Err.ensures.returned
+
+pub run_clients-results-requires-clause-hub : goal.run_clients-results-requires-clause-hub
+run_clients-results-requires-clause-hub g c = grind (arith, common_steps)
+
+pub finish-requires-clause-hub : goal.finish-requires-clause-hub
+finish-requires-clause-hub g c = grind (arith, common_steps)
+
+pub returns-in-Err-clause-all : goal.returns-in-Err-clause-all
+returns-in-Err-clause-all g c = grind (arith, common_steps)
+
+pub returns-in-Err-clause-lanes : goal.returns-in-Err-clause-lanes
+returns-in-Err-clause-lanes g c = grind (arith, common_steps)
+
+pub returns-in-Err-clause-ran : goal.returns-in-Err-clause-ran
+returns-in-Err-clause-ran g c = grind (arith, common_steps)

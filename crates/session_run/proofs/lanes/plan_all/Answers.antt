@@ -1,4 +1,5 @@
 use Rattle.std.proofs.Common.{◌∙◌, ℕ, List, ap, arith, length, subst, sym}
+use Rattle.std.proofs.lemmas.Grind.{common_steps}
 use Rattle.std.specs.List.{AllByRecursion}
 use Rattle.std.proofs.lemmas.Result.{IfOk-from_err}
 use Rattle.client_threads.specs.Clients.{IsPlanFor}
@@ -71,3 +72,36 @@ returns-in_err-clients-clause-for_hub g c =
 pub returns-in_err-clients-clause-counts : goal.returns-in_err-clients-clause-counts
 returns-in_err-clients-clause-counts g c =
     IfOk-from_err c.from_residual-in_err-clients.result _ c.from_residual-in_err-clients.ensures.0
+
+pub plan_lanes-requires-clause-can : goal.plan_lanes-requires-clause-can
+plan_lanes-requires-clause-can g c = grind (arith, common_steps)
+
+pub plan_lanes-requires-clause-positions : goal.plan_lanes-requires-clause-positions
+plan_lanes-requires-clause-positions g c = grind (arith, common_steps)
+
+pub plan_lanes-requires-clause-unused : goal.plan_lanes-requires-clause-unused
+plan_lanes-requires-clause-unused g c = grind (arith, common_steps)
+
+pub returns-in_err-boards-clause-gone_on : goal.returns-in_err-boards-clause-gone_on
+returns-in_err-boards-clause-gone_on g c = grind (arith, common_steps)
+
+pub client_plans-requires-clause-few_clients : goal.client_plans-requires-clause-few_clients
+client_plans-requires-clause-few_clients g c = grind (arith, common_steps)
+
+pub returns-in_err-clients-clause-gone_on : goal.returns-in_err-clients-clause-gone_on
+returns-in_err-clients-clause-gone_on g c = grind (arith, common_steps)
+
+pub returns-clause-planned : goal.returns-clause-planned
+returns-clause-planned g c = grind (arith, common_steps)
+
+pub returns-clause-clients : goal.returns-clause-clients
+returns-clause-clients g c = grind (arith, common_steps)
+
+pub returns-clause-all : goal.returns-clause-all
+returns-clause-all g c = grind (arith, common_steps)
+
+pub returns-clause-counts : goal.returns-clause-counts
+returns-clause-counts g c = grind (arith, common_steps)
+
+pub returns-clause-gone_on : goal.returns-clause-gone_on
+returns-clause-gone_on g c = grind (arith, common_steps)

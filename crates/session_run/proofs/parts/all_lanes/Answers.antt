@@ -6,7 +6,11 @@ pub loop-client-init : goal.loop-client-init
 loop-client-init c = grind (arith, common_steps)
 
 pub loop-client-preserved : goal.loop-client-preserved
-loop-client-preserved c = grind (arith, common_steps)
+loop-client-preserved c = (
+  grind (arith, common_steps),
+  grind (arith, common_steps),
+  omega (arith, c.push_reserved.ensures.capacity, c.loop-client.invariant.2),
+)
 
 pub returns : goal.returns
 returns c = grind (arith, common_steps)

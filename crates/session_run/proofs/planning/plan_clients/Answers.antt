@@ -31,7 +31,7 @@ pub returns-in_err-planned-clause-some : goal.returns-in_err-planned-clause-some
 returns-in_err-planned-clause-some g c =
     let law = c.a_record_is_partly_planned_on_its_way.ensures in
     let scripts = c.args.scripts.now in
-    let so_far = c.loop-steps.invariant in
+    let so_far = c.loop-steps.invariant.0 in
     let items = unsealed_so_far c.args.lane.now c.loop-steps.lane (bodies_of_plans c.loop-steps.plans.items) c.requires.unused
     so_far.lane' ∙ ap (λ (p : List ClientBodies). all_plans_from 1 (bodies_of_plans p)) so_far.plans' in
     subst (λ n. IsPartlyPlanned (bodies_of_plans (plans_on c.args.position (Live n) scripts)) c.loop-steps.lane.items)
@@ -43,13 +43,13 @@ pub plan_bodies-requires-clause-unsealed : goal.plan_bodies-requires-clause-unse
 plan_bodies-requires-clause-unsealed g c =
     let plans = bodies_of_plans c.loop-steps.plans.items in
     ap is_sealed (unsealed_so_far c.args.lane.now c.loop-steps.lane plans c.requires.unused
-    c.loop-steps.invariant.lane') ∙ all_unsealed 1 plans
+    c.loop-steps.invariant.0.lane') ∙ all_unsealed 1 plans
 
 pub plan_bodies-requires-clause-none : goal.plan_bodies-requires-clause-none
 plan_bodies-requires-clause-none g c =
     let plans = c.loop-steps.plans in
     no_plans_yet c.loop-steps.lane.items plans.items _ (unsealed_so_far c.args.lane.now c.loop-steps.lane
-    (bodies_of_plans plans.items) c.requires.unused c.loop-steps.invariant.lane')
+    (bodies_of_plans plans.items) c.requires.unused c.loop-steps.invariant.0.lane')
     (ap (λ (n : ℕ). n + 1) (c.len.ensures ∙ plans.ok.0))
 
 pub returns-in_err-plan_bodies-clause-some : goal.returns-in_err-plan_bodies-clause-some
@@ -57,19 +57,7 @@ returns-in_err-plan_bodies-clause-some g c =
     let law = c.a_record_is_partly_planned_on_its_way.ensures in
     let scripts = c.args.scripts.now in
     let next = next_client c.args.position (Live c.payload-payload.result) c.loop-steps.steps-index scripts
-    c.loop-steps.invariant c.loop-steps-test.true c.steps-item.is c.as_slice.ensures c.in_ok-planned.ensures.planned in
-    subst (λ n. IsPartlyPlanned (bodies_of_plans (plans_on c.args.position (Live n) scripts)) c.plan_bodies.new.lane.items)
-    c.payload-payload.ensures
-    (partly_stopped law.front law.plans _ c.bodies.result.now c.plan_bodies.new.lane next c.requires.unused
-    c.bodies.ensures.bodies (ap (λ (n : ℕ). n + 1) (c.len.ensures ∙ c.loop-steps.plans.ok.0))
-    c.plan_bodies.ensures.some)
-
-pub returns-in_err-push-clause-some : goal.returns-in_err-push-clause-some
-returns-in_err-push-clause-some g c =
-    let law = c.a_record_is_partly_planned_on_its_way.ensures in
-    let scripts = c.args.scripts.now in
-    let next = next_client c.args.position (Live c.payload-payload.result) c.loop-steps.steps-index scripts
-    c.loop-steps.invariant c.loop-steps-test.true c.steps-item.is c.as_slice.ensures c.in_ok-planned.ensures.planned in
+    c.loop-steps.invariant.0 c.loop-steps-test.true c.steps-item.is c.as_slice.ensures c.in_ok-planned.ensures.planned in
     subst (λ n. IsPartlyPlanned (bodies_of_plans (plans_on c.args.position (Live n) scripts)) c.plan_bodies.new.lane.items)
     c.payload-payload.ensures
     (partly_stopped law.front law.plans _ c.bodies.result.now c.plan_bodies.new.lane next c.requires.unused
@@ -77,17 +65,20 @@ returns-in_err-push-clause-some g c =
     c.plan_bodies.ensures.some)
 
 pub loop-steps-preserved : goal.loop-steps-preserved
-loop-steps-preserved g c =
-    client_planned (c.len.result + 1) c.bodies.result.now c.push.new.self.items c.plan_bodies.new.lane
-    (next_client c.args.position (Live c.payload-payload.result) c.loop-steps.steps-index c.args.scripts.now
-    c.loop-steps.invariant c.loop-steps-test.true c.steps-item.is c.as_slice.ensures c.in_ok-planned.ensures.planned)
-    c.bodies.ensures.bodies (ap (λ (n : ℕ). n + 1) (c.len.ensures ∙ c.loop-steps.plans.ok.0))
-    c.in_ok-plan_bodies.ensures.planned c.in_ok-push.ensures.items
+loop-steps-preserved g c = (
+  client_planned (c.len.result + 1) c.bodies.result.now c.push_reserved.new.self.items c.plan_bodies.new.lane
+      (next_client c.args.position (Live c.payload-payload.result) c.loop-steps.steps-index c.args.scripts.now
+      c.loop-steps.invariant.0 c.loop-steps-test.true c.steps-item.is c.as_slice.ensures c.in_ok-planned.ensures.planned)
+      c.bodies.ensures.bodies (ap (λ (n : ℕ). n + 1) (c.len.ensures ∙ c.loop-steps.plans.ok.0))
+      c.in_ok-plan_bodies.ensures.planned c.push_reserved.ensures.items,
+  omega (arith, c.push_reserved.ensures.len, c.loop-steps.invariant.1),
+  omega (arith, c.push_reserved.ensures.capacity, c.loop-steps.invariant.2),
+)
 
 pub returns-clause-planned : goal.returns-clause-planned
 returns-clause-planned g c =
     c.seal.ensures ∙ sealed_last c.args.lane.now c.loop-steps.lane (bodies_of_plans c.loop-steps.plans.items)
-    c.requires.unused c.loop-steps.invariant.lane'
+    c.requires.unused c.loop-steps.invariant.0.lane'
 
 pub plan_bodies-requires-clause-room : goal.plan_bodies-requires-clause-room
 plan_bodies-requires-clause-room g c =
@@ -95,7 +86,7 @@ plan_bodies-requires-clause-room g c =
     let told = Live payload in
     let limits = payload_within payload c.is_sound.ensures.knows c.payload-payload.ensures in
     let plans = c.loop-steps.plans.items in
-    let so_far = c.loop-steps.invariant in
+    let so_far = c.loop-steps.invariant.0 in
     let next = next_client c.args.position told c.loop-steps.steps-index c.args.scripts.now so_far
     c.loop-steps-test.true c.steps-item.is c.as_slice.ensures c.in_ok-planned.ensures.planned in
     subst (HasRoomFor c.loop-steps.lane.items)
@@ -111,7 +102,7 @@ returns-clause-few g c =
     let limits = payload_within payload c.is_sound.ensures.knows c.payload-payload.ensures in
     let scripts = c.args.scripts.now in
     subst (AllByRecursion HasFewBodies)
-    (sym (c.loop-steps.invariant.plans'
+    (sym (c.loop-steps.invariant.0.plans'
     ∙ ap (plans_on c.args.position (Live payload)) (take_all c.loop-steps.steps-index scripts c.loop-steps-test.false)))
     (few_planned c.plans_are_short.ensures.bodies payload c.args.position scripts limits.0 limits.1
     c.requires.can.executable c.requires.can.limits)
@@ -124,9 +115,6 @@ returns-in_err-planned-clause-keeps g c = grind (arith, common_steps)
 
 pub returns-in_err-plan_bodies-clause-keeps : goal.returns-in_err-plan_bodies-clause-keeps
 returns-in_err-plan_bodies-clause-keeps g c = grind (arith, common_steps)
-
-pub returns-in_err-push-clause-keeps : goal.returns-in_err-push-clause-keeps
-returns-in_err-push-clause-keeps g c = grind (arith, common_steps)
 
 pub loop-steps-init : goal.loop-steps-init
 loop-steps-init g c = grind (arith, common_steps)
@@ -149,7 +137,7 @@ returns-clause-keeps g c =
 pub returns-clause-plans : goal.returns-clause-plans
 returns-clause-plans g c =
     let scripts = c.args.scripts.now in
-    c.loop-steps.invariant.plans'
+    c.loop-steps.invariant.0.plans'
     ∙ (ap (plans_on c.args.position (Live c.payload-payload.result)) (take_all c.loop-steps.steps-index scripts
     c.loop-steps-test.false)
     ∙ ap (λ (n : ℕ). plans_on c.args.position (Live n) scripts) c.payload-payload.ensures)
@@ -198,18 +186,6 @@ pub returns-in_err-plan_bodies-clause-planned : goal.returns-in_err-plan_bodies-
 returns-in_err-plan_bodies-clause-planned g c =
     IfOk-from_err c.from_residual-in_err-plan_bodies.result _ c.from_residual-in_err-plan_bodies.ensures.0
 
-pub returns-in_err-push-clause-plans : goal.returns-in_err-push-clause-plans
-returns-in_err-push-clause-plans g c =
-    IfOk-from_err c.from_residual-in_err-push.result _ c.from_residual-in_err-push.ensures.0
-
-pub returns-in_err-push-clause-few : goal.returns-in_err-push-clause-few
-returns-in_err-push-clause-few g c =
-    IfOk-from_err c.from_residual-in_err-push.result _ c.from_residual-in_err-push.ensures.0
-
-pub returns-in_err-push-clause-planned : goal.returns-in_err-push-clause-planned
-returns-in_err-push-clause-planned g c =
-    IfOk-from_err c.from_residual-in_err-push.result _ c.from_residual-in_err-push.ensures.0
-
 pub plan_on-requires-clause-payload : goal.plan_on-requires-clause-payload
 plan_on-requires-clause-payload g c =
     payload_within c.payload-payload.result c.is_sound.ensures.knows c.payload-payload.ensures
@@ -228,7 +204,7 @@ plan_on-requires-clause-few g c =
 pub overflow_cast-client : goal.overflow_cast-client
 overflow_cast-client g c =
     let within = c.loop-steps-test.true in
-    let many = plans_counted c.loop-steps.steps-index c.args.scripts.now c.loop-steps.invariant within in
+    let many = plans_counted c.loop-steps.steps-index c.args.scripts.now c.loop-steps.invariant.0 within in
     let few = c.requires.can.few_clients in
     let len = c.len.ensures in
     let ok = c.loop-steps.plans.ok.0 in
@@ -237,7 +213,7 @@ overflow_cast-client g c =
 pub overflow_add-client : goal.overflow_add-client
 overflow_add-client g c =
     let within = c.loop-steps-test.true in
-    let many = plans_counted c.loop-steps.steps-index c.args.scripts.now c.loop-steps.invariant within in
+    let many = plans_counted c.loop-steps.steps-index c.args.scripts.now c.loop-steps.invariant.0 within in
     let few = c.requires.can.few_clients in
     let len = c.len.ensures in
     let ok = c.loop-steps.plans.ok.0 in

@@ -1,4 +1,5 @@
-use Rattle.std.proofs.Common.{◌≡◌, ◌∙◌, ℕ, List, Vec, ap, length, map, subst, sym}
+use Rattle.std.proofs.Common.{◌≡◌, ◌∙◌, ℕ, List, Vec, ap, length, map, subst, sym, arith}
+use Rattle.std.proofs.lemmas.Grind.{common_steps}
 use Rattle.std.proofs.lemmas.List.{length-map}
 use Rattle.hub_lane.specs.declared.greeting.Greeted.{Greeted}
 use Rattle.hub_lane.specs.Greeting.{link_of}
@@ -39,3 +40,36 @@ returns-in-Err-clause-left g c =
             ∙ (ap (λ (l : List (Greeted _)). length l) same ∙ c.requires.all)),
       ),
     )
+
+pub split_boards-requires-clause-few : goal.split_boards-requires-clause-few
+split_boards-requires-clause-few g c = grind (arith, common_steps)
+
+pub split_boards-requires-clause-memory : goal.split_boards-requires-clause-memory
+split_boards-requires-clause-memory g c = grind (arith, common_steps)
+
+pub run_split-requires-clause-few_boards : goal.run_split-requires-clause-few_boards
+run_split-requires-clause-few_boards g c = grind (arith, common_steps)
+
+pub run_split-requires-clause-can : goal.run_split-requires-clause-can
+run_split-requires-clause-can g c = grind (arith, common_steps)
+
+pub returns-in-Ok-clause-ran : goal.returns-in-Ok-clause-ran
+returns-in-Ok-clause-ran g c = grind (arith, common_steps)
+
+pub returns-in-Ok-clause-left : goal.returns-in-Ok-clause-left
+returns-in-Ok-clause-left g c = grind (arith, common_steps)
+
+pub returns-in-Ok-clause-made : goal.returns-in-Ok-clause-made
+returns-in-Ok-clause-made g c = grind (arith, common_steps)
+
+pub returns-in-Ok-clause-faults : goal.returns-in-Ok-clause-faults
+returns-in-Ok-clause-faults g c = grind (arith, common_steps)
+
+pub returns-in-Err-clause-ran : goal.returns-in-Err-clause-ran
+returns-in-Err-clause-ran g c = grind (arith, common_steps)
+
+pub returns-in-Err-clause-made : goal.returns-in-Err-clause-made
+returns-in-Err-clause-made g c = grind (arith, common_steps)
+
+pub returns-in-Err-clause-faults : goal.returns-in-Err-clause-faults
+returns-in-Err-clause-faults g c = grind (arith, common_steps)

@@ -1,4 +1,5 @@
 use Rattle.std.proofs.Common.{◌∙◌, ◌++◌, Vec, Global, ap, length, map, arith}
+use Rattle.std.proofs.lemmas.Grind.{common_steps}
 use Rattle.std.proofs.lemmas.Result.{IfOk-from_err, IfOk-weaker}
 use Rattle.script_plans.specs.declared.board_run.BoardRun.{BoardRun}
 use Rattle.lane_history.specs.Runs.{AreRunsOver}
@@ -73,3 +74,24 @@ returns-clause-ran g c =
     (λ (runs : Vec BoardRun Global). Keeps g.R.Rack g.R.L.Link c.args.rack.now new (AreRunsOver settings 0 specs
     scripts runs.items))
     (λ runs ran. (ran.0, ran.1 ∙ ap (λ now. now ++ ran.0) kept, ran.2)) c.run_greeted.ensures.ran)
+
+pub greet_boards-requires-clause-reached : goal.greet_boards-requires-clause-reached
+greet_boards-requires-clause-reached g c = grind (arith, common_steps)
+
+pub returns-in_err-boards-clause-rack_faults : goal.returns-in_err-boards-clause-rack_faults
+returns-in_err-boards-clause-rack_faults g c = grind (arith, common_steps)
+
+pub run_greeted-requires-clause-few_boards : goal.run_greeted-requires-clause-few_boards
+run_greeted-requires-clause-few_boards g c = grind (arith, common_steps)
+
+pub run_greeted-requires-clause-can : goal.run_greeted-requires-clause-can
+run_greeted-requires-clause-can g c = grind (arith, common_steps)
+
+pub run_greeted-requires-clause-all : goal.run_greeted-requires-clause-all
+run_greeted-requires-clause-all g c = grind (arith, common_steps)
+
+pub run_greeted-requires-clause-memory : goal.run_greeted-requires-clause-memory
+run_greeted-requires-clause-memory g c = grind (arith, common_steps)
+
+pub run_greeted-requires-clause-reached : goal.run_greeted-requires-clause-reached
+run_greeted-requires-clause-reached g c = grind (arith, common_steps)

@@ -1,4 +1,5 @@
 use Rattle.std.proofs.Common.{◌∙◌, ℕ, List, ap, arith, length, subst, sym}
+use Rattle.std.proofs.lemmas.Grind.{common_steps}
 use Rattle.std.specs.List.{AllByRecursion}
 use Rattle.std.specs.Prelude.{IfOk}
 use Rattle.board_greeting.specs.Reports.{shown_by}
@@ -64,3 +65,27 @@ finish_boards-requires-clause-came g c κs within =
     (boards_came link c.args.settings scripts c.args.specs.now boards news parts reached.all reached.memory
     reached.reached
     (gone_apart link.telling scripts news apart c.deref.ensures.value c.run_lanes-lanes.ensures.gone_on) there)
+
+pub run_lanes-lanes-requires-clause-can : goal.run_lanes-lanes-requires-clause-can
+run_lanes-lanes-requires-clause-can g c = grind (arith, common_steps)
+
+pub finish_boards-requires-clause-few_boards : goal.finish_boards-requires-clause-few_boards
+finish_boards-requires-clause-few_boards g c = grind (arith, common_steps)
+
+pub finish_boards-requires-clause-can : goal.finish_boards-requires-clause-can
+finish_boards-requires-clause-can g c = grind (arith, common_steps)
+
+pub finish_boards-requires-clause-few : goal.finish_boards-requires-clause-few
+finish_boards-requires-clause-few g c = grind (arith, common_steps)
+
+pub returns-clause-ran : goal.returns-clause-ran
+returns-clause-ran g c = grind (arith, common_steps)
+
+pub returns-clause-left : goal.returns-clause-left
+returns-clause-left g c = grind (arith, common_steps)
+
+pub returns-clause-made : goal.returns-clause-made
+returns-clause-made g c = grind (arith, common_steps)
+
+pub returns-clause-faults : goal.returns-clause-faults
+returns-clause-faults g c = grind (arith, common_steps)
