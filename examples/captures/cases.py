@@ -6,13 +6,23 @@ import subprocess
 import sys
 from xml.dom import minidom
 
-from captures.dumps import COOKED, COOKED_2, ETHERNET, IP_ALONE, LOOP, NULL
-from captures.taps import HEADERS, dump_of, internet, udp
+from captures.taps import (
+    COOKED,
+    COOKED_2,
+    ETHERNET,
+    HEADERS,
+    IP_ALONE,
+    LOOP,
+    NULL,
+    dump_of,
+    internet,
+    udp,
+)
 from model.captures import MOST_BYTES, Capture, Caught, Refused, description, read_capture, write_capture
 from model.captures import describe as describe_text
 from model.captures import undescribe as undescribe_text
 from model.drawn_captures import drawn_capture, drawn_description, long_capture
-from model.notes import NOTES, is_note_of
+from model.notes import NOTES, denial_notes, is_note_of
 from model.recorded import recorded
 from model.session import Session
 from net.packets import Status, control_packet, request, resend_request, status_reply, status_request
@@ -27,8 +37,8 @@ FIRST = HERE.parent / "start" / "first.toml"
 LOSSY_RUN = HERE / "lossy_run.toml"
 
 
-def faults_of(done, text, status=0):
-    """What is wrong where the program owes this text and this status."""
+def faults_of(done, text, status=0, denied=b""):
+    """What is wrong where the program owes this text and this status, and first says what a policy denied."""
     given = {"text": done.stdout, "status": done.returncode}
     wanted = {"text": text, "status": status}
     faults = [
@@ -36,7 +46,7 @@ def faults_of(done, text, status=0):
         for what in wanted
         if given[what] != wanted[what]
     ]
-    is_said = is_note_of(text, done.stderr) if status == 3 else done.stderr == NOTES[status]
+    is_said = is_note_of(text, done.stderr) if status == 3 else done.stderr == denied + NOTES[status]
     return faults + ([] if is_said else [f"it says {done.stderr!r}"])
 
 
@@ -195,7 +205,7 @@ def of_pictures():
     ):
         done = run("timeline", *words, data=text)
         if arrows is None:
-            is_right = done.returncode == 1 and done.stdout == b"" and done.stderr.startswith(b"timeline: ")
+            is_right = done.returncode == 1 and done.stdout == b"" and done.stderr.startswith(b"ipbus-timeline: ")
         else:
             drawn = minidom.parseString(done.stdout).getElementsByTagName("polygon") if done.stdout else []
             is_right = done.returncode == 0 and len(drawn) == arrows
@@ -228,8 +238,9 @@ def of_what_is_not_done(answer):
         ("denied", b"policy = []\n" + first),
         ("past the end", first.replace(b"address = 4", b"address = 16")),
     ):
-        wanted = write_capture(recorded(Session(session)))
-        yield f"record of a read {name}", faults_of(answer(["record"], session), wanted, 1)
+        played = Session(session)
+        wanted = write_capture(recorded(played))
+        yield f"record of a read {name}", faults_of(answer(["record"], session), wanted, 1, denial_notes(played))
 
 
 def capture_cases(answer):

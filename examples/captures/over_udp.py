@@ -7,8 +7,7 @@ import subprocess
 import sys
 from xml.dom import minidom
 
-from captures.dumps import ETHERNET
-from captures.taps import HOST, Sniffer, Tap
+from captures.taps import ETHERNET, HOST, Sniffer, Tap
 from model.captures import Places, description, read_capture
 from net.packets import read_control
 from net.peers import require

@@ -7,10 +7,12 @@ import struct
 import threading
 import time
 
-from captures.dumps import COOKED, COOKED_2, ETHERNET, IP_ALONE, IPV4, LOOP, NULL, UDP
 from net.peers import Skipped
 
 HOST = "127.0.0.1"
+IPV4, UDP = 0x0800, 17
+# the kinds of headers in front of IP in a packet dump
+NULL, ETHERNET, LOOP, COOKED, IP_ALONE, COOKED_2 = 0, 1, 108, 113, 228, 276
 ALL_PACKETS, OUTGOING = 3, 4
 PATIENCE = 0.05
 

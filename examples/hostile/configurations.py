@@ -5,7 +5,9 @@ import re
 import subprocess
 from concurrent.futures import ThreadPoolExecutor
 
-from hostile.documents import AT_ONCE, LARGEST, SECONDS, changed_document, is_refused, is_toml
+from hostile.documents import (
+    AT_ONCE, LARGEST, MOST_UNREAD, SECONDS, Tried, changed_document, is_refused, is_toml, not_judged_faults,
+)
 from model.configuration import Configuration, told
 from model.drawn_configuration import drawn_configuration
 from model.network import run_session
@@ -37,14 +39,15 @@ def by_model(data, command):
             return text, status, None
         session = Configuration(data, command)
         session.run()
-        return text, status, denial_notes(session) + configuration_notes(text, session.entries(), status)
+        return text, status, denial_notes(session) + configuration_notes(text, session.entries_applied(), status)
     except Exception:
         return None
 
 
-def faults_of(data, command, done):
+def faults_of(data, command, done, tried):
     """What is wrong in an answer. What the program refuses before it comes to the state the second program may not."""
     wanted = by_model(data, command)
+    tried.is_unread = wanted is None and done.returncode != 3
     text = done.stdout.decode()
     if done.returncode == 3:
         if not REFUSAL.fullmatch(done.stdout) or not is_note_of(done.stdout, done.stderr):
@@ -60,15 +63,18 @@ def faults_of(data, command, done):
 
 
 def answer(command, word, data):
+    tried = Tried()
     try:
         done = subprocess.run([*command, word], input=data, capture_output=True, timeout=SECONDS)
+        tried.status = done.returncode
+        tried.faults = faults_of(data, word, done, tried)
     except subprocess.TimeoutExpired:
-        return None, [f"it took longer than {SECONDS} s"]
-    return done.returncode, faults_of(data, word, done)
+        tried.faults = [f"it took longer than {SECONDS} s"]
+    return tried
 
 
 def try_configurations(command, numbers):
-    """The faults of these numbers, as texts, and how many documents were refused."""
+    """The faults of these numbers, as texts, and how many documents were refused, and not judged."""
     bases = base_documents()
 
     def try_one(number):
@@ -76,10 +82,13 @@ def try_configurations(command, numbers):
         data = changed_document(number, bases)
         # `save` takes no state
         data = data.partition(b"[state")[0] if word == "save" else data
-        status, faults = answer(command, word, data)
-        return status, [f"configuration {number} to {word}: {fault}" for fault in faults]
+        tried = answer(command, word, data)
+        tried.faults = [f"configuration {number} to {word}: {fault}" for fault in tried.faults]
+        return tried
 
     with ThreadPoolExecutor(AT_ONCE) as pool:
         answers = list(pool.map(try_one, numbers))
-    faults = [fault for _, faults in answers for fault in faults]
-    return faults, f"{sum(status == 3 for status, _ in answers)} of {len(answers)} configurations were refused"
+    faults = [fault for tried in answers for fault in tried.faults]
+    refused, unread = sum(each.status == 3 for each in answers), sum(each.is_unread for each in answers)
+    faults += not_judged_faults("configurations that no model can read:", unread, len(answers) - refused, MOST_UNREAD)
+    return faults, f"{refused} of {len(answers)} configurations were refused; of the others {unread} could be read by no model"

@@ -46,6 +46,10 @@ OPERATION_LINE = re.compile(
     rf"(({ANSWER}|timeout after [0-9]+ rounds, (execution unknown|answered late: {ANSWER}))"
     r"( @[0-9]+\.[0-9]+(,[0-9]+\.[0-9]+)*)|unsent( @.*)?)"
 )
+# what is said of a board that lied at its greeting, or lies of what it expects
+OUT_OF_STEP = re.compile(
+    r"ipbus: b0 expects \d+ where \d+ is next: it was reset, or another hub is at it; start this hub anew\n"
+)
 BOARD_LINE = re.compile(r"board b0 places ([0-9]+) replied ([0-9]+) timeout ([0-9]+) lost 0|board b0 silent")
 
 
@@ -211,7 +215,8 @@ class Hostile(threading.Thread):
 
 def require_told(done, lines):
     """A transcript of these lines, whatever the results are: its counts go together."""
-    require(done.status in (0, 1) and rest_of(done.note) == "", f"status {done.status}, note {done.note!r}")
+    rest = OUT_OF_STEP.sub("", rest_of(done.note))
+    require(done.status in (0, 1) and rest == "", f"status {done.status}, note {done.note!r}")
     given = done.text.splitlines()
     operations = [line for line in lines if line != "dispatch"]
     require(given[:1] == ["client 1"] and len(given) == len(operations) + 2, f"the text {done.text!r}")

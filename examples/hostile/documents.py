@@ -6,6 +6,7 @@ import re
 import subprocess
 import tomllib
 from concurrent.futures import ThreadPoolExecutor
+from dataclasses import dataclass, field
 
 from audits import cases as audits
 from model.drawn import drawn_session
@@ -22,6 +23,8 @@ LARGEST = 20_000
 # as many as any parse of TOML takes
 LEVELS = 40
 DRAWN = 20
+# of those that run, this part may be read by no model at the most, and this part be undecided by the replay
+MOST_UNREAD, MOST_UNDECIDED = 0.05, 0.05
 
 # what a value, a name or a text may be in the place of another, at the edge of some rule or past it
 VALUES = """0 1 -1 16 17 64 65 91 92 255 256 600 9000 9001 65535 65536 4194304 4194305 4294967295 4294967296 0xffffffff
@@ -202,12 +205,23 @@ def session_of(data):
         return None
 
 
-def replay_faults(session, done):
+@dataclass
+class Tried:
+    """What came of one document: the status, what is wrong, and by what it was not judged: a model that cannot read it,
+    or a transcript that has too many ways to read it."""
+
+    status: int | None = None
+    faults: list[str] = field(default_factory=list)
+    is_unread: bool = False
+    is_undecided: bool = False
+
+
+def replay_faults(session, done, tried):
     """What the replay finds."""
     try:
         check_transcript(session, done.stdout.decode(), done.returncode)
     except Undecided:
-        return []
+        tried.is_undecided = True
     except Wrong as wrong:
         return [str(wrong)]
     return []
@@ -231,9 +245,10 @@ def audit_faults(program, session, data, done):
     return audits.run_faults(program, data, session, done.stdout)
 
 
-def run_faults(program, data, done):
+def run_faults(program, data, done, tried):
     """What is wrong in a run."""
     session = session_of(data)
+    tried.is_unread = session is None
     if session is None:
         is_noted = DENIALS.fullmatch(done.stderr)
     else:
@@ -244,36 +259,52 @@ def run_faults(program, data, done):
     strange = [line for line in lines if not TRANSCRIPT_LINE.fullmatch(line)]
     if strange:
         return [f"the line {strange[0]!r}"]
-    return [*(replay_faults(session, done) if session else []), *audit_faults(program, session, data, done)]
+    replayed = replay_faults(session, done, tried) if session else []
+    return [*replayed, *audit_faults(program, session, data, done)]
 
 
-def faults_of(program, data, done):
+def faults_of(program, data, done, tried):
     """What is wrong in an answer to `run`. `program` runs it with words and an input."""
     if is_toml(data) and not is_told(tomllib.loads(data.decode()), done.stdout):
         return [f"{done.stdout[:200]!r} beside the policy"]
-    return refusal_faults(data, done) if done.returncode == 3 else run_faults(program, data, done)
+    return refusal_faults(data, done) if done.returncode == 3 else run_faults(program, data, done, tried)
 
 
 def answer(command, data):
     def program(words, given):
         return subprocess.run([*command, *words], input=given, capture_output=True, timeout=SECONDS)
 
+    tried = Tried()
     try:
         done = program(["run"], data)
-        return done.returncode, faults_of(program, data, done)
+        tried.status = done.returncode
+        tried.faults = faults_of(program, data, done, tried)
     except subprocess.TimeoutExpired:
-        return None, [f"it took longer than {SECONDS} s"]
+        tried.faults = [f"it took longer than {SECONDS} s"]
+    return tried
+
+
+def not_judged_faults(what, count, of, most):
+    """What is wrong where so many of the inputs that ran were not judged: nobody would see a fault there."""
+    return [f"{what} {count} of {of}, and {most * of:.0f} may be: mend the model"] if count > most * of else []
 
 
 def try_documents(command, numbers):
-    """The faults of these numbers, as texts, and how many documents were refused."""
+    """The faults of these numbers, as texts, and how many documents were refused, and not judged."""
     bases = base_documents()
 
     def try_one(number):
-        status, faults = answer(command, changed_document(number, bases))
-        return status, [f"document {number}: {fault}" for fault in faults]
+        tried = answer(command, changed_document(number, bases))
+        tried.faults = [f"document {number}: {fault}" for fault in tried.faults]
+        return tried
 
     with ThreadPoolExecutor(AT_ONCE) as pool:
         answers = list(pool.map(try_one, numbers))
-    faults = [fault for _, faults in answers for fault in faults]
-    return faults, f"{sum(status == 3 for status, _ in answers)} of {len(answers)} documents were refused"
+    faults = [fault for tried in answers for fault in tried.faults]
+    refused = sum(each.status == 3 for each in answers)
+    unread, undecided = sum(each.is_unread for each in answers), sum(each.is_undecided for each in answers)
+    ran = len(answers) - refused
+    faults += not_judged_faults("documents that no model can read:", unread, ran, MOST_UNREAD)
+    faults += not_judged_faults("transcripts that the replay cannot decide:", undecided, ran, MOST_UNDECIDED)
+    told = f"{refused} of {len(answers)} documents were refused; of the others {unread} could be read by no model"
+    return faults, f"{told}, and {undecided} be decided by no replay"

@@ -11,6 +11,9 @@ from model.transcript import result_of
 
 MOST_KEPT = 50_000
 
+# the rules on values, in the order in which they are judged
+VALUE_RULES = ["UnknownBoard", "UnknownName", "NotKept", "BitsOutside"]
+
 
 def byte_order(names):
     return sorted(names, key=str.encode)
@@ -77,6 +80,10 @@ class Configuration(Session):
         """The values that are written, in their order, as boards, names and values."""
         return entries_of(self.state)
 
+    def entries_applied(self):
+        """The same, or None where nothing is to be applied."""
+        return self.entries() if self.applies else None
+
     def why(self, board_name, name, value):
         """The rule that a value breaks first, or None."""
         board = next((board for board in self.boards if board.name == board_name), None)
@@ -100,11 +107,13 @@ class Configuration(Session):
                 return board.name, name, "Overlap"
         if sum(map(len, self.kept.values())) > MOST_KEPT:
             return "", "", "TooMany"
-        for board_name, name, value in self.entries():
-            why = self.why(board_name, name, value)
-            if why is not None:
-                return board_name, name, why
-        return None
+        return self.value_fault()
+
+    def value_fault(self):
+        """The board, the register and the rule of the first value that breaks the lowest rule that any breaks, or None."""
+        faults = [(board, name, self.why(board, name, value)) for board, name, value in self.entries()]
+        broken = [fault for fault in faults if fault[2] is not None]
+        return min(broken, key=lambda fault: VALUE_RULES.index(fault[2]), default=None)
 
     def refusal(self):
         """The line of the refusal, or None."""

@@ -4,11 +4,8 @@ import random
 from model.configuration import Configuration
 from model.drawn import drawn_session
 
-# what a state has that is not right, in some documents
+# what a state has that is not right: some documents have none of it, some one and some two
 FAULTS = [
-    "",
-    "",
-    "",
     '[state.b9]\n"low.count" = 1\n',
     '[state.b9]\n',
     '"low.none" = 1\n',
@@ -39,6 +36,13 @@ def drawn_boards(number):
     return document
 
 
+def can_follow(text, fault):
+    """Whether a text of values stays TOML with this fault behind it."""
+    if fault.startswith("["):
+        return fault.split("\n")[0] not in text
+    return "[" in text and not any(line.split(" = ")[0] == fault.split(" = ")[0] for line in text.splitlines())
+
+
 def drawn_configuration(number):
     """The same with values for some of its kept registers under the key `state`."""
     draw = random.Random(f"configuration {number}")
@@ -51,9 +55,8 @@ def drawn_configuration(number):
         chosen = draw.sample(names, draw.randint(0, len(names)))
         text += f"[state.{board.name}]\n"
         text += "".join(f'"{name}" = {value_text(draw, board.registers[name])}\n' for name in chosen)
-    fault = draw.choice(FAULTS)
-    if fault.startswith("["):
-        text += fault
-    elif fault and boards and not any(line.split(" = ")[0] == fault.split(" = ")[0] for line in text.splitlines()):
-        text += fault
+    # a table of its own stands behind the values of the last board
+    for fault in sorted(draw.sample(FAULTS, draw.choice([0, 1, 2])), key=lambda fault: fault.startswith("[")):
+        if can_follow(text, fault):
+            text += fault
     return document + (text or "[state]\n").encode()

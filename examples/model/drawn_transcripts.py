@@ -19,7 +19,7 @@ EDGES = [0, 1, 4, 5, 6, 7, 255, 256, 65_535, 65_536, (1 << 64) - 1, 1 << 64]
 ANSWERS = ["done", "skipped", "garbled", "= 0x00000000", "was 0x00000000", "error 4 after 0", "error 5 after 1", "late"]
 
 
-@functools.cache
+@functools.lru_cache(maxsize=16)
 def whole(number):
     """The session that this number draws, and its transcript."""
     draw = [drawn_session, drawn_session_of_losses, drawn_session_of_many][number % 3]

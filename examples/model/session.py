@@ -11,6 +11,8 @@ from model.policy import Policy
 READ, WRITE, READ_PORT, WRITE_PORT, RMW_BITS, RMW_SUM = range(6)
 WHOLE = 0xFFFFFFFF
 GREATEST_PIECE = 255
+# names of a register table; a document with more is refused, and is not read here
+MOST_NAMES = 65_536
 
 
 def number(value):
@@ -40,7 +42,7 @@ def places_of(node):
     if "count" not in node:
         return [(node["id"], 0)]
     stride = number(node.get("stride", 1))
-    return [(f"{node['id']}[{i}]", i * stride) for i in range(number(node["count"]))]
+    return ((f"{node['id']}[{i}]", i * stride) for i in range(number(node["count"])))
 
 
 def registers_of(tables, nodes, prefix="", base=0):
@@ -52,6 +54,8 @@ def registers_of(tables, nodes, prefix="", base=0):
             address = base + number(node.get("address", 0)) + offset
             found[prefix + id_at] = Register(node, address)
             found.update(registers_of(tables, below, prefix + id_at + ".", address))
+            if len(found) > MOST_NAMES:
+                raise ValueError(f"a table has more than {MOST_NAMES} names")
     return found
 
 
@@ -68,6 +72,7 @@ class Board:
         ]
         self.fates = table.get("fates", "")
         self.noise = number(table["noise"]) if "noise" in table else None
+        self.is_on_network = table.get("link") == "udp"
 
     @property
     def payload(self):

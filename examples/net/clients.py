@@ -92,7 +92,7 @@ def require_served(hub, lines, boards):
     done = hub.finish()
     wanted = [*lines, *boards]
     given = done.text.splitlines()
-    require(rest_of(done.note) == hub.listens, f"it says {done.note!r}")
+    require(rest_of(done.note) == hub.says, f"it says {done.note!r}")
     fits = len(given) == len(wanted) and all(re.fullmatch(*both) for both in zip(wanted, given))
     require(fits and done.text.endswith("\n"), f"text {done.text!r}, wanted {wanted}")
     all_closed = all(line.endswith(" closed") for line in given[: len(lines)])

@@ -10,14 +10,20 @@ from model.session import Session
 from net.clients import end, sum_body
 from net.frames import TIMED_OUT, Answer, ask
 from net.packets import RMW_SUM, WRITE, request, transaction_header
-from net.peers import Board, Wrong, ended, require, rest_of
+from net.peers import Board, Wrong, ended, greeting, require, require_silences, rest_of
 from net.sessions import COUNT, DEAF_WAIT, RANGES, boards_of, on_network, simulated
 
-# how long a route is away, in seconds, and how long a receive waits meanwhile, in milliseconds
+# how long a route is away, in seconds, and how long a receive waits meanwhile, in milliseconds; and where a hub is to
+# give up meanwhile, with so few rounds that a slow board still has the time to answer
 AWAY, AWAY_WAIT = 0.6, 20
+LONG_AWAY, FEW_WAIT, FEW_ROUNDS = 2.0, 200, 3
 NO_ROUTE = "Network is unreachable (os error 101)"
 # so many that a run is still under way when the machine that takes a route away is slow
 SUMS = 3000
+
+
+def name_of(board):
+    return f"{board.name} ({board.address}:{board.port})"
 
 
 def sums(count):
@@ -69,10 +75,10 @@ def without_a_route(network, route, seconds=AWAY):
 
 
 def require_told_of(note, board, reason):
-    """The first error of the link is said once, that its board does not answer, and that it answers again."""
-    name = f"{board.address}:{board.port}"
-    wanted = [f"ipbus: {name}: {reason}", f"ipbus: {name} does not answer", f"ipbus: {name} answers again"]
-    require(note.splitlines() == wanted, f"it says {note!r}, wanted {wanted}")
+    """The first error of the link is said once, and that its board does not answer and answers again."""
+    error = f"ipbus: {name_of(board)}: {reason}\n"
+    require(note.count(error) == 1, f"it says {note!r}, wanted {error!r}")
+    require_silences(note.replace(error, ""), board)
 
 
 def run_while_a_route_is(way):
@@ -88,7 +94,8 @@ def run_while_a_route_is(way):
         done = ended(process)
         require((done.status, done.text) == (0, sums_done(SUMS)), f"{done}")
         board.require_executed(SUMS)
-        require_told_of(done.note, board, reason)
+        require(done.note.startswith(greeting(board)), f"it says {done.note!r}")
+        require_told_of(done.note[len(greeting(board)) :], board, reason)
 
     return case
 
@@ -112,8 +119,10 @@ def serve_while_a_route_is(way):
         done = hub.finish()
         require(done.status == 0, f"{done}")
         board.require_executed(SUMS + 1)
-        require(done.note.startswith(hub.listens), f"it says {done.note!r}")
-        require_told_of(done.note[len(hub.listens) :], board, reason)
+        # the last connection may come before the hub has heard of the board again
+        last = hub.says.removeprefix(hub.listens)
+        require(done.note.startswith(hub.listens) and done.note.count(last) == 1, f"it says {done.note!r}")
+        require_told_of(done.note.removeprefix(hub.listens).replace(last, ""), board, reason)
 
     return case
 
@@ -121,10 +130,10 @@ def serve_while_a_route_is(way):
 def serve_past_a_long_outage(peers):
     """A route that is away for longer than the rounds: the frame of that time is given up, and the next is answered."""
     network, board = board_behind_a_route(peers)
-    hub = peers.serve(on_network([board], wait=AWAY_WAIT, rounds=3), 1, network)
+    hub = peers.serve(on_network([board], wait=FEW_WAIT, rounds=FEW_ROUNDS), 1, network)
     client = peers.start_client(hub, network, [f"rmwsum {COUNT} 1"] * SUMS)
     in_the_middle(board, client)
-    without_a_route(network, None)
+    without_a_route(network, None, LONG_AWAY)
     told = ended(client)
     lines = told.text.splitlines()
     given_up = sum(line.endswith("timeout, execution unknown") for line in lines)
@@ -146,7 +155,7 @@ def run_at_an_address_that_is_refused(peers):
     document = on_network([board], [["read b0:id"]], DEAF_WAIT)
     done = ended(peers.start([*network.words, *peers.command, "run"], document))
     text = "client 1\n1 read b0:id link lost\nboard b0 down\n"
-    note = f"ipbus: {board.address}:{board.port}: Invalid argument (os error 22)\n"
+    note = f"ipbus: {name_of(board)}: Invalid argument (os error 22)\n"
     require(done == (1, text, note), f"{done}")
     board.require_executed(0)
 
@@ -191,17 +200,16 @@ def run_of_more_packets_than_identifiers(peers):
 # ---- what is said of silence
 
 
-def name_of(board):
-    return f"{board.address}:{board.port}"
-
-
 def run_at_a_board_that_never_answers(peers):
     """A long silence is not mute: it is said once that the board does not answer."""
     (board,) = boards_of(1)
     board.port, board.wait = peers.deaf_port(), DEAF_WAIT
     done = peers.run(on_network([board], [["read b0:id"]], rounds=40))
     text = "client 1\n1 read b0:id unsent\nboard b0 silent\n"
-    require(done == (1, text, f"ipbus: {name_of(board)} does not answer\n"), f"{done}")
+    # where the greeting takes more than a second it is said before its end too
+    said = f"ipbus: {name_of(board)} does not answer"
+    note = f"{said}: it is not asked again until the next start\n"
+    require(done in ((1, text, note), (1, text, f"{said}\n{note}")), f"{done}")
 
 
 def run_while_a_board_sleeps(peers):
@@ -214,8 +222,9 @@ def run_while_a_board_sleeps(peers):
     time.sleep(AWAY)
     board.process.send_signal(signal.SIGCONT)
     done = ended(process)
-    note = f"ipbus: {name_of(board)} does not answer\nipbus: {name_of(board)} answers again\n"
-    require(done == (0, sums_done(SUMS), note), f"{done}")
+    require((done.status, done.text) == (0, sums_done(SUMS)), f"{done}")
+    require(done.note.startswith(greeting(board)), f"it says {done.note!r}")
+    require_silences(done.note.removeprefix(greeting(board)), board)
     board.require_executed(SUMS)
 
 
@@ -224,11 +233,11 @@ def run_past_a_long_sleep(peers):
     and answered late: the text is right by replay."""
     (board,) = boards_of(1)
     peers.start_board(board)
-    scripts, rounds = [sums(SUMS)], 3
-    process = peers.start_run(on_network([board], scripts, AWAY_WAIT, rounds=rounds))
+    scripts, rounds = [sums(SUMS)], FEW_ROUNDS
+    process = peers.start_run(on_network([board], scripts, FEW_WAIT, rounds=rounds))
     in_the_middle(board, process)
     board.process.send_signal(signal.SIGSTOP)
-    time.sleep(AWAY)
+    time.sleep(LONG_AWAY)
     board.process.send_signal(signal.SIGCONT)
     done = ended(process)
     check_transcript(Session(simulated([board], scripts, rounds=rounds)), done.text, done.status)
@@ -241,33 +250,41 @@ def run_past_a_long_sleep(peers):
 def silent_boards_take_their_time(peers):
     """Silent boards are greeted one by one, each for all its rounds, and a server opens its port behind the last."""
     boards = boards_of(2)
-    rounds = 10
+    # so long that no start of a program takes as much
+    rounds, wait = 10, 150
     for board in boards:
-        board.port, board.wait = peers.deaf_port(), DEAF_WAIT
+        board.port, board.wait = peers.deaf_port(), wait
     began = time.monotonic()
     hub = peers.serve(on_network(boards, rounds=rounds), 1)
     connection = peers.connect(hub)
     took = time.monotonic() - began
-    least = 2 * rounds * DEAF_WAIT / 1000
+    least = 2 * rounds * wait / 1000
     require(took >= least, f"the port was open after {took} s, before {least}")
     end(connection)
     done = hub.finish()
-    silent = "".join(f"ipbus: {name_of(board)} does not answer\n" for board in boards)
+    # a greeting that takes more than a second is told of before its end too
+    silent = "".join(
+        f"ipbus: {name_of(board)} does not answer{more}\n"
+        for board in boards
+        for more in ("", ": it is not asked again until the next start")
+    )
     text = "connection 1 frames 0 closed\nboard b0 silent\nboard b1 silent\n"
-    require(done == (0, text, silent + hub.listens), f"{done}")
+    require(done == (0, text, silent + hub.says), f"{done}")
 
 
 def a_mute_board_takes_its_time(peers):
     """A board that falls mute costs a round more than its rounds at each dispatch."""
     (board,) = boards_of(1, mute_after=1)
     peers.start_board(board)
-    rounds, dispatches, wait = 3, 4, 20
+    rounds, dispatches, wait = FEW_ROUNDS, 4, FEW_WAIT
     began = time.monotonic()
     done = peers.run(on_network([board], [sums(dispatches)], wait, rounds=rounds))
     took = time.monotonic() - began
     least = dispatches * (rounds + 1) * wait / 1000
     require(done.status == 1 and took >= least, f"{dispatches} dispatches took {took} s, less than {least}: {done}")
-    require(done.note == f"ipbus: {name_of(board)} does not answer\n", f"{done}")
+    last = done.note.splitlines()[-1].split(";")[0]
+    is_told = last == f"ipbus: {name_of(board)} does not answer" and rest_of(done.note) == ""
+    require(is_told, f"it says {done.note!r}")
 
 
 # ---- what code 1 leaves behind
@@ -278,7 +295,7 @@ def a_given_up_write_is_executed_later(peers):
     frame of another client."""
     (board,) = boards_of(1)
     peers.start_board(board)
-    hub = peers.serve(on_network([board], wait=AWAY_WAIT, rounds=2), 2)
+    hub = peers.serve(on_network([board], wait=FEW_WAIT, rounds=FEW_ROUNDS), 2)
     first, second = peers.connect(hub), peers.connect(hub)
     require(first.ask(0, 1, sum_body()) == [transaction_header(0, 1, RMW_SUM, 0), 0], "the first sum")
     board.process.send_signal(signal.SIGSTOP)
@@ -304,7 +321,8 @@ def a_second_hub_tells_of_writes_that_no_board_executed(peers):
     peers.start_board(board)
     second = peers.serve(on_network([board], wait=AWAY_WAIT), 1)
     connection = peers.connect(second)
-    done = peers.run(on_network([board], [["write b0:count 5"]]))
+    words = ["env", "IPBUS_SHARE=1", *peers.command, "run"]
+    done = ended(peers.start(words, on_network([board], [["write b0:count 5"]])))
     require(done.status == 0, f"{done}")
     reply = connection.ask(0, 1, request(0, WRITE, COUNT, 1, [9]))
     require(reply == [transaction_header(0, 1, WRITE, 0)], f"the second hub answered {reply}")
@@ -346,7 +364,8 @@ def a_scan_counts_as_a_connection(peers):
     end(served)
     done = hub.finish()
     lines = "connection 1 frames 0 closed\nconnection 2 frames 1 closed\n"
-    require(done == (0, f"{lines}board b0 places 1 replied 1 timeout 0 lost 0\n", hub.listens), f"{done}")
+    told = (0, f"{lines}board b0 places 1 replied 1 timeout 0 lost 0\n", hub.says)
+    require((done.status, done.text, rest_of(done.note)) == told, f"{done}, wanted {told}")
     try:
         answer = past.answer()
     except ConnectionError:

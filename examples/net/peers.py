@@ -17,14 +17,17 @@ from net.frames import Connection
 from net.packets import identifier_after
 
 HERE = pathlib.Path(__file__).resolve().parent
-# no case may take longer, and no peer outlives that
+# no case may take longer than it is given, mostly so many seconds, and its peers end so many later at the latest
 CASE_SECONDS = 120
-SECONDS = 150
+SECONDS_MORE = 30
 
 Ended = namedtuple("Ended", "status text note")
 
-# what the hub says of a board that is silent for a while
-SILENT = re.compile(r"ipbus: \S+ (?:does not answer|answers again)\n")
+# what the hub says of a board that is silent for a while, and what a board told at its greeting
+SILENT = re.compile(
+    r"ipbus: \S+ \(\S+\) (?:does not answer(?:: it is not asked again until the next start)?|answers again)"
+    r"(?:; \d+ lines? (?:was|were) left out)?\n|ipbus: \S+: MTU \d+, \d+ buffers, next \d+\n"
+)
 
 
 class Wrong(Exception):
@@ -73,14 +76,14 @@ class Board:
         say otherwise."""
         return f'{self.head()}link = "udp"\naddress = "{self.address}:{self.port}"\nwait = {self.wait or wait}\n'
 
-    def words(self, log):
-        """The words that start it."""
+    def words(self, log, seconds):
+        """The words that start it. It ends after so many seconds."""
         words = ["--mtu", self.mtu, "--buffers", self.buffers, "--first", self.first, "--log", log]
         for base, size, kind, init in self.ranges:
             words += ["--range", f"{base}:{size}:{kind}:{','.join(map(str, init or [0]))}"]
         for name, value in self.more.items():
             words += [f"--{name.replace('_', '-')}"] + ([] if value is True else [value])
-        return [str(word) for word in [*words, "--seconds", SECONDS]]
+        return [str(word) for word in [*words, "--seconds", seconds]]
 
     def executed(self):
         """The bodies that it executed, in order, by its log: none twice, and the identifiers without a gap."""
@@ -105,14 +108,30 @@ class Board:
         return sum(line.split()[0] == kind for line in self.log.read_text().splitlines())
 
 
+def greeting(board):
+    """What `run` says of a board on the network that tells its status."""
+    return f"ipbus: {board.name}: MTU {board.mtu}, {board.buffers} buffers, next {board.first}\n"
+
+
 def rest_of(note):
-    """What is said on standard error but that boards are silent and answer again, as they do on a bad network."""
+    """What is said on standard error but what boards told, and that they are silent and answer again, as they do on a bad
+    network."""
     return SILENT.sub("", note)
+
+
+def require_silences(note, board):
+    """A board was silent and answers again: both are said, one after the other, and nothing else. On a busy machine a board
+    may be silent more often than the case has it."""
+    name = f"{board.name} ({board.address}:{board.port})"
+    said = [line.split(";")[0] for line in note.splitlines()]
+    both = [f"ipbus: {name} does not answer", f"ipbus: {name} answers again"]
+    is_told = said and said == both * (len(said) // 2)
+    require(is_told and rest_of(note) == "", f"it says {note!r}, wanted {both}, once or more")
 
 
 def ended(process):
     """The end of a hub: its status and what it wrote."""
-    text, note = process.communicate(timeout=SECONDS)
+    text, note = process.communicate(timeout=process.seconds)
     return Ended(process.returncode, text.decode(), note.decode())
 
 
@@ -146,6 +165,11 @@ class Hub:
     def listens(self):
         """What it says once its port is open."""
         return f"ipbus: listens on port {self.port} for {self.count} connection{'s' * (self.count > 1)}\n"
+
+    @property
+    def says(self):
+        """What it says by the time that all its connections are there."""
+        return f"{self.listens}ipbus: connection {self.count} of {self.count} is the last one: later ones are not answered\n"
 
 
 def free_port(kind=socket.SOCK_STREAM):
@@ -187,11 +211,19 @@ class Network:
             self.ip("route", "del", kind, self.address)
 
 
-class Peers:
-    """What a case starts. `command` is the hub: the words before `run` and `serve`."""
+class Peer(subprocess.Popen):
+    """A program that a case starts, which ends after so many seconds at the latest."""
 
-    def __init__(self, command):
+    seconds = CASE_SECONDS + SECONDS_MORE
+
+
+class Peers:
+    """What a case starts. `command` is the hub: the words before `run` and `serve`. A peer ends after so many seconds at
+    the latest."""
+
+    def __init__(self, command, seconds=Peer.seconds):
         self.command = [str(word) for word in command]
+        self.seconds = seconds
         self.folder = tempfile.TemporaryDirectory()
         self.processes = []
         self.open = []
@@ -201,16 +233,20 @@ class Peers:
         words = ["unshare", "-n"] if os.geteuid() == 0 else ["unshare", "-r", "-n"]
         if not all(shutil.which(name) for name in ("unshare", "nsenter", "ip")):
             raise Skipped("no network of its own: there is no unshare, nsenter or ip")
-        holder = self.start([*words, "sh", "-c", "echo ready; exec sleep 150"])
+        holder = self.start([*words, "sh", "-c", f"echo ready; exec sleep {self.seconds}"])
         if holder.stdout.readline() != b"ready\n":
             raise Skipped(f"no network of its own: {holder.stderr.read().decode().strip()}")
         return Network(holder)
 
-    def start(self, words, document=None):
+    def start(self, words, document=None, note=subprocess.PIPE):
+        """Starts a program on a document. Its standard error goes to `note`, a pipe by default."""
         file = tempfile.TemporaryFile()
         file.write(document or b"")
         file.seek(0)
-        process = subprocess.Popen(words, stdin=file, stdout=subprocess.PIPE, stderr=subprocess.PIPE)
+        # a folder of its own for locks: a board of another network may have the same address
+        settings = {**os.environ, "XDG_RUNTIME_DIR": self.folder.name, "TMPDIR": self.folder.name}
+        process = Peer(words, stdin=file, stdout=subprocess.PIPE, stderr=note, env=settings)
+        process.seconds = self.seconds
         file.close()
         self.processes.append(process)
         return process
@@ -218,7 +254,7 @@ class Peers:
     def start_board(self, board, network=None, port=0):
         """Starts a board, in a network of its own if there is one, and on this port if it is not 0."""
         board.log = pathlib.Path(self.folder.name) / f"{board.file}.log"
-        words = [sys.executable, HERE / "board", "--port", str(port), *board.words(board.log)]
+        words = [sys.executable, HERE / "board", "--port", str(port), *board.words(board.log, self.seconds)]
         process = self.start([*(network.words if network else []), *words])
         line = process.stdout.readline().split()
         require(line[:1] == [b"port"], f"{board.name} did not start: {process.stderr.read() if not line else line}")
@@ -249,8 +285,12 @@ class Peers:
 
     def serve(self, document, count, network=None, limits=()):
         """A hub that serves so many connections, in a network of its own if there is one, under limits of the shell."""
+        return self.serve_by(self.command, document, count, network, limits)
+
+    def serve_by(self, command, document, count, network=None, limits=()):
+        """The same by another command."""
         port = free_port()
-        words = [*self.command, "serve", str(port), str(count)]
+        words = [*command, "serve", str(port), str(count)]
         for limit in limits:
             words = ["bash", "-c", f'ulimit {limit} && exec "$@"', "bash", *words]
         process = self.start([*(network.words if network else []), *words], document)
@@ -276,7 +316,7 @@ class Peers:
             process.kill()
         for process in self.processes:
             process.wait()
-            for pipe in (process.stdout, process.stderr):
+            for pipe in filter(None, (process.stdout, process.stderr)):
                 pipe.close()
         self.folder.cleanup()
 
@@ -292,7 +332,7 @@ def within(seconds, command, case):
     def ring(_signal, _frame):
         raise Late(f"it took longer than {seconds} s")
 
-    peers = Peers(command)
+    peers = Peers(command, seconds + SECONDS_MORE)
     before = signal.signal(signal.SIGALRM, ring)
     signal.setitimer(signal.ITIMER_REAL, seconds)
     try:

@@ -16,9 +16,9 @@ CRATE = HERE / "connections" / "crate.xml"
 MIXED = HERE / "connections" / "mixed.xml"
 # connections that are refused, each with a part of the reason
 REFUSED_CONNECTIONS = {
-    "hub": "chtcp-2.0 is not ipbusudp-2.0",
-    "old": "ipbusudp-1.3 is not ipbusudp-2.0",
-    "card": "ipbuspcie-2.0 is not ipbusudp-2.0",
+    "no_target": "has no ?target=ADDRESS:PORT of its board",
+    "old": "ipbusudp-1.3 is not ipbusudp-2.0 or chtcp-2.0",
+    "card": "ipbuspcie-2.0 is not ipbusudp-2.0 or chtcp-2.0",
     "no_port": "is not ipbusudp-2.0://host:port",
     "port_0": "the port 0 is not 1 to 65535",
     "no_table": "a connection has no address_table",
@@ -101,6 +101,9 @@ def connection_cases(answer):
     done = run("session", "connections/crate.xml", "fe1")
     is_alone = done.returncode == 0 and done.stdout.count("[[board]]") == 1 and 'name = "fe1"' in done.stdout
     yield "uhal session of one connection", [] if is_alone else [done.stdout]
+    done = run("session", "connections/mixed.xml", "hub")
+    is_its_target = done.returncode == 0 and 'address = "127.0.0.1:50001"' in done.stdout
+    yield "uhal session of a control hub", [] if is_its_target else [f"{told(done)}"]
     for name, why in REFUSED_CONNECTIONS.items():
         done = run("session", "connections/mixed.xml", name)
         is_refused = done.returncode == 3 and not done.stdout and why in done.stderr

@@ -1,3 +1,5 @@
+pub mod FoundById
+pub mod KnownNames
 pub mod Parts
 pub mod Lengths
 pub mod Joined

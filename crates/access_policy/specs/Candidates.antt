@@ -1,7 +1,11 @@
 -- How the code finds the rule that decides: the rules that a client has on a board, with their numbers, and of these the
 -- first that speaks of an access. No public clause speaks of it.
-use Rattle.std.specs.Prelude.{ℕ, ◌+◌, Bool, ◌&&◌, if◌then◌else◌, List, [], ◌∷◌, slice_get}
+use denote.Ref.{Bor}
+use Rattle.std.specs.Prelude.{◌≡◌, ℕ, ◌+◌, Bool, ◌&&◌, if◌then◌else◌, List, [], ◌∷◌, Some, slice_get}
+use Rattle.std.specs.BTreeMap.{BTreeMap, get_by}
+use Rattle.std.specs.Cmp.Lexicographic.{slice_cmp}
 use Rattle.std.specs.List.{filter}
+use Rattle.std.specs.Ordering.{nat_cmp}
 use Rattle.std.specs.Option.{option_map_or}
 use Rattle.address_table.specs.declared.kinds.Permission.{Permission}
 use Rattle.script_steps.specs.declared.operation.Decision.{Decision}
@@ -12,8 +16,6 @@ use Rattle.script_steps.specs.declared.operation.Step.TheVariants as steps
 use Rattle.access_policy.specs.Decisions.{all_needed, client_matches, has_access, needs_of, said}
 use Rattle.access_policy.specs.Names.{NameItem, items_of}
 use Rattle.access_policy.specs.Patterns.{board_matches, items_match}
-use Rattle.access_policy.specs.declared.permitting.RegisterName.{RegisterName}
-use Rattle.access_policy.specs.declared.permitting.RegisterName.TheVariants.{Written, Cut}
 use Rattle.access_policy.specs.declared.policy.Access.{Access}
 use Rattle.access_policy.specs.declared.policy.Rule.{Rule}
 
@@ -35,11 +37,6 @@ abbrev pub candidates_from : ℕ → List Rule → ℕ → List ℕ → List Num
 candidates_from number policy client board =
     filter (λ (candidate : Numbered). concerns client board candidate.rule) (with_numbers number policy)
 
--- the ids of a name that is cut or not
-abbrev pub ids_of : RegisterName → List NameItem
-ids_of (Written name) = items_of name.now
-ids_of (Cut items) = items.items
-
 -- such a rule speaks of an access to a register
 abbrev pub is_of : Access → List NameItem → Rule → Bool
 is_of access items rule = has_access rule.access access && items_match rule.pattern.items rule.pattern.rest items
@@ -50,6 +47,12 @@ first_of access items [] = Denied 0
 first_of access items (candidate ∷ candidates) =
     if is_of access items candidate.rule then said candidate.number candidate.rule.effect
     else first_of access items candidates
+
+-- what is known of names is what these rules say of them
+abbrev pub IsKnown : Access → List Numbered → BTreeMap (Bor (List ℕ)) Decision → Type 0
+IsKnown access candidates known = (name : List ℕ) (decision : Decision)
+    → get_by (λ key. slice_cmp nat_cmp name key.now) known ≡ Some decision
+    → decision ≡ first_of access (items_of name) candidates
 
 -- what they say of a use of a register
 abbrev pub said_of : List Numbered → List NameItem → Permission → Decision

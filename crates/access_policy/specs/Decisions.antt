@@ -4,7 +4,7 @@ use Rattle.std.specs.Prelude.{ℕ, ◌+◌, ◌==◌, Bool, true, ◌&&◌, if�
 use Rattle.std.specs.Option.{option_map_or}
 use Rattle.address_table.specs.declared.kinds.Permission.{Permission}
 use Rattle.address_table.specs.declared.kinds.Permission.TheVariants.{R, W, Rw}
-use Rattle.board_node.specs.declared.spec.BoardSpec.{BoardSpec}
+use Rattle.board_specs.specs.declared.spec.BoardSpec.{BoardSpec}
 use Rattle.script_lang.specs.Operations.{may_read, may_write}
 use Rattle.script_steps.specs.Rulings.{steps_under_policy}
 use Rattle.script_steps.specs.declared.operation.Decision.{Decision}

@@ -5,4 +5,5 @@ pub mod Reading
 pub mod Decisions
 pub mod Cutting
 pub mod Candidates
+pub mod ById
 pub mod Examples

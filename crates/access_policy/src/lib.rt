@@ -1,8 +1,10 @@
 //! Access policies: rules that say which client may read or write which registers, and what they decide.
 #![tactic(auto)]
 
+mod candidates;
 mod deciding;
 pub mod examples;
+mod judging;
 pub mod laws;
 mod limits;
 mod matching;
@@ -13,6 +15,7 @@ mod policy;
 mod reading;
 mod refusal;
 mod rule_keys;
+mod rules_by_id;
 mod spelling;
 
 pub use deciding::decide;

@@ -82,7 +82,7 @@ pub(crate) fn read_fields(members: &Table, format: u32) -> Result<Fields, TableW
     read_register(members)
 }
 
-/// The same, where the rules before those of the numbers are kept.
+/// Reads the fields of a register whose other keys are right: the rules of its numbers are tried here.
 fn read_register(members: &Table) -> Result<Fields, TableWhy>
     ensures kept { OnOk result (rule.first_broken (rule.register_rules (table_view members.now)) ≡ None) }
     ensures read { IfOk result (λ fields. SaysFields (table_view members.now) fields) }

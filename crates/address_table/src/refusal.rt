@@ -60,7 +60,7 @@ pub enum TableWhy {
     BadNumber,
     /// A mask of 0.
     BadMask,
-    /// An unknown permission.
+    /// The permission is none of `r`, `w` and `rw`.
     BadPermission,
     /// An unknown mode, or a block or port whose mask leaves out a bit.
     BadMode,

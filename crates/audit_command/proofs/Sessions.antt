@@ -6,9 +6,9 @@ use Rattle.std.specs.List.{AllByRecursion, AllZip}
 use Rattle.access_policy.specs.Decisions.{ruled_from, ruled_scripts}
 use Rattle.access_policy.specs.declared.policy.Rule.{Rule}
 use Rattle.board_bus.specs.Ranges.{refusal_of}
-use Rattle.board_node.specs.declared.spec.BoardSpec.{BoardSpec}
-use Rattle.board_node.specs.declared.spec.LinkSpec.{LinkSpec}
-use Rattle.board_node.specs.declared.spec.LinkSpec.TheVariants.{Sim, Udp}
+use Rattle.board_specs.specs.declared.spec.BoardSpec.{BoardSpec}
+use Rattle.board_specs.specs.declared.spec.LinkSpec.{LinkSpec}
+use Rattle.board_specs.specs.declared.spec.LinkSpec.TheVariants.{Sim, Udp}
 use Rattle.node_tree.specs.Maps.{RegisterMap}
 use Rattle.script_steps.specs.Rulings.{Asked, asked_operations}
 use Rattle.script_steps.specs.declared.operation.Step.{Step}

@@ -2,7 +2,7 @@
 use Rattle.std.specs.Prelude.{◌⊎◌, List, Option}
 use Rattle.std.specs.List.{AllByRecursion}
 use Rattle.access_policy.specs.declared.policy.Rule.{Rule}
-use Rattle.board_node.specs.declared.spec.BoardSpec.{BoardSpec}
+use Rattle.board_specs.specs.declared.spec.BoardSpec.{BoardSpec}
 use Rattle.node_tree.specs.Maps.{RegisterMap}
 use Rattle.script_lang.specs.declared.session.Session.{Session}
 use Rattle.session_input.specs.declared.refusal.Refusal.{Refusal}

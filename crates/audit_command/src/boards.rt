@@ -6,7 +6,7 @@ ghost use Rattle.session_input.specs.Deserved.{Tells};
 ghost use Rattle.session_input.specs.Recording.{IsSimulated, TellsNotSim};
 ghost use Rattle.audit_command.specs.Boards as spec;
 
-use board_node::{BoardSpec, LinkSpec};
+use board_specs::{BoardSpec, LinkSpec};
 use session_input::{Refusal, Text, Unread, check_buses};
 use std::alloc::Global;
 use std::slice;

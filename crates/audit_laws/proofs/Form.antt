@@ -1,6 +1,6 @@
 -- What a run prints over links that tell is a transcript of its session.
 use Rattle.std.proofs.Common.{List}
-use Rattle.lane_history.specs.Links.{LinkReport}
+use Rattle.board_history.specs.Links.{LinkReport}
 use Rattle.script_lang.specs.declared.session.Session.{Session}
 use Rattle.script_steps.specs.declared.operation.Step.{Step}
 use Rattle.script_plans.specs.declared.board_run.BoardRun.{BoardRun}

@@ -13,10 +13,10 @@ use Rattle.mtu_packer.specs.Cutting.{CanBeCut, cut_pieces, piece_count, piece_li
 use Rattle.mtu_packer.proofs.Pieces.{piece_limit-some}
 use Rattle.board_bus.specs.Cells.{HoldsWords}
 use Rattle.board_bus.proofs.Openings.{opening-words}
-use Rattle.board_node.specs.declared.spec.BoardSpec.{BoardSpec}
-use Rattle.board_node.specs.declared.spec.LinkSpec.{LinkSpec}
-use Rattle.board_node.specs.declared.spec.LinkSpec.TheVariants.{Sim, Udp}
-use Rattle.board_node.specs.OpeningWords.{LinkNamesWords, OpensOnWords}
+use Rattle.board_specs.specs.declared.spec.BoardSpec.{BoardSpec}
+use Rattle.board_specs.specs.declared.spec.LinkSpec.{LinkSpec}
+use Rattle.board_specs.specs.declared.spec.LinkSpec.TheVariants.{Sim, Udp}
+use Rattle.board_specs.specs.OpeningWords.{LinkNamesWords, OpensOnWords}
 use Rattle.world_model.specs.Settings.{Limits}
 use Rattle.lane_record.specs.Outcomes.{is_replied, is_sent, is_timed_out}
 use Rattle.script_steps.specs.declared.operation.RegOp.{RegOp}
@@ -46,10 +46,10 @@ use Rattle.board_history.proofs.Lists.{all_at, both_at}
 use Rattle.board_history.proofs.Asking.{op_at}
 use Rattle.board_history.proofs.BusLines.{planned_at}
 use Rattle.board_history.proofs.Spelled.{Spelling, parts_spelled}
-use Rattle.lane_history.specs.Links.{LinkReport, board_there}
-use Rattle.lane_history.specs.Runs.{AreRunsOver, IsAsTold, IsLiveRun, IsRunOver, IsTrueRun, TellsPayload}
-use Rattle.lane_history.proofs.BoardLines.{line_at}
-use Rattle.lane_history.proofs.Told.{at_some, told_there}
+use Rattle.board_history.specs.Links.{LinkReport, board_there}
+use Rattle.board_history.specs.LinkRuns.{AreRunsOver, IsAsTold, IsLiveRun, IsRunOver, IsTrueRun, TellsPayload}
+use Rattle.board_history.proofs.BoardLines.{line_at}
+use Rattle.board_history.proofs.Told.{at_some, told_there}
 use Rattle.audit_laws.proofs.FormAsked.{AreRequested, plan_requested}
 use Rattle.audit_laws.proofs.FormBodies.{few_outcomes}
 use Rattle.audit_laws.proofs.FormLines.{CutUnlessDenied}

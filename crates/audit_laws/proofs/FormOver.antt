@@ -3,8 +3,8 @@ use Rattle.std.proofs.Common.{◌≡◌, ℕ, ◌+◌, ◌<◌, ◌^◌, true, l
 use Rattle.std.proofs.Common.{is_some}
 use Rattle.std.specs.List.{AllByRecursion, slice_get}
 use Rattle.std.specs.Option.{option_map_or}
-use Rattle.board_node.specs.declared.spec.BoardSpec.{BoardSpec}
-use Rattle.board_node.specs.OpeningWords.{OpensOnWords}
+use Rattle.board_specs.specs.declared.spec.BoardSpec.{BoardSpec}
+use Rattle.board_specs.specs.OpeningWords.{OpensOnWords}
 use Rattle.world_model.specs.Settings.{Limits}
 use Rattle.script_steps.specs.declared.operation.Step.{Step}
 use Rattle.script_steps.specs.Executable.{AreExecutable}
@@ -17,8 +17,8 @@ use Rattle.transcript.specs.Lines.{Transcript, board_line, lines_from, transcrip
 use Rattle.transcript.specs.Text.{transcript_text}
 use Rattle.transcript_reader.specs.Entries.{IsHere, name_at}
 use Rattle.transcript_reader.specs.Shown.{IsShownBy, greeting_in, greetings_in}
-use Rattle.lane_history.specs.Links.{LinkReport}
-use Rattle.lane_history.specs.Runs.{AreRunsOver, IsRunOver}
+use Rattle.board_history.specs.Links.{LinkReport}
+use Rattle.board_history.specs.LinkRuns.{AreRunsOver, IsRunOver}
 use Rattle.audit_laws.specs.Audited.{shown_of}
 use Rattle.audit_laws.proofs.FormBoards.{IsAt, IsLive, Laws, ask_can, board_at, is_live, lines_are}
 use Rattle.audit_laws.proofs.FormLines.{Look, all_can, clients_are}

@@ -6,9 +6,9 @@ use Rattle.std.specs.Option.{option_map_or}
 use Rattle.std.specs.List.{AllByRecursion, Any, slice_get}
 use Rattle.std.proofs.lemmas.Option.{same_Some}
 use Rattle.ipb_base.proofs.AllLemmas.{all-map}
-use Rattle.board_node.specs.declared.spec.BoardSpec.{BoardSpec}
-use Rattle.board_node.specs.declared.spec.LinkSpec.{LinkSpec}
-use Rattle.board_node.specs.declared.spec.LinkSpec.TheVariants.{Sim, Udp}
+use Rattle.board_specs.specs.declared.spec.BoardSpec.{BoardSpec}
+use Rattle.board_specs.specs.declared.spec.LinkSpec.{LinkSpec}
+use Rattle.board_specs.specs.declared.spec.LinkSpec.TheVariants.{Sim, Udp}
 use Rattle.world_model.specs.Settings.{Limits}
 use Rattle.script_steps.specs.declared.operation.Step.{Step}
 use Rattle.script_lang.specs.declared.session.Session.{Session}
@@ -24,9 +24,9 @@ use Rattle.board_history.specs.History.{IsOrdered, bodies_by_client, outcomes_by
 use Rattle.board_history.specs.Order.{by_place, order}
 use Rattle.board_history.specs.Parts.{KeepsScripts}
 use Rattle.board_history.specs.Runs.{greeting_of}
-use Rattle.lane_history.specs.Links.{LinkReport}
-use Rattle.lane_history.specs.Runs.{AreRunsOver, IsAsTold, IsLiveRun, IsRunOver, TellsPayload}
-use Rattle.lane_history.proofs.Shown.{AllOrdered, all_ordered}
+use Rattle.board_history.specs.Links.{LinkReport}
+use Rattle.board_history.specs.LinkRuns.{AreRunsOver, IsAsTold, IsLiveRun, IsRunOver, TellsPayload}
+use Rattle.board_history.proofs.LaneShown.{AllOrdered, all_ordered}
 use Rattle.transcript_reader.specs.Entries.{IsHere, IsLinkHere}
 use Rattle.run_audit.specs.AskedLines.{AskedLine, ShownPiece, asked_lines, greeting_at, pieces_shown}
 use Rattle.run_audit.specs.Places.{IsPartial, IsPartialAt}

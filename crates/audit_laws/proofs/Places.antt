@@ -20,7 +20,7 @@ use Rattle.transcript.specs.Lines.{board_line, is_lost, transcript_of}
 use Rattle.transcript.specs.Shown.{places_told}
 use Rattle.board_history.specs.History.{bodies_by_client, outcomes_by_client}
 use Rattle.board_history.specs.Order.{order}
-use Rattle.lane_history.specs.Links.{LinkReport}
+use Rattle.board_history.specs.Links.{LinkReport}
 use Rattle.run_audit.specs.AskedLines.{ShownPiece}
 use Rattle.run_audit.specs.Counts.{IsMiscounted, IsMiscountedAt, distinct}
 use Rattle.run_audit.specs.Places.{Disagree, HasMisplaced, IsMisplaced, IsMisplacedAt, IsPartialAt}

@@ -2,7 +2,7 @@
 use Rattle.std.proofs.Common.{◌≡◌, ℕ, List, [], ◌∷◌, Some, ap, ◌∙◌}
 use Rattle.std.specs.Prelude.{option_and_then}
 use Rattle.std.specs.List.{AllByRecursion, slice_get}
-use Rattle.lane_history.specs.Links.{LinkReport}
+use Rattle.board_history.specs.Links.{LinkReport}
 use Rattle.lane_record.specs.Outcomes.{place_of}
 use Rattle.script_lang.specs.declared.session.Session.{Session}
 use Rattle.script_steps.specs.declared.operation.Step.{Step}

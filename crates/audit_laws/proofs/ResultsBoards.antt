@@ -4,9 +4,9 @@ use Rattle.std.proofs.Common.{refl, sym, ap, ◌∙◌, subst, arith, is_some}
 use Rattle.std.specs.List.{slice_get}
 use Rattle.std.proofs.lemmas.Option.{same_Some}
 use Rattle.board_bus.specs.Cells.{CellMap}
-use Rattle.board_node.specs.declared.spec.BoardSpec.{BoardSpec}
-use Rattle.board_node.specs.declared.spec.LinkSpec.{LinkSpec}
-use Rattle.board_node.specs.declared.spec.LinkSpec.TheVariants.{Sim, Udp}
+use Rattle.board_specs.specs.declared.spec.BoardSpec.{BoardSpec}
+use Rattle.board_specs.specs.declared.spec.LinkSpec.{LinkSpec}
+use Rattle.board_specs.specs.declared.spec.LinkSpec.TheVariants.{Sim, Udp}
 use Rattle.script_lang.specs.declared.session.Session.{Session}
 use Rattle.script_steps.specs.declared.operation.RegOp.{RegOp}
 use Rattle.script_steps.specs.declared.operation.Step.{Step}
@@ -23,9 +23,9 @@ use Rattle.board_history.specs.History.{bodies_by_client, lates_by_client, outco
 use Rattle.board_history.specs.Order.{Placed, order}
 use Rattle.board_history.specs.Parts.{AreBeside, AreLateRepliesOf, AreRepliesOf, HasOneOrder}
 use Rattle.board_history.specs.Runs.{greeting_of, opens_with}
-use Rattle.lane_history.specs.Links.{IsBoardOf, LinkReport, board_there}
-use Rattle.lane_history.specs.Runs.{AreRunsOver, IsAsTold, IsLiveRun, IsRunOver, IsTrueRun, TellsPayload}
-use Rattle.lane_history.proofs.Told.{at_some, told_there}
+use Rattle.board_history.specs.Links.{IsBoardOf, LinkReport, board_there}
+use Rattle.board_history.specs.LinkRuns.{AreRunsOver, IsAsTold, IsLiveRun, IsRunOver, IsTrueRun, TellsPayload}
+use Rattle.board_history.proofs.Told.{at_some, told_there}
 use Rattle.run_audit.specs.AskedLines.{ShownPiece}
 use Rattle.run_audit.specs.Replay.{outcomes_from, parts_from}
 

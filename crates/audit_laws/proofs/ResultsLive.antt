@@ -5,7 +5,7 @@ use Rattle.std.specs.List.{AllByRecursion, slice_get}
 use Rattle.std.specs.Option.{option_map_or}
 use Rattle.std.proofs.lemmas.Option.{same_Some}
 use Rattle.board_bus.specs.Bodies.{replay}
-use Rattle.board_node.specs.declared.spec.BoardSpec.{BoardSpec}
+use Rattle.board_specs.specs.declared.spec.BoardSpec.{BoardSpec}
 use Rattle.world_model.proofs.Lists.{get_map}
 use Rattle.lane_record.specs.declared.outcome.Outcome.{Outcome}
 use Rattle.lane_record.specs.Lists.{CountsFrom}
@@ -25,7 +25,7 @@ use Rattle.board_history.specs.Order.{Placed, bodies_in, order, places_of}
 use Rattle.board_history.specs.Parts.{AreBeside, IsLateReplyOf, IsReplyOf}
 use Rattle.board_history.specs.Runs.{greeting_of, opens_with}
 use Rattle.board_history.proofs.Lists.{all_at}
-use Rattle.lane_history.specs.Runs.{IsUngarbledResult, ShowsRounds}
+use Rattle.board_history.specs.LinkRuns.{IsUngarbledResult, ShowsRounds}
 use Rattle.run_audit.specs.AskedLines.{AskedLine, asked_of, greeting_at, pieces_shown}
 use Rattle.run_audit.specs.Replay.{place_shown, replay_of_board, shown_order}
 use Rattle.run_audit.specs.Results.{Agrees}

@@ -6,7 +6,7 @@ use Rattle.std.specs.List.{AllByRecursion, list_all, flat_map}
 use Rattle.std.specs.Option.{option_map}
 use Rattle.std.proofs.lemmas.Bool.{cases_Bool, and_parts}
 use Rattle.std.proofs.lemmas.List.{map-append}
-use Rattle.lane_history.specs.Runs.{IsUngarbledResult, ShowsRounds}
+use Rattle.board_history.specs.LinkRuns.{IsUngarbledResult, ShowsRounds}
 use Rattle.script_steps.specs.declared.operation.RegOp.{RegOp}
 use Rattle.script_steps.specs.declared.operation.Verb.{Verb}
 use Rattle.script_steps.specs.declared.operation.Verb.TheVariants as verb

@@ -6,11 +6,11 @@ use Rattle.std.specs.List.{AllByRecursion, AllZip, Any, slice_get}
 use Rattle.std.proofs.lemmas.Option.{same_Some}
 use Rattle.ipb_base.proofs.AllLemmas.{back_of_all, front_of_all}
 use Rattle.mtu_packer.proofs.AnyLemmas.{at_any}
-use Rattle.board_node.specs.declared.spec.BoardSpec.{BoardSpec}
+use Rattle.board_specs.specs.declared.spec.BoardSpec.{BoardSpec}
 use Rattle.board_history.proofs.Lists.{all_at}
-use Rattle.lane_history.specs.Links.{LinkReport}
-use Rattle.lane_history.specs.Runs.{AreRunsOver, IsLineOfRounds, IsUngarbledResult}
-use Rattle.lane_history.specs.Runs.{IsUngarbledWhereTold, ShowsRounds}
+use Rattle.board_history.specs.Links.{LinkReport}
+use Rattle.board_history.specs.LinkRuns.{AreRunsOver, IsLineOfRounds, IsUngarbledResult}
+use Rattle.board_history.specs.LinkRuns.{IsUngarbledWhereTold, ShowsRounds}
 use Rattle.script_lang.specs.declared.session.Session.{Session}
 use Rattle.script_steps.specs.declared.operation.Step.{Step}
 use Rattle.script_plans.specs.declared.board_run.BoardRun.{BoardRun}

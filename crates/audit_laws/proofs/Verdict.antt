@@ -1,7 +1,7 @@
 -- The verdict on what a run prints, from what holds of its form, its places, its counts and its results.
 use Rattle.std.proofs.Common.{◌≡◌, ℕ, List, refl, sym, subst, inl, inr, arith}
-use Rattle.lane_history.specs.Links.{LinkReport}
-use Rattle.board_node.specs.declared.spec.BoardSpec.{BoardSpec}
+use Rattle.board_history.specs.Links.{LinkReport}
+use Rattle.board_specs.specs.declared.spec.BoardSpec.{BoardSpec}
 use Rattle.script_lang.specs.declared.session.Session.{Session}
 use Rattle.script_steps.specs.declared.operation.Step.{Step}
 use Rattle.script_plans.specs.declared.board_run.BoardRun.{BoardRun}

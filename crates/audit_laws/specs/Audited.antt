@@ -1,8 +1,8 @@
 -- WHAT AN AUDIT SAYS OF A RUN: the text that a run prints over links that tell. Profile.
 use Rattle.std.specs.Prelude.{◌≡◌, ◌⊎◌, ℕ, ◌<◌, ◌^◌, List, length, map, true, is_some}
 use Rattle.std.specs.List.{AllByRecursion}
-use Rattle.board_node.specs.OpeningWords.{OpensOnWords}
-use Rattle.lane_history.specs.Links.{LinkReport}
+use Rattle.board_specs.specs.OpeningWords.{OpensOnWords}
+use Rattle.board_history.specs.Links.{LinkReport}
 use Rattle.run_laws.specs.Runs.{IsSessionRun}
 use Rattle.script_steps.specs.declared.operation.Step.{Step}
 use Rattle.script_lang.specs.declared.session.Session.{Session}

@@ -2,7 +2,7 @@
 //! is proved.
 
 ghost use Rattle.std.specs.Prelude.{ℕ, List};
-ghost use Rattle.lane_history.specs.Links.{LinkReport};
+ghost use Rattle.board_history.specs.Links.{LinkReport};
 ghost use Rattle.script_steps.specs.declared.operation.Step.{Step};
 ghost use Rattle.script_lang.specs.declared.session.Session.{Session as SessionValue};
 ghost use Rattle.script_plans.specs.declared.board_run.BoardRun.{BoardRun as BoardRunValue};

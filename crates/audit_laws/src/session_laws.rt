@@ -3,7 +3,7 @@
 
 ghost use Rattle.std.specs.Prelude.{ℕ, List, ◌<◌, ◌^◌, length};
 ghost use Rattle.std.specs.List.{AllByRecursion};
-ghost use Rattle.board_node.specs.OpeningWords.{OpensOnWords};
+ghost use Rattle.board_specs.specs.OpeningWords.{OpensOnWords};
 ghost use Rattle.script_steps.specs.declared.operation.Step.{Step};
 ghost use Rattle.script_lang.specs.declared.session.Session.{Session as SessionValue};
 ghost use Rattle.session_input.specs.Deserved.{IsRunnable};

@@ -1,7 +1,7 @@
 //! A law of the audits of what `run` prints. This function does nothing when it runs: its clause is what is proved.
 
 ghost use Rattle.std.specs.Prelude.{◌≡◌, ◌⊎◌, ℕ, List};
-ghost use Rattle.lane_history.specs.Links.{LinkReport};
+ghost use Rattle.board_history.specs.Links.{LinkReport};
 ghost use Rattle.run_audit.specs.declared.verdict.AuditWhy.TheVariants.{Partial};
 ghost use Rattle.run_audit.specs.declared.verdict.Verdict.TheVariants.{Yes, No};
 ghost use Rattle.run_command.specs.Headline.{IsTranscriptOf};

@@ -50,7 +50,7 @@ impl Bus {
         })
     }
 
-    /// The same bus in memory of its own.
+    /// A copy of the bus, which shares no memory with it. An error means that memory ran out.
     pub fn copy(&self, alloc: Global) -> Result<Bus, NoMemory>
         ensures { IfOk result (λ copied. copied ≡ self.now) }
     {

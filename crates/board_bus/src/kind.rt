@@ -6,7 +6,7 @@ use crate::BusFault;
 /// What may be done at the addresses of a range. Profile.
 #[derive(Clone, Copy, PartialEq, Eq)]
 pub enum RangeKind {
-    /// Read and written.
+    /// May be read and written.
     Rw,
     /// Read only: a write is refused with code 5.
     Ro,

@@ -91,7 +91,7 @@ impl Page {
         })
     }
 
-    /// The same page in memory of its own.
+    /// A copy of the page, which shares no memory with it.
     fn copy(&self, alloc: Global) -> Result<Page, NoMemory>
         ensures number { IfOk result (λ copied. copied.number ≡ self.now.number) }
         ensures words { IfOk result (λ copied. copied.words.items ≡ self.now.words.items) }
@@ -195,7 +195,7 @@ pub(crate) fn put_cell(
     Ok(())
 }
 
-/// The same pages in memory of their own.
+/// Copies of some pages, which share no memory with them.
 pub(crate) fn copies_of(alloc: Global, pages: &[Page]) -> Result<Vec<Page>, NoMemory>
     requires paged { IsPaged pages.now }
     ensures paged { IfOk result (λ copies. IsPaged copies.items) }

@@ -23,7 +23,7 @@ const ADDRESSES: u64 = 1 << 32;
 /// Consecutive addresses of one kind. Profile.
 #[derive(Drop, PartialEq, Eq)]
 pub struct Range {
-    /// The first address.
+    /// The address of the first word of the range.
     pub base: u32,
     /// How many addresses there are, each of one word.
     pub size: u32,
@@ -46,7 +46,7 @@ pub enum BusRefusal {
     TooLarge,
     /// A range starts with more words than it has addresses.
     InitLong,
-    /// Memory ran out.
+    /// Memory ran out while the bus was made.
     NoMemory,
 }
 
@@ -81,7 +81,7 @@ impl Range {
         u64::from(self.base) + u64::from(self.size)
     }
 
-    /// The same range in memory of its own.
+    /// A copy of the range, which shares no memory with it. An error means that memory ran out.
     pub fn copy(&self, alloc: Global) -> Result<Range, NoMemory>
         ensures { IfOk result (λ copied. copied ≡ self.now) }
     {

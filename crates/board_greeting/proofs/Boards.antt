@@ -10,25 +10,25 @@ use Rattle.ipb_base.specs.Word.{AreWords}
 use Rattle.board_bus.specs.declared.range.Range.{Range}
 use Rattle.board_bus.specs.Cells.{HoldsWords}
 use Rattle.board_bus.specs.Ranges.{opening_bus}
-use Rattle.board_node.specs.declared.spec.BoardSpec.{BoardSpec}
-use Rattle.board_node.specs.declared.spec.LinkSpec.{LinkSpec}
-use Rattle.board_node.specs.declared.spec.LinkSpec.TheVariants.{Sim, Udp}
+use Rattle.board_specs.specs.declared.spec.BoardSpec.{BoardSpec}
+use Rattle.board_specs.specs.declared.spec.LinkSpec.{LinkSpec}
+use Rattle.board_specs.specs.declared.spec.LinkSpec.TheVariants.{Sim, Udp}
 use Rattle.world_model.specs.Board.{Board, bodies_executed}
 use Rattle.world_model.specs.Settings.{AreLimits, Limits}
-use Rattle.world_core.specs.declared.link.Link.{Ghosts}
-use Rattle.world_core.specs.Receives.{first_status}
-use Rattle.world_core.specs.Telling.{IfTelling, Telling}
-use Rattle.board_node.specs.OpeningWords.{LinkNamesWords}
-use Rattle.lossy_network.specs.Racks.{telling_for}
+use Rattle.links.specs.declared.link.Link.{Ghosts}
+use Rattle.links.specs.Receives.{first_status}
+use Rattle.links.specs.Telling.{IfTelling, Telling}
+use Rattle.board_specs.specs.OpeningWords.{LinkNamesWords}
+use Rattle.links.specs.Racks.{telling_for}
 use Rattle.hub_lane.specs.declared.greeting.Greeted.{Greeted}
 use Rattle.hub_lane.specs.declared.greeting.Greeted.TheVariants.{Ready, Silent, Down, NoMemory}
 use Rattle.hub_lane.specs.Greeting.{CanBegin, IfDown, IfReady, IfSilent, StaysFresh, link_of}
 use Rattle.hub_lane.specs.Lanes.{IsGreeted, new_lane}
-use Rattle.lane_history.specs.Links.{IsBoardOf, IsUntouched, LinkReport, board_there}
+use Rattle.board_history.specs.Links.{IsBoardOf, IsUntouched, LinkReport, board_there}
 use Rattle.board_greeting.specs.Boards.{AreFreshLinks, AreReached, LeavesRoom, IsGreetedAs, IsReached}
 use Rattle.board_greeting.specs.Reports.{shown_by}
 use Rattle.board_greeting.specs.Links.{AreMadeFor, link_specs}
-use Rattle.lane_history.specs.Links.{CanBeMade}
+use Rattle.board_history.specs.Links.{CanBeMade}
 
 abbrev pub WordsLaw : Type 0
 WordsLaw = (ranges : List Range) → AllByRecursion (λ (range : Range). AreWords range.init) ranges

@@ -8,18 +8,18 @@ use Rattle.board_bus.specs.Cells.{CellMap}
 use Rattle.board_bus.specs.Ranges.{opening_bus}
 use Rattle.world_model.specs.Board.{Board}
 use Rattle.world_model.specs.Hub.{Hub}
-use Rattle.world_core.specs.Telling.{Telling}
+use Rattle.links.specs.Telling.{Telling}
 use Rattle.world_model.specs.Settings.{Limits}
-use Rattle.board_node.specs.declared.spec.BoardSpec.{BoardSpec}
-use Rattle.board_node.specs.declared.spec.LinkSpec.{LinkSpec}
-use Rattle.board_node.specs.declared.spec.LinkSpec.TheVariants.{Sim, Udp}
+use Rattle.board_specs.specs.declared.spec.BoardSpec.{BoardSpec}
+use Rattle.board_specs.specs.declared.spec.LinkSpec.{LinkSpec}
+use Rattle.board_specs.specs.declared.spec.LinkSpec.TheVariants.{Sim, Udp}
 use Rattle.lane_record.specs.declared.outcome.Outcome.{Outcome}
 use Rattle.lane_record.specs.declared.item.Item.{Item}
 use Rattle.lane_record.specs.Bounds.{HasReached}
 use Rattle.lane_record.specs.Coding.{Head}
-use Rattle.lane_history.specs.Links.{IsBoardOf, LinkReport, board_there}
-use Rattle.lane_history.specs.Lanes.{IsSoundLane}
-use Rattle.lane_history.specs.Runs.{TellsPayload}
+use Rattle.board_history.specs.Links.{IsBoardOf, LinkReport, board_there}
+use Rattle.board_history.specs.Lanes.{IsSoundLane}
+use Rattle.board_history.specs.LinkRuns.{TellsPayload}
 use Rattle.board_history.specs.Runs.{opens_with}
 use Rattle.board_greeting.specs.Reports.{OpenedWith}
 use Rattle.hub_lane.specs.Heard.{HasHeard, HasListened}

@@ -14,8 +14,8 @@ use Rattle.world_model.specs.Places.{at_place}
 use Rattle.world_model.specs.Facts.{bodies_of}
 use Rattle.world_model.specs.Hub.{Hub}
 use Rattle.world_model.specs.Settings.{Limits}
-use Rattle.world_core.specs.Receives.{IsReplyAmong, first_status, quiets_in, since_status}
-use Rattle.world_core.specs.Telling.{Telling}
+use Rattle.links.specs.Receives.{IsReplyAmong, first_status, quiets_in, since_status}
+use Rattle.links.specs.Telling.{Telling}
 use Rattle.lane_record.specs.declared.outcome.Outcome.{Outcome}
 use Rattle.lane_record.specs.declared.outcome.Outcome.TheVariants.{Replied, TimedOut, Unsent, LinkLost}
 use Rattle.lane_record.specs.declared.item.Item.{Item}
@@ -29,12 +29,12 @@ use Rattle.hub_lane.specs.Lanes.{BoardStatus, IsLane}
 use Rattle.hub_lane.specs.Standing.{IsStanding}
 use Rattle.hub_lane.specs.Truth.{AreRightReplies, HasEachLate, IsTrueTo}
 use Rattle.board_history.specs.Parts.{IsReplyOf}
-use Rattle.lane_history.specs.Records.{has_become}
-use Rattle.lane_history.proofs.Merges.{sent_offered}
-use Rattle.lane_history.proofs.Waits.{count_cons}
-use Rattle.lane_history.specs.Lanes.{IsLateAsHanded, IsSoundLane, IsTrueOf, bodies_offered}
-use Rattle.lane_history.specs.Links.{LinkReport, board_there}
-use Rattle.lane_history.specs.Receives.{HasBroughtReply}
+use Rattle.board_history.specs.Records.{has_become}
+use Rattle.board_history.proofs.Merges.{sent_offered}
+use Rattle.board_history.proofs.Waits.{count_cons}
+use Rattle.board_history.specs.Lanes.{IsLateAsHanded, IsSoundLane, IsTrueOf, bodies_offered}
+use Rattle.board_history.specs.Links.{LinkReport, board_there}
+use Rattle.board_history.specs.Receives.{HasBroughtReply}
 use Rattle.board_greeting.specs.Reports.{OpenedWith}
 
 abbrev pub TrueLaw : Type 0

@@ -1,10 +1,10 @@
 -- Boards at their greeting, and what is known of each by it. Profile.
 use Rattle.std.specs.Prelude.{◌≡◌, ◌⊎◌, ℕ, ◌+◌, ◌≤◌, List, [], ◌∷◌, length, Option, Some, None, IfSome}
 use Rattle.ipb_base.specs.Numbers.{payload_of}
-use Rattle.world_core.specs.Telling.{Telling}
-use Rattle.lossy_network.specs.declared.rack.Rack.{Ghosts as RackGhosts}
+use Rattle.links.specs.Telling.{Telling}
+use Rattle.links.specs.declared.rack.Rack.{Ghosts as RackGhosts}
 use Rattle.world_model.specs.Settings.{Limits}
-use Rattle.board_node.specs.declared.spec.BoardSpec.{BoardSpec}
+use Rattle.board_specs.specs.declared.spec.BoardSpec.{BoardSpec}
 use Rattle.lane_record.specs.Coding.{Head}
 use Rattle.hub_lane.specs.Records.{head_of}
 use Rattle.hub_lane.specs.declared.greeting.Greeted.{Greeted}
@@ -14,12 +14,12 @@ use Rattle.script_plans.specs.declared.greeting.Greeting.{Greeting}
 use Rattle.script_plans.specs.declared.greeting.Greeting.TheVariants as greeting
 use Rattle.board_bus.specs.Cells.{CellMap}
 use Rattle.board_bus.specs.Ranges.{opening_bus}
-use Rattle.board_node.specs.declared.spec.LinkSpec.{LinkSpec}
-use Rattle.board_node.specs.declared.spec.LinkSpec.TheVariants.{Sim, Udp}
+use Rattle.board_specs.specs.declared.spec.LinkSpec.{LinkSpec}
+use Rattle.board_specs.specs.declared.spec.LinkSpec.TheVariants.{Sim, Udp}
 use Rattle.hub_lane.specs.Lanes.{BoardStatus, IsGreeted, LaneState, new_lane, opening_of}
-use Rattle.lane_history.specs.Links.{IsBoardOf, IsUntouched, LinkReport, board_there}
-use Rattle.lane_history.specs.Lanes.{IsSoundLane}
-use Rattle.lane_history.specs.Runs.{IsDownRun, IsSilentRun, TellsPayload}
+use Rattle.board_history.specs.Links.{IsBoardOf, IsUntouched, LinkReport, board_there}
+use Rattle.board_history.specs.Lanes.{IsSoundLane}
+use Rattle.board_history.specs.LinkRuns.{IsDownRun, IsSilentRun, TellsPayload}
 use Rattle.board_history.specs.Runs.{opens_with}
 
 -- a lane before its first entry, over a link that tells this

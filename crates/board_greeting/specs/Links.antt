@@ -1,13 +1,13 @@
 -- The links of boards, made by a rack and given back to it. Profile.
 use Rattle.std.specs.Prelude.{◌≡◌, ℕ, List, ◌++◌, length, map}
 use Rattle.ipb_base.specs.Lists.{IsPrefix}
-use Rattle.world_core.specs.declared.link.Link.{Ghosts as LinkGhosts}
-use Rattle.lossy_network.specs.declared.rack.Rack.{Ghosts as RackGhosts}
+use Rattle.links.specs.declared.link.Link.{Ghosts as LinkGhosts}
+use Rattle.links.specs.declared.rack.Rack.{Ghosts as RackGhosts}
 use Rattle.board_greeting.specs.Reports.{shown_by}
-use Rattle.board_node.specs.declared.spec.BoardSpec.{BoardSpec}
-use Rattle.board_node.specs.declared.spec.LinkSpec.{LinkSpec}
-use Rattle.board_node.specs.OpeningWords.{OpensOnWords}
-use Rattle.lane_history.specs.Links.{CanBeMade, LinkReport}
+use Rattle.board_specs.specs.declared.spec.BoardSpec.{BoardSpec}
+use Rattle.board_specs.specs.declared.spec.LinkSpec.{LinkSpec}
+use Rattle.board_specs.specs.OpeningWords.{OpensOnWords}
+use Rattle.board_history.specs.Links.{CanBeMade, LinkReport}
 
 -- These links were given back to the rack behind those that were kept before, in this order, and so much holds of what
 -- they show.

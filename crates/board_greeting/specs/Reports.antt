@@ -1,9 +1,9 @@
 -- What a link shows of itself, as the history of its board takes it. Profile.
 use Rattle.std.specs.Prelude.{◌≡◌}
 use Rattle.board_bus.specs.Cells.{CellMap}
-use Rattle.world_core.specs.Telling.{Telling}
-use Rattle.world_core.specs.declared.link.Link.{Ghosts}
-use Rattle.lane_history.specs.Links.{LinkReport}
+use Rattle.links.specs.Telling.{Telling}
+use Rattle.links.specs.declared.link.Link.{Ghosts}
+use Rattle.board_history.specs.Links.{LinkReport}
 
 -- what a link shows, by what contracts see of it: its four counts, what its receives came to, and what it tells
 abbrev pub shown_by : {L : Type 0} → Ghosts L → L → LinkReport

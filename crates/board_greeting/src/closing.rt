@@ -2,13 +2,13 @@
 
 ghost use Rattle.std.specs.Prelude.{◌≡◌};
 ghost use Rattle.world_model.specs.Settings.{Limits};
-ghost use Rattle.board_node.specs.declared.spec.BoardSpec.{BoardSpec};
+ghost use Rattle.board_specs.specs.declared.spec.BoardSpec.{BoardSpec};
 ghost use Rattle.board_greeting.specs.Boards.{IsEndedLane, IsLaneTo};
 ghost use Rattle.board_greeting.specs.Reports.{shown_by};
 
 use crate::sound_lanes::a_lane_is_a_sound_one;
 use hub_lane::Lane;
-use world_core::Link;
+use links::Link;
 
 /// Ends a lane: its link. What the lane kept, and what the link shows, is all that the history of its board rests on.
 pub fn close_lane<L: Link>(lane: Lane<L>) -> L

@@ -4,19 +4,18 @@ ghost use Rattle.std.specs.Prelude.{◌≡◌, ◌≤◌, ◌<◌, ◌+◌, ◌+
 ghost use Rattle.std.specs.List.{AllByRecursion};
 ghost use Rattle.std.specs.Vec.{vec_capacity, vec_len};
 ghost use Rattle.ipb_outside.specs.Faults.{RisesExactlyIf};
-ghost use Rattle.lossy_network.specs.Racks.{made_after};
+ghost use Rattle.links.specs.Racks.{made_after};
 ghost use Rattle.hub_lane.specs.Greeting.{link_of};
 ghost use Rattle.board_greeting.specs.Boards.{AreFreshLinks, AreReached, HasMemory, HasRoom, IsReached};
 ghost use Rattle.board_greeting.specs.Reports.{shown_by};
 ghost use Rattle.board_greeting.specs.Links.{AreMadeFor, CanBeReached, Keeps};
 
 use board_bus::laws::words_stay_words;
-use board_node::BoardSpec;
+use board_specs::BoardSpec;
 use hub_lane::{Greeted, Lane};
-use lossy_network::{Rack, RackFault};
+use links::{Link, Rack, RackFault};
 use reliable_engine::Settings;
 use std::alloc::Global;
-use world_core::Link;
 
 /// The link of a board that was greeted, given back.
 pub fn into_link<L: Link>(board: Greeted<L>) -> L
@@ -63,7 +62,7 @@ fn greet_board<R: Rack>(
 }
 
 /// Whether memory ran out at the greeting.
-fn is_out_of_memory<L: Link>(board: &Greeted<L>) -> bool
+pub fn is_out_of_memory<L: Link>(board: &Greeted<L>) -> bool
     ensures { result ≡ false → HasMemory board.now }
 {
     matches!(board, Greeted::NoMemory { .. })

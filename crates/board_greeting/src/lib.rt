@@ -12,6 +12,6 @@ pub mod sound_lanes;
 mod split;
 
 pub use closing::close_lane;
-pub use greeting::{greet_boards, into_link, keep_all};
+pub use greeting::{greet_boards, into_link, is_out_of_memory, keep_all};
 pub use rejoined::{Board, Rejoined};
 pub use split::{Place, Split, split_boards};

@@ -5,10 +5,10 @@ ghost use Rattle.board_greeting.specs.Places as spec;
 
 use crate::split::Place;
 use hub_lane::Lane;
+use links::Link;
 use script_plans::Greeting;
 use std::marker::Model;
 use std::vec::IntoIter;
-use world_core::Link;
 
 /// A board after its clients ran, or were held up.
 #[derive(Drop)]
@@ -53,7 +53,7 @@ impl<L: Link, C> Rejoined<L, C> {
         }
     }
 
-    /// The next board.
+    /// Takes the next board, in board order.
     pub fn next(&mut self) -> Board<L, C>
         requires { 0 < length self.old }
         ensures { self.old ≡ result ∷ self.new }

@@ -11,8 +11,8 @@ ghost use Rattle.lane_record.specs.declared.item.Item.{Item};
 ghost use Rattle.lane_record.specs.Bounds.{HasReached};
 ghost use Rattle.hub_lane.specs.Heard.{HasHeard, HasListened};
 ghost use Rattle.hub_lane.specs.Lanes.{BoardStatus, IsLane};
-ghost use Rattle.lane_history.specs.Lanes.{IsSoundLane};
-ghost use Rattle.lane_history.specs.Links.{LinkReport};
+ghost use Rattle.board_history.specs.Lanes.{IsSoundLane};
+ghost use Rattle.board_history.specs.Links.{LinkReport};
 ghost use Rattle.board_greeting.specs.Reports.{OpenedWith};
 
 use hub_lane::laws::{a_lane_over_a_link_that_tells_is_true, a_timed_out_body_has_its_late_answer};

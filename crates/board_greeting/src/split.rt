@@ -7,14 +7,14 @@ ghost use Rattle.board_greeting.specs.Boards.{HasMemory};
 ghost use Rattle.board_greeting.specs.Places.{HasRoomForBoards, IsApart, lane_in, place_of, position_in};
 
 use hub_lane::{Greeted, Lane};
+use links::Link;
 use script_plans::Greeting;
 use std::alloc::Global;
-use world_core::Link;
 
 /// What stays in the place of a board while its lane is at a hub.
 #[derive(Drop)]
 pub enum Place<L> {
-    /// It is live.
+    /// The board is live: it told its status at its greeting.
     Live,
     /// It is not: this is what its greeting came to, and its link.
     Idle { greeting: Greeting, link: L },

@@ -4,11 +4,11 @@ use Rattle.std.specs.List.{AllByRecursion, cons_option}
 use Rattle.ipb_base.specs.Numbers.{payload_of}
 use Rattle.board_bus.proofs.Openings.{opening-words}
 use Rattle.board_bus.specs.Cells.{HoldsWords}
-use Rattle.board_node.specs.declared.spec.BoardSpec.{BoardSpec}
-use Rattle.board_node.specs.declared.spec.LinkSpec.{LinkSpec}
-use Rattle.board_node.specs.declared.spec.LinkSpec.TheVariants.{Sim, Udp}
+use Rattle.board_specs.specs.declared.spec.BoardSpec.{BoardSpec}
+use Rattle.board_specs.specs.declared.spec.LinkSpec.{LinkSpec}
+use Rattle.board_specs.specs.declared.spec.LinkSpec.TheVariants.{Sim, Udp}
 use Rattle.mtu_packer.specs.Packed.{IsPacked, packed_contents}
-use Rattle.board_node.specs.OpeningWords.{OpensOnWords, LinkNamesWords}
+use Rattle.board_specs.specs.OpeningWords.{OpensOnWords, LinkNamesWords}
 use Rattle.script_steps.specs.Executable.{FitsVerb, AreExecutable}
 use Rattle.script_steps.specs.declared.operation.RegOp.{RegOp}
 use Rattle.script_steps.specs.declared.operation.Step.{Step}

@@ -5,7 +5,7 @@ use Rattle.std.specs.List.{flat_map, fold}
 use Rattle.std.proofs.lemmas.List.{length-take-le, length-drop}
 use Rattle.mtu_packer.specs.Packed.{Contents, deal}
 use Rattle.mtu_packer.proofs.Dealing.{joined_deal}
-use Rattle.board_node.specs.declared.spec.BoardSpec.{BoardSpec}
+use Rattle.board_specs.specs.declared.spec.BoardSpec.{BoardSpec}
 use Rattle.script_steps.specs.declared.operation.Step.{Step}
 use Rattle.lane_record.specs.declared.outcome.Outcome.{Outcome}
 use Rattle.script_plans.specs.declared.greeting.Greeting.{Greeting}

@@ -5,7 +5,7 @@ use Rattle.ipb_base.proofs.AllLemmas.{AllByRecursion-append}
 use Rattle.transaction_codec.specs.declared.request.Op.{Op}
 use Rattle.transaction_codec.specs.Request.{SpellsRequests}
 use Rattle.mtu_packer.specs.Packed.{Contents, IsPacked, packed_contents}
-use Rattle.board_node.specs.declared.spec.BoardSpec.{BoardSpec}
+use Rattle.board_specs.specs.declared.spec.BoardSpec.{BoardSpec}
 use Rattle.script_steps.specs.declared.operation.RegOp.{RegOp}
 use Rattle.script_steps.specs.declared.operation.Step.{Step}
 use Rattle.script_plans.specs.declared.greeting.Greeting.{Greeting}

@@ -2,7 +2,7 @@
 use Rattle.std.specs.Prelude.{◌≡◌, ℕ, List, Some}
 use Rattle.std.specs.List.{AllByRecursion}
 use Rattle.board_bus.specs.Cells.{HoldsWords}
-use Rattle.board_node.specs.declared.spec.BoardSpec.{BoardSpec}
+use Rattle.board_specs.specs.declared.spec.BoardSpec.{BoardSpec}
 use Rattle.reply_join.specs.declared.answer.Answer.{Answer}
 use Rattle.transcript.specs.declared.body_end.Told.TheVariants.{Answered}
 use Rattle.transcript.specs.declared.body_end.BodyEnd.{BodyEnd}

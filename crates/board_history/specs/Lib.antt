@@ -9,3 +9,10 @@ pub mod Runs
 pub mod Answering
 pub mod Shape
 pub mod Lines
+pub mod Links
+pub mod Receives
+pub mod LaneExamples
+pub mod Lates
+pub mod LinkRuns
+pub mod Records
+pub mod Lanes

@@ -3,9 +3,9 @@
 
 ghost use Rattle.std.specs.Prelude.{◌≡◌, ℕ, List};
 ghost use Rattle.std.specs.List.{AllByRecursion, flat_map};
-ghost use Rattle.board_node.specs.declared.spec.BoardSpec.{BoardSpec};
+ghost use Rattle.board_specs.specs.declared.spec.BoardSpec.{BoardSpec};
 ghost use Rattle.script_steps.specs.declared.operation.Step.{Step};
-ghost use Rattle.board_node.specs.OpeningWords.{OpensOnWords};
+ghost use Rattle.board_specs.specs.OpeningWords.{OpensOnWords};
 ghost use Rattle.script_steps.specs.Executable.{AreExecutable};
 ghost use Rattle.script_plans.specs.declared.board_run.BoardRun.{BoardRun};
 ghost use Rattle.board_history.specs.Order.{bodies_in, order};

@@ -5,7 +5,7 @@ use Rattle.std.proofs.lemmas.Bool.{eq-eqb}
 use Rattle.std.proofs.lemmas.List.{drop_all, drop_more}
 use Rattle.packet_codec.specs.declared.packet.Packet.{Packet}
 use Rattle.world_model.specs.Board.{with_id}
-use Rattle.board_node.proofs.Lists.{differ}
+use Rattle.world_model.proofs.Lists.{differ}
 
 -- what is left from the place of an item on begins with it
 at_item : (id : ℕ) (packets : List Packet) (at : ℕ) (packet : Packet) → at < length packets

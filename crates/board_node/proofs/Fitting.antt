@@ -22,7 +22,7 @@ use Rattle.world_model.specs.Board.{tell_status, with_id}
 use Rattle.board_node.specs.Answers.{answer_bytes}
 use Rattle.board_node.specs.View.{FitsMtu}
 use Rattle.board_node.proofs.Logs.{fits}
-use Rattle.board_node.proofs.Steps.{either}
+use Rattle.world_model.proofs.Lists.{either}
 
 word_length : (order : Order) (word : ℕ) → length (word_in_order order word) ≡ 4
 word_length Big word = refl

@@ -2,8 +2,5 @@ mod Lists
 mod Finding
 mod Logs
 mod Reading
-mod Steps
-mod Turns
-mod Held
 mod Fitting
 mod Rings

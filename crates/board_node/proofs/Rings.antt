@@ -10,8 +10,10 @@ use Rattle.board_bus.specs.Bodies.{run_body}
 use Rattle.world_model.specs.declared.heard.LogEntry.{LogEntry}
 use Rattle.world_model.specs.Messages.{control_packet}
 use Rattle.world_model.specs.Board.{Board, expected_identifier, held_replies, last_of, numbered_replies, present_bus, replies, with_id}
-use Rattle.board_node.specs.View.{if_numbered, keeping}
-use Rattle.board_node.proofs.Logs.{all_past, kept_grows, with_entry}
+use Rattle.world_model.specs.Hearings.{if_numbered}
+use Rattle.board_node.specs.View.{keeping}
+use Rattle.world_model.proofs.BoardLogs.{kept_grows, with_entry}
+use Rattle.board_node.proofs.Logs.{all_past}
 
 -- The last items of a list with one item more are the last ones of its last items with that one.
 last_again : {A : Type 0} (most : ℕ) (xs : List A) (x : A)

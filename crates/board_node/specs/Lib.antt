@@ -1,5 +1,3 @@
 pub mod Answers
 pub mod Log
-pub mod Hearings
 pub mod View
-pub mod OpeningWords

@@ -1,5 +1,5 @@
 -- How the code keeps a board. The private functions speak of it and no public clause does.
-use Rattle.std.specs.Prelude.{◌≡◌, ℕ, ◌+◌, ◌≤◌, Bool, if◌then◌else◌, List, [], ◌∷◌, ◌++◌, length, Option, Some, None}
+use Rattle.std.specs.Prelude.{◌≡◌, ℕ, ◌+◌, ◌≤◌, Bool, if◌then◌else◌, [], ◌∷◌, ◌++◌, length, Option, Some, None}
 use Rattle.std.specs.List.{AllByRecursion}
 use denote.Bor.{Bor}
 use Rattle.circular_buffer.specs.Buffer.{Buffer, buffer, keep_last}
@@ -33,10 +33,6 @@ pub record IsCurrent (b : Inside) : Type 0 where
   pub kept : b.held ≡ buffer (held_replies (board_of b)) b.buffers
   pub fit : AllByRecursion (FitsMtu b.mtu) b.held.items
   pub logged : AllByRecursion (IsLoggable b.mtu) b.log.items
-
--- a packet that is kept where it was numbered
-abbrev pub if_numbered : Bool → Packet → List Packet
-if_numbered numbered packet = if numbered then packet ∷ [] else []
 
 -- a ring after a packet that is kept where it was numbered
 abbrev pub keeping : Buffer Packet → Bool → Packet → Buffer Packet

@@ -8,7 +8,7 @@ ghost use Rattle.world_model.specs.declared.heard.Heard.TheVariants.{Replied, Re
 ghost use Rattle.world_model.specs.declared.heard.DropCause.TheVariants.{NotPacket, TooLong, OtherId, NotHeld};
 ghost use Rattle.world_model.specs.Board.{expected_identifier, hear};
 ghost use Rattle.world_model.specs.Examples.{board_with};
-ghost use Rattle.board_node.specs.Hearings.{after, heard_of};
+ghost use Rattle.world_model.specs.Hearings.{after, heard_of};
 
 /// A read of the word at address 4 is answered in the byte order in which it was asked.
 pub fn a_read_is_answered_in_its_order()

@@ -38,7 +38,7 @@ impl Bytes {
         items
     }
 
-    /// The bytes.
+    /// The bytes of the datagram, in order.
     pub fn as_slice(&self) -> &[u8]
         ensures { result.now ≡ self.now }
     {

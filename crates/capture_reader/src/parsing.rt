@@ -71,7 +71,7 @@ pub(crate) fn read_count(text: &[u8]) -> Option<(u32, &[u8])>
     read_number(rest)
 }
 
-/// Reads a verb.
+/// Reads the verb at the front of a line, and what stands behind it.
 #[tactic(auto, unfolding(crate::specs::Parsing::verb_at))]
 fn read_verb(text: &[u8]) -> Option<(u8, &[u8])>
     ensures known { IfSome result (λ read. read.0 < 2 ^ 4) }

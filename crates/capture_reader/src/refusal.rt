@@ -38,7 +38,7 @@ impl Error for CaptureWhy {}
 pub enum CaptureRefusal {
     /// The first faulty line, counted from 1.
     At { line: u64, why: CaptureWhy },
-    /// Memory ran out.
+    /// Memory ran out while the text was read.
     NoMemory,
 }
 
@@ -82,7 +82,7 @@ impl<T: Drop> From<AllocFailed<T>> for CaptureRefusal {
 pub enum UndescribeRefusal {
     /// No capture has this description.
     NotDescription,
-    /// Memory ran out.
+    /// Memory ran out while the text was read.
     NoMemory,
 }
 
@@ -102,7 +102,7 @@ impl Error for UndescribeRefusal {}
 pub(crate) enum Unread {
     /// Something else stands there.
     Other,
-    /// Memory ran out.
+    /// Memory ran out while the text was read.
     NoMemory,
 }
 

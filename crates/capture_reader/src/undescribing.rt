@@ -184,7 +184,7 @@ fn is_short(bytes: &[u8]) -> bool
     bytes.len() <= MAX_DATAGRAM
 }
 
-/// Reads a datagram.
+/// Reads the description of one datagram, and what stands behind it.
 #[tactic(auto, unfolding(crate::specs::Parsing::datagram_of))]
 fn read_datagram(alloc: Global, text: &[u8]) -> Result<FirstItem<'_>, Unread>
     ensures item { IfOk result (λ first. IsItem first.item) }

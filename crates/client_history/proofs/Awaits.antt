@@ -10,8 +10,8 @@ use Rattle.lane_record.specs.Dispatches.{all_plans_from, entries_by, plans_from}
 use Rattle.lane_record.specs.NextEntry.{the_seal}
 use Rattle.client_threads.specs.declared.plan.ClientPlan.{ClientPlan}
 use Rattle.client_threads.specs.Clients.{AreOfClientsFrom, HoldsPlans, counts_on}
-use Rattle.lane_history.proofs.Opening.{no_plans, own_opening}
-use Rattle.lane_history.proofs.Own.{by_append}
+use Rattle.board_history.proofs.Opening.{no_plans, own_opening}
+use Rattle.board_history.proofs.Own.{by_append}
 use Rattle.client_history.specs.Clients.{AskAll, came_with, sealed_plans}
 use Rattle.client_history.proofs.Handed.{made_recorded}
 

@@ -18,7 +18,7 @@ use Rattle.lane_record.specs.Submissions.{Submission, submissions_from}
 use Rattle.hub_multiplexer.specs.Ends.{Ends}
 use Rattle.client_history.specs.Clients.{came_with}
 use Rattle.client_history.proofs.Handed.{StandsIn, handed, numbers_of}
-use Rattle.lane_history.proofs.Own as own_entries_of
+use Rattle.board_history.proofs.Own as own_entries_of
 use Rattle.client_history.specs.Connections.{AllSubmitted, WereServedOn}
 use Rattle.client_history.specs.Planned.{IsAmongSubmitted, words_in}
 use Rattle.client_history.proofs.Leaving.{own_entries}

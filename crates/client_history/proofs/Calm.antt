@@ -1,7 +1,7 @@
 -- Where nothing was held and nothing failed, every body was replied to.
 use Rattle.std.proofs.Common.{◌≡◌, ℕ, ◌≤◌, List, map, subst, sym, arith}
 use Rattle.std.specs.List.{AllByRecursion}
-use Rattle.board_node.specs.declared.spec.BoardSpec.{BoardSpec}
+use Rattle.board_specs.specs.declared.spec.BoardSpec.{BoardSpec}
 use Rattle.world_model.specs.Settings.{Limits}
 use Rattle.lane_record.specs.Dispatches.{outcomes_in_order}
 use Rattle.lane_record.specs.Submissions.{Submission}
@@ -11,15 +11,15 @@ use Rattle.board_history.specs.GiveUps.{GaveUpOnlyAfter}
 use Rattle.board_history.specs.History.{dispatches_by_client, outcomes_by_client}
 use Rattle.board_history.specs.Parts.{AllReplied, IsReplied}
 use Rattle.board_history.specs.Runs.{greeting_of, opens_with}
-use Rattle.lane_history.specs.Links.{IsBoardOf, IsFaithful, LinkReport, board_there}
-use Rattle.lane_history.specs.Runs.{IsAsTold, IsLiveRun, IsTrueRun}
-use Rattle.lane_history.proofs.Calm.{IsNotLost, all_calm}
-use Rattle.lane_history.proofs.Shown.{at_some, not_lost, told_greeting}
+use Rattle.board_history.specs.Links.{IsBoardOf, IsFaithful, LinkReport, board_there}
+use Rattle.board_history.specs.LinkRuns.{IsAsTold, IsLiveRun, IsTrueRun}
+use Rattle.board_history.proofs.Calm.{IsNotLost, all_calm}
+use Rattle.board_history.proofs.LaneShown.{at_some, not_lost, told_greeting}
 use Rattle.client_history.specs.Boards.{IsServedOver, ServedBoard, run_of}
 use Rattle.client_history.specs.Shown.{OfEach}
 use Rattle.client_history.proofs.Lines.{of_each}
 use Rattle.client_history.proofs.Parts.{same_joined}
-use Rattle.lane_history.proofs.Told.{if_told}
+use Rattle.board_history.proofs.Told.{if_told}
 
 abbrev pub EachIsReplied : List (List Submission) → Type 0
 EachIsReplied connections = OfEach (λ (s : Submission). IsReplied s.outcome) connections

@@ -17,7 +17,7 @@ use Rattle.hub_multiplexer.specs.Ends.{Ends}
 use Rattle.client_threads.specs.declared.plan.ClientPlan.{ClientPlan}
 use Rattle.client_threads.specs.declared.result.ClientResult.{ClientResult}
 use Rattle.client_threads.specs.Clients.{AreOfClientsFrom, DidPlans, HaveRunOn, counts_on}
-use Rattle.lane_history.specs.Records.{DidDispatches, IsOfClient}
+use Rattle.board_history.specs.Records.{DidDispatches, IsOfClient}
 use Rattle.client_history.specs.Clients.{AskAll, LeftByClients, came_with, sealed_plans}
 use Rattle.client_history.proofs.Handed.{StandsIn, handed, made_recorded, numbers_of, of_contained, one_list}
 

@@ -16,7 +16,7 @@ use Rattle.lane_record.specs.Dispatches.{dispatches_from, entries_by, outcomes_i
 use Rattle.lane_record.specs.Submissions.{Submission, submissions_from}
 use Rattle.lane_record.proofs.Coding.{read_item}
 use Rattle.hub_multiplexer.specs.Ends.{Ends}
-use Rattle.lane_history.specs.Records.{HasLeft, HaveLeft, IsRecordOf, beside_plans, planned_in}
+use Rattle.board_history.specs.Records.{HasLeft, HaveLeft, IsRecordOf, beside_plans, planned_in}
 use Rattle.client_history.specs.Clients.{came_with}
 use Rattle.client_history.proofs.Handed.{StandsIn, handed, made_recorded, numbers_of, of_contained}
 use Rattle.client_history.specs.Connections.{AllSubmitted, WereServedOn, submitted_bodies, dispatches_of}

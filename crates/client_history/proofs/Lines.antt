@@ -4,7 +4,7 @@ use Rattle.std.proofs.Common.{Some, None, refl, sym, ap, subst, ◌∙◌, arith
 use Rattle.std.specs.List.{AllByRecursion, count_by, flat_map}
 use Rattle.ipb_base.proofs.AllLemmas.{AllByRecursion-append}
 use Rattle.world_model.specs.Board.{Board, bodies_executed}
-use Rattle.board_node.specs.declared.spec.BoardSpec.{BoardSpec}
+use Rattle.board_specs.specs.declared.spec.BoardSpec.{BoardSpec}
 use Rattle.world_model.specs.Settings.{Limits}
 use Rattle.lane_record.specs.declared.outcome.Outcome.{Outcome}
 use Rattle.lane_record.specs.declared.outcome.Outcome.TheVariants.{Replied, TimedOut, Unsent, LinkLost}
@@ -19,19 +19,19 @@ use Rattle.script_plans.specs.Runs.{outcomes_on}
 use Rattle.board_history.specs.GiveUps.{IsExact, time_outs, times_given_up, was_given_up}
 use Rattle.board_history.specs.History.{dispatches_by_client}
 use Rattle.board_history.specs.Runs.{opens_with}
-use Rattle.lane_history.specs.Links.{HasFailed, IsLostOnlyIfFailed, LinkReport, board_there}
-use Rattle.lane_history.specs.Receives.{IsReplyBrought, quiets_since_status}
-use Rattle.lane_history.specs.Runs.{IsAsTold, IsTrueRun, RepliesCame, TimeOutsWaited}
-use Rattle.lane_history.proofs.BoardLines.{line_at, line_heard, line_waited}
-use Rattle.lane_history.proofs.Shown.{some_then}
-use Rattle.lane_history.proofs.Waits.{count_cons}
+use Rattle.board_history.specs.Links.{HasFailed, IsLostOnlyIfFailed, LinkReport, board_there}
+use Rattle.board_history.specs.Receives.{IsReplyBrought, quiets_since_status}
+use Rattle.board_history.specs.LinkRuns.{IsAsTold, IsTrueRun, RepliesCame, TimeOutsWaited}
+use Rattle.board_history.proofs.BoardLines.{line_at, line_heard, line_waited}
+use Rattle.board_history.proofs.LaneShown.{some_then}
+use Rattle.board_history.proofs.Waits.{count_cons}
 use Rattle.client_history.specs.Connections.{dispatches_of, outcomes_of}
 use Rattle.client_history.specs.Boards.{IsAskedOnlyIfLive, IsServedOver, ServedBoard, run_of}
 use Rattle.client_history.specs.Shown.{GaveUpOnlyAfterRounds, HasLostOnlyIfFailed, IsAddedUp, IsNotLostUnlessFailed}
 use Rattle.client_history.specs.Shown.{IsReplyCarried, OfEach, given_up}
 use Rattle.client_history.proofs.Parts.{all_outcomes, dispatches_shown, flat_again, one_dispatch_each, outcomes_shown}
 use Rattle.client_history.proofs.Parts.{same_dispatches}
-use Rattle.lane_history.proofs.Told.{of_telling}
+use Rattle.board_history.proofs.Told.{of_telling}
 
 -- ---- what a line counts
 

@@ -7,8 +7,8 @@ use Rattle.lane_record.specs.declared.outcome.Outcome.TheVariants.{Replied, Time
 use Rattle.lane_record.specs.Outcomes.{is_replied}
 use Rattle.hub_lane.specs.Calls as lane
 use Rattle.transcript.specs.Lines.{is_lost}
-use Rattle.lane_history.specs.Records.{has_become}
-use Rattle.lane_history.proofs.Waits.{count_cons}
+use Rattle.board_history.specs.Records.{has_become}
+use Rattle.board_history.proofs.Waits.{count_cons}
 
 -- tests that answer alike count alike
 pub same_count : {X : Type 0} (p q : X → Bool) (xs : List X) → ((x : X) → p x ≡ q x) → count_by p xs ≡ count_by q xs

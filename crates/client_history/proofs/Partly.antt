@@ -13,7 +13,7 @@ use Rattle.lane_record.specs.Items.{plan_in}
 use Rattle.hub_multiplexer.specs.Ends.{Ends}
 use Rattle.client_threads.specs.declared.plan.ClientPlan.{ClientPlan}
 use Rattle.client_threads.specs.Clients.{AreOfClientsFrom, HasNoPlan, HaveGoneOn}
-use Rattle.lane_history.specs.Records.{IsPartlyPlanned}
+use Rattle.board_history.specs.Records.{IsPartlyPlanned}
 use Rattle.client_history.specs.Clients.{came_with}
 use Rattle.client_history.proofs.Handed.{StandsIn, handed, made_recorded, numbers_of, of_contained, one_list}
 use Rattle.client_history.proofs.Did.{one_of_clients}

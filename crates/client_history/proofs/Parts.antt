@@ -10,8 +10,8 @@ use Rattle.mtu_packer.specs.Packed.{deal}
 use Rattle.script_plans.specs.declared.board_run.ClientPart.{ClientPart}
 use Rattle.script_plans.specs.Runs.{outcomes_in}
 use Rattle.board_history.specs.History as shown
-use Rattle.lane_history.specs.Lates.{AreLatesOf}
-use Rattle.lane_history.specs.Records.{IsRecordOf}
+use Rattle.board_history.specs.Lates.{AreLatesOf}
+use Rattle.board_history.specs.Records.{IsRecordOf}
 use Rattle.client_history.specs.Connections.{submitted_bodies, dispatches_of, outcomes_of}
 use Rattle.client_history.specs.Boards.{part_of}
 

@@ -2,7 +2,7 @@
 use Rattle.std.proofs.Common.{◌≡◌, ◌≢◌, ℕ, List, [], ◌∷◌, ◌++◌, Option, Some, None, refl, sym, ap, subst, ◌∙◌}
 use Rattle.std.specs.List.{AllByRecursion, cons_option, flat_map}
 use Rattle.std.proofs.lemmas.List.{map-append}
-use Rattle.board_node.specs.declared.spec.BoardSpec.{BoardSpec}
+use Rattle.board_specs.specs.declared.spec.BoardSpec.{BoardSpec}
 use Rattle.world_model.specs.Settings.{Limits}
 use Rattle.lane_record.specs.Outcomes.{place_of}
 use Rattle.lane_record.specs.Submissions.{Submission}
@@ -12,8 +12,8 @@ use Rattle.script_plans.specs.declared.greeting.Greeting.TheVariants.{Live, Sile
 use Rattle.board_history.specs.Order.{Placed, RisesFrom, all_placed, order, bodies_with_places, places_of, with_place}
 use Rattle.board_history.specs.Parts.{KeepsScripts}
 use Rattle.board_history.proofs.OwnPlaces.{AreApart, counting_apart, sorted_apart}
-use Rattle.lane_history.specs.Links.{LinkReport}
-use Rattle.lane_history.specs.Runs.{IsAsTold}
+use Rattle.board_history.specs.Links.{LinkReport}
+use Rattle.board_history.specs.LinkRuns.{IsAsTold}
 use Rattle.client_history.specs.Connections.{submitted_bodies, outcomes_of}
 use Rattle.client_history.specs.Boards.{IsAskedOnlyIfLive, IsServedOver, ServedBoard, run_of}
 use Rattle.client_history.specs.Shown.{PlacesDiffer, PlacesRise, places_in}

@@ -9,7 +9,7 @@ use Rattle.ipb_base.proofs.AllLemmas.{front_of_all, back_of_all}
 use Rattle.board_bus.specs.Cells.{CellMap}
 use Rattle.board_bus.specs.Bodies.{replay}
 use Rattle.board_bus.proofs.Bodies.{replay-append-replies, replay-length}
-use Rattle.board_node.specs.declared.spec.BoardSpec.{BoardSpec}
+use Rattle.board_specs.specs.declared.spec.BoardSpec.{BoardSpec}
 use Rattle.world_model.specs.Board.{Board, bodies_executed}
 use Rattle.world_model.specs.Places.{at_place}
 use Rattle.world_model.proofs.Lists.{at_seam}
@@ -29,10 +29,10 @@ use Rattle.board_history.specs.Order.{Placed, all_placed, bodies_in, order, bodi
 use Rattle.board_history.specs.Parts.{AreRepliesOf, HasOneOrder, IsExecuted, IsExecutedOnce, IsReplyOf}
 use Rattle.board_history.proofs.Sorting.{sorted_all}
 use Rattle.board_history.specs.Runs.{opens_with}
-use Rattle.lane_history.specs.Links.{IsUntouched, LinkReport, board_there}
-use Rattle.lane_history.specs.Runs.{IsAsTold, IsTrueRun}
-use Rattle.lane_history.proofs.BoardLines.{line_at}
-use Rattle.lane_history.proofs.Shown.{some_then}
+use Rattle.board_history.specs.Links.{IsUntouched, LinkReport, board_there}
+use Rattle.board_history.specs.LinkRuns.{IsAsTold, IsTrueRun}
+use Rattle.board_history.proofs.BoardLines.{line_at}
+use Rattle.board_history.proofs.LaneShown.{some_then}
 use Rattle.client_history.specs.Connections.{submitted_bodies, outcomes_of}
 use Rattle.client_history.specs.Boards.{IsAskedOnlyIfLive, IsServedOver, ServedBoard, run_of}
 use Rattle.client_history.specs.Shown.{IsRight, IsRightlyReplied, OfEach}

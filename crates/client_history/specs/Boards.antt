@@ -1,15 +1,15 @@
 -- What is shown of boards whose clients are connections. Profile.
 use Rattle.std.specs.Prelude.{◌≡◌, ℕ, List, [], ◌∷◌, map, Some}
 use Rattle.std.specs.List.{AllByRecursion, slice_get}
-use Rattle.board_node.specs.declared.spec.BoardSpec.{BoardSpec}
+use Rattle.board_specs.specs.declared.spec.BoardSpec.{BoardSpec}
 use Rattle.world_model.specs.Settings.{Limits}
 use Rattle.lane_record.specs.Submissions.{Submission}
 use Rattle.script_plans.specs.declared.greeting.Greeting.{Greeting}
 use Rattle.script_plans.specs.declared.greeting.Greeting.TheVariants.{Live, Silent, Down}
 use Rattle.script_plans.specs.declared.board_run.ClientPart.{ClientPart}
 use Rattle.script_plans.specs.declared.board_run.BoardRun.{BoardRun}
-use Rattle.lane_history.specs.Links.{IsBoardOf, LinkReport, board_there}
-use Rattle.lane_history.specs.Runs.{IsAsTold}
+use Rattle.board_history.specs.Links.{IsBoardOf, LinkReport, board_there}
+use Rattle.board_history.specs.LinkRuns.{IsAsTold}
 use Rattle.client_history.specs.Connections.{submitted_bodies, outcomes_of}
 
 -- A board after its connections were served: what greeting it told, and what each connection submitted to it, in the

@@ -10,7 +10,7 @@ use Rattle.lane_record.specs.NextEntry.{the_seal}
 use Rattle.client_threads.specs.declared.plan.ClientPlan.{ClientPlan}
 use Rattle.client_threads.specs.declared.result.ClientResult.{ClientResult}
 use Rattle.client_threads.specs.Clients.{counts_on}
-use Rattle.lane_history.specs.Records.{IsClientsRecord}
+use Rattle.board_history.specs.Records.{IsClientsRecord}
 
 -- the entries with which a lane comes to a hub: the Plans of all clients, from client 1 on, and the Seal
 abbrev pub sealed_plans : List (List (List ℕ)) → List Item

@@ -14,8 +14,8 @@ use Rattle.transcript.specs.declared.line.BoardLine.{BoardLine}
 use Rattle.transcript.specs.declared.line.BoardLine.TheVariants.{Live, Silent, Down}
 use Rattle.board_history.specs.Order.{RisesFrom}
 use Rattle.board_history.specs.GiveUps.{IsExact}
-use Rattle.lane_history.specs.Links.{HasFailed, IsLostOnlyIfFailed, LinkReport}
-use Rattle.lane_history.specs.Receives.{IsReplyBrought, quiets_since_status}
+use Rattle.board_history.specs.Links.{HasFailed, IsLostOnlyIfFailed, LinkReport}
+use Rattle.board_history.specs.Receives.{IsReplyBrought, quiets_since_status}
 
 -- so of each body of each connection
 abbrev pub OfEach : (Submission → Type 0) → List (List Submission) → Type 0

@@ -3,7 +3,7 @@
 
 ghost use Rattle.std.specs.Prelude.{◌≡◌, ℕ, ◌≤◌, List, length, Some, IfSome};
 ghost use Rattle.std.specs.List.{count_by, flat_map, slice_get};
-ghost use Rattle.board_node.specs.declared.spec.BoardSpec.{BoardSpec};
+ghost use Rattle.board_specs.specs.declared.spec.BoardSpec.{BoardSpec};
 ghost use Rattle.world_model.specs.Board.{bodies_executed};
 ghost use Rattle.world_model.specs.Settings.{Limits};
 ghost use Rattle.lane_record.specs.Outcomes.{is_replied, is_sent, is_timed_out};
@@ -13,8 +13,8 @@ ghost use Rattle.transcript.specs.Lines.{board_line, is_lost};
 ghost use Rattle.transcript.specs.Shown.{places_told};
 ghost use Rattle.board_history.specs.Parts.{IsReplied};
 ghost use Rattle.board_history.specs.Runs.{greeting_of, opens_with};
-ghost use Rattle.lane_history.specs.Links.{IsFaithful, LinkReport, board_there};
-ghost use Rattle.lane_history.specs.Runs.{RepliesCame, TimeOutsWaited};
+ghost use Rattle.board_history.specs.Links.{IsFaithful, LinkReport, board_there};
+ghost use Rattle.board_history.specs.LinkRuns.{RepliesCame, TimeOutsWaited};
 ghost use Rattle.client_history.specs.Boards.{AreServedOver, IsServedAt, IsServedOver, ServedBoard, run_of};
 ghost use Rattle.client_history.specs.Connections.{outcomes_of};
 ghost use Rattle.client_history.specs.Shown.{GaveUpOnlyAfterRounds, HasLostOnlyIfFailed, IsAddedUp};

@@ -13,10 +13,10 @@ ghost use Rattle.client_threads.specs.declared.plan.ClientPlan.{ClientPlan};
 ghost use Rattle.client_threads.specs.declared.result.ClientResult.{ClientResult};
 ghost use Rattle.client_threads.specs.Clients.{AreOfClientsFrom, HaveGoneOn, HaveRunOn, HoldsPlans, TookIn};
 ghost use Rattle.client_threads.specs.Clients.{counts_on};
-ghost use Rattle.lane_history.specs.Records.{IsPartlyPlanned};
+ghost use Rattle.board_history.specs.Records.{IsPartlyPlanned};
 ghost use Rattle.client_history.specs.Clients.{AskAll, LeftByClients, came_with, sealed_plans};
 
-use lane_history::building::a_record_is_partly_planned_on_its_way;
+use board_history::building::a_record_is_partly_planned_on_its_way;
 
 /// A lane comes back from its hub with the head of its record, and its entries begin with those that it came with.
 pub fn a_lane_comes_back_with_its_record()

@@ -8,8 +8,8 @@ ghost use Rattle.turn_pass.specs.Pass.{Knowledge};
 ghost use Rattle.turn_pass.specs.Record.{Record};
 ghost use Rattle.world_model.specs.Hub.{Hub};
 ghost use Rattle.world_model.specs.Settings.{Limits};
-ghost use Rattle.world_core.specs.Telling.{Telling};
-ghost use Rattle.board_node.specs.declared.spec.BoardSpec.{BoardSpec};
+ghost use Rattle.links.specs.Telling.{Telling};
+ghost use Rattle.board_specs.specs.declared.spec.BoardSpec.{BoardSpec};
 ghost use Rattle.lane_record.specs.declared.outcome.Outcome.{Outcome};
 ghost use Rattle.lane_record.specs.declared.item.Item.{Item};
 ghost use Rattle.lane_record.specs.Bounds.{timeouts};
@@ -22,10 +22,10 @@ ghost use Rattle.hub_multiplexer.specs.Ends.{Ends};
 ghost use Rattle.script_plans.specs.declared.greeting.Greeting.TheVariants.{Live};
 ghost use Rattle.transcript.specs.declared.line.BoardLine.TheVariants as board_lines;
 ghost use Rattle.transcript.specs.Lines.{board_line};
-ghost use Rattle.lane_history.specs.Links.{IsBoardOf, LinkReport, board_there};
-ghost use Rattle.lane_history.specs.Lanes.{IsSoundLane};
-ghost use Rattle.lane_history.specs.Records.{IsRecordOf};
-ghost use Rattle.lane_history.specs.Runs.{TellsPayload};
+ghost use Rattle.board_history.specs.Links.{IsBoardOf, LinkReport, board_there};
+ghost use Rattle.board_history.specs.Lanes.{IsSoundLane};
+ghost use Rattle.board_history.specs.Records.{IsRecordOf};
+ghost use Rattle.board_history.specs.LinkRuns.{TellsPayload};
 ghost use Rattle.board_history.specs.Runs.{opens_with};
 ghost use Rattle.client_history.specs.Clients.{came_with};
 ghost use Rattle.client_history.specs.Boards.{IsServedOver, run_of};
@@ -33,7 +33,7 @@ ghost use Rattle.client_history.specs.Connections.{WereServedOn, submitted_bodie
 ghost use Rattle.client_history.specs.Planned.{IsAmongSubmitted, KeepLimits, WerePlannedLast};
 
 use board_history::laws::the_first_sends_are_the_order;
-use lane_history::records::{
+use board_history::records::{
     a_clients_record_is_finished, a_finished_lane_is_live, a_record_counts_what_became_of_bodies,
     the_order_is_the_first_sends,
 };
@@ -57,8 +57,8 @@ pub fn connections_of_a_hub_plan_what_they_submit()
         final ≡ record_of head_now items → IsPrefix front items → IsAmongSubmitted connections front }
 {}
 
-/// The same at a time when as many bodies of a connection were planned as it submitted first: of its own bodies these
-/// alone count.
+/// A connection plans the bodies first that it submits first: while as many of its bodies are planned as it submitted
+/// first, these are the ones.
 pub fn a_connection_plans_its_first_bodies_first()
     ensures { (connections : List (List Submission)) (head head_now : Head) (items front : List Item)
         (after : Knowledge) (final : Record) → WereServedOn connections (came_with head []) after → Ends after final →

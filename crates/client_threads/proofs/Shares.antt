@@ -5,7 +5,7 @@ use denote.RattleType.{Denots, RattleType}
 use denote.Struct.Struct.{Struct}
 use denote.Param.Send.{AllSync, Common, IsSend, IsSync, shr_sync, struct_sync}
 use Rattle.std.proofs.Crossing.{sync}
-use Rattle.world_core.specs.declared.link.Link as Link
+use Rattle.links.specs.declared.link.Link as Link
 use Rattle.hub_multiplexer.proofs.Shares.{hub_sync}
 use Rattle.client_threads.specs.contracts.context.Context as Context
 

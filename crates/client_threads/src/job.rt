@@ -78,7 +78,7 @@ pub(crate) fn seat_all<'a, L: Link + Send>(
     Ok(())
 }
 
-/// Runs a client.
+/// Runs the script of one client under its seat, dispatch by dispatch.
 pub(crate) fn run_job<R: Wait, L: Link + Send, G: Gate>(
     context: &Context<'_, R, L, G>,
     job: &mut Job<'_>,

@@ -23,7 +23,7 @@ impl Model for Asks {
 }
 
 impl Asks {
-    /// No pairs.
+    /// A list with no pairs. It takes no memory.
     pub fn new(alloc: Global) -> Asks
         ensures { result ≡ [] }
     {
@@ -45,6 +45,15 @@ impl Asks {
         ensures { result.now ≡ self.now }
     {
         self.items.as_slice()
+    }
+
+    /// How many bodies it asks on all lanes, and no more than 64 bits can say.
+    fn bodies(&self) -> u64 {
+        let mut all = 0u64;
+        for ask in self.as_slice() {
+            all = all.saturating_add(u64::from(ask.1));
+        }
+        all
     }
 }
 
@@ -90,4 +99,26 @@ impl Dispatches {
 pub struct ClientPlan {
     pub client: u32,
     pub dispatches: Dispatches,
+}
+
+impl ClientPlan {
+    /// How many of its dispatches ask for something, and no more than 64 bits can say.
+    pub(crate) fn asking(&self) -> u64 {
+        let mut all = 0u64;
+        for dispatch in self.dispatches.as_slice() {
+            if dispatch.asks.bodies() > 0 {
+                all = all.saturating_add(1);
+            }
+        }
+        all
+    }
+
+    /// How many bodies it asks in all, and no more than 64 bits can say.
+    pub(crate) fn bodies(&self) -> u64 {
+        let mut all = 0u64;
+        for dispatch in self.dispatches.as_slice() {
+            all = all.saturating_add(dispatch.asks.bodies());
+        }
+        all
+    }
 }

@@ -38,8 +38,9 @@ fn ask_on<R: Wait, L: Link + Send, G>(
 }
 
 /// Takes what becomes of so many of the client's oldest asked bodies on a lane, behind the outcomes that it has.
-fn take_on<R: Wait, L: Link + Send, G>(
+fn take_on<R: Wait, L: Link + Send, G: Gate>(
     context: &Context<'_, R, L, G>,
+    client: u32,
     seat: &mut Seat,
     lane: usize,
     count: u32,
@@ -55,7 +56,10 @@ fn take_on<R: Wait, L: Link + Send, G>(
 {
     for _ in 0..count {
         match context.hub.perform(context.rt, seat, lane)? {
-            Performed::Ready(outcome) => outcomes.push(outcome)?,
+            Performed::Ready(outcome) => {
+                context.gate.took(client, lane, &outcome);
+                outcomes.push(outcome)?;
+            }
             Performed::Nothing => unreachable!(),
         }
     }
@@ -63,8 +67,9 @@ fn take_on<R: Wait, L: Link + Send, G>(
 }
 
 /// Takes what becomes of so many of the client's oldest asked bodies on a lane, behind the outcomes of that lane.
-fn take_into<R: Wait, L: Link + Send, G>(
+fn take_into<R: Wait, L: Link + Send, G: Gate>(
     context: &Context<'_, R, L, G>,
+    client: u32,
     seat: &mut Seat,
     lane: usize,
     count: u32,
@@ -85,7 +90,7 @@ fn take_into<R: Wait, L: Link + Send, G>(
         Outcomes::from_vec(Vec::new(context.alloc)),
     );
     let mut outcomes = before.into_vec();
-    let taken = take_on(context, seat, lane, count, &mut outcomes);
+    let taken = take_on(context, client, seat, lane, count, &mut outcomes);
     lanes[lane] = Outcomes::from_vec(outcomes);
     taken
 }
@@ -110,8 +115,9 @@ fn ask_all<R: Wait, L: Link + Send, G>(
 }
 
 /// Takes what becomes of all bodies of a dispatch, lane by lane, behind the outcomes of each lane.
-fn take_all<R: Wait, L: Link + Send, G>(
+fn take_all<R: Wait, L: Link + Send, G: Gate>(
     context: &Context<'_, R, L, G>,
+    client: u32,
     seat: &mut Seat,
     asks: &[(u32, u32)],
     lanes: &mut [Outcomes],
@@ -128,7 +134,7 @@ fn take_all<R: Wait, L: Link + Send, G>(
     ensures no_plan { AddNoPlans seat.old.knows seat.new.knows }
 {
     for ask in asks {
-        take_into(context, seat, ask.0 as usize, ask.1, lanes)?;
+        take_into(context, client, seat, ask.0 as usize, ask.1, lanes)?;
     }
     Ok(())
 }
@@ -154,7 +160,7 @@ fn do_dispatch<R: Wait, L: Link + Send, G: Gate>(
 {
     ask_all(context, seat, dispatch.asks.as_slice())?;
     context.gate.between(client);
-    take_all(context, seat, dispatch.asks.as_slice(), lanes)?;
+    take_all(context, client, seat, dispatch.asks.as_slice(), lanes)?;
     context.gate.answered(client);
     Ok(())
 }

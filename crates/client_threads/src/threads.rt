@@ -21,6 +21,13 @@ use std::sync::Wait;
 use std::thread;
 use std::thread::Threads;
 
+/// Tells the gate what each client is to ask.
+fn tell_plans<G: Gate>(gate: &G, plans: &[ClientPlan]) {
+    for plan in plans {
+        gate.planned(plan.client, plan.asking(), plan.bodies());
+    }
+}
+
 /// Runs all clients at once, with as many threads as clients. A client whose thread cannot be started is run on the
 /// thread of the call.
 fn run_all<R: Threads + Wait + Sync, L: Link + Send, G: Gate>(
@@ -78,7 +85,8 @@ fn seat_and_run<'a, R: Threads + Wait + Sync, L: Link + Send, G: Gate>(
 
 /// Runs the clients of these plans at once, under the next seats of the master, with as many threads as clients. A
 /// client whose thread cannot be started is run on the thread of the call. A client does its dispatches one after
-/// another: all Asks, `Gate::between`, all Tooks, `Gate::answered`. The results are in the order of the plans. On
+/// another: all Asks, `Gate::between`, all Tooks, each with `Gate::took`, `Gate::answered`. Before the first of them
+/// `Gate::planned` is called for each client. The results are in the order of the plans. On
 /// return no seat is left out of the master's account, also where memory ran out; where it ran out the clients may
 /// have asked and taken some of their bodies. Profile.
 pub fn run_clients<R: Threads + Wait + Sync, L: Link + Send, G: Gate>(
@@ -100,6 +108,7 @@ pub fn run_clients<R: Threads + Wait + Sync, L: Link + Send, G: Gate>(
     ensures all_joined { HasTakenIn (master.old.seats + 1) master.old → HasTakenIn (master.new.seats + 1) master.new }
 {
     master.knows_each_turn();
+    tell_plans(gate, plans);
     let mut results = Vec::with_capacity(alloc, plans.len())?;
     let mut jobs = Vec::with_capacity(alloc, plans.len())?;
     let context = Context {

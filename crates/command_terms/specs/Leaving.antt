@@ -2,8 +2,8 @@
 use Rattle.std.specs.Prelude.{◌≡◌, ◌⊎◌, ℕ, List, [], ◌++◌, length, Result, Err, IfOk}
 use Rattle.std.specs.List.{AllByRecursion}
 use Rattle.ipb_outside.specs.Pairs.{PairReport}
-use Rattle.board_node.specs.declared.spec.LinkSpec.{LinkSpec}
-use Rattle.lane_history.specs.Links.{IsUntouched}
+use Rattle.board_specs.specs.declared.spec.LinkSpec.{LinkSpec}
+use Rattle.board_history.specs.Links.{IsUntouched}
 use Rattle.command_terms.specs.declared.answer.Answer.{Answer}
 use Rattle.command_terms.specs.Outside.{GivenBack}
 use Rattle.command_terms.specs.Terms.{Owes, Terms}

@@ -1,7 +1,7 @@
 -- What came into the program from the outside and went back, as contracts see it. Profile.
 use Rattle.std.specs.Prelude.{◌≡◌, List, []}
 use Rattle.ipb_outside.specs.Pairs.{PairReport}
-use Rattle.lane_history.specs.Links.{LinkReport}
+use Rattle.board_history.specs.Links.{LinkReport}
 
 -- What was given back: what each link of a board shows, in board order, and what each pair of a connection showed when
 -- it came and when it went back, in the order of acceptance.

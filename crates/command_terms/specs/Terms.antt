@@ -1,8 +1,8 @@
 -- WHAT A COMMAND OWES to its input. Each command says it in one record, and what the program promises is said of that
 -- record, so that a reader of a command reads its record alone. Profile.
 use Rattle.std.specs.Prelude.{◌≡◌, ◌⊎◌, ℕ, ◌+◌, ◌<◌, Bool, false, List, length, Option, Some, None}
-use Rattle.board_node.specs.declared.spec.LinkSpec.{LinkSpec}
-use Rattle.lane_history.specs.Links.{LinkReport}
+use Rattle.board_specs.specs.declared.spec.LinkSpec.{LinkSpec}
+use Rattle.board_history.specs.Links.{LinkReport}
 use Rattle.command_terms.specs.Numbers.{IsDoneStatus, refused_status}
 use Rattle.command_terms.specs.Outside.{GivenBack}
 

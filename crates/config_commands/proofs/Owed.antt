@@ -1,9 +1,9 @@
 -- What `save` and `apply` leave by bytes that break none of their rules.
 use Rattle.std.proofs.Common.{◌≡◌, ℕ, List, [], ◌∷◌, length, Result}
 use Rattle.std.proofs.Common.{sym, subst, ◌∙◌, arith}
-use Rattle.board_node.specs.declared.spec.LinkSpec.{LinkSpec}
-use Rattle.lane_history.specs.Links.{LinkReport}
-use Rattle.lane_history.specs.Runs.{AreRunsOver}
+use Rattle.board_specs.specs.declared.spec.LinkSpec.{LinkSpec}
+use Rattle.board_history.specs.Links.{LinkReport}
+use Rattle.board_history.specs.LinkRuns.{AreRunsOver}
 use Rattle.script_steps.specs.declared.operation.Step.{Step}
 use Rattle.script_lang.specs.declared.session.Session.{Session}
 use Rattle.script_plans.specs.declared.board_run.BoardRun.{BoardRun}

@@ -3,9 +3,9 @@ use Rattle.std.proofs.Common.{◌≡◌, ℕ, List, [], ◌∷◌, Option, ◌�
 use Rattle.std.specs.List.{AllByRecursion}
 use Rattle.access_policy.specs.Decisions.{names_of, ruled_scripts}
 use Rattle.access_policy.specs.declared.policy.Rule.{Rule}
-use Rattle.board_node.specs.declared.spec.BoardSpec.{BoardSpec}
-use Rattle.lane_history.specs.Links.{CanBeMade, LinkReport}
-use Rattle.lane_history.specs.Runs.{AreRunsOver}
+use Rattle.board_specs.specs.declared.spec.BoardSpec.{BoardSpec}
+use Rattle.board_history.specs.Links.{CanBeMade, LinkReport}
+use Rattle.board_history.specs.LinkRuns.{AreRunsOver}
 use Rattle.node_tree.specs.Maps.{RegisterMap}
 use Rattle.run_laws.proofs.Buses.{all_made}
 use Rattle.script_lang.specs.declared.session.Session.{Session}

@@ -1,6 +1,6 @@
 -- WHAT `save` PROMISES of the text that it writes with status 0 or 1. Profile.
 use Rattle.std.specs.Prelude.{◌≡◌, ℕ, List, [], ◌∷◌}
-use Rattle.lane_history.specs.Links.{LinkReport}
+use Rattle.board_history.specs.Links.{LinkReport}
 use Rattle.node_tree.specs.Maps.{RegisterMap}
 use Rattle.script_steps.specs.declared.operation.Step.{Step}
 use Rattle.script_lang.specs.declared.session.Session.{Session}

@@ -19,7 +19,7 @@ use client_threads::Gate;
 use command_terms::{Answer, REFUSED};
 use config_input::{ConfigRefusal, ConfigUnread, read_for_apply, read_for_save};
 use ipb_base::NoMemory;
-use lossy_network::Rack;
+use links::Rack;
 use run_laws::laws::{runs_over_links_are_runs_of_a_session, steps_that_fit_may_be_run};
 use session_run::RunFault;
 use std::alloc::Global;

@@ -9,12 +9,12 @@ ghost use Rattle.run_laws.specs.Leaving.{RunLeaves};
 ghost use Rattle.run_laws.specs.Steps.{MayRun};
 ghost use Rattle.config_commands.specs.Steps.{Writes, first_of};
 
-use board_node::BoardSpec;
+use board_specs::BoardSpec;
 use client_threads::Gate;
 use command_terms::{Answer, done_status};
 use config_store::state_text;
 use ipb_base::NoMemory;
-use lossy_network::Rack;
+use links::Rack;
 use script_lang::Session;
 use script_plans::BoardRun;
 use script_steps::Steps;

@@ -5,7 +5,7 @@ use Rattle.std.specs.Prelude.{IsErrAnd}
 use Rattle.std.specs.List.{AllZip}
 use Rattle.access_policy.specs.Decisions.{names_of, ruled_scripts}
 use Rattle.access_policy.specs.declared.policy.Rule.{Rule}
-use Rattle.board_node.specs.declared.spec.BoardSpec.{BoardSpec}
+use Rattle.board_specs.specs.declared.spec.BoardSpec.{BoardSpec}
 use Rattle.node_tree.specs.Maps.{RegisterMap, TableMap}
 use Rattle.script_lang.specs.declared.session.Session.{Session}
 use Rattle.script_lang.specs.Scripts.{script_faults, steps_of}

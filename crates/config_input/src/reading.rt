@@ -65,7 +65,7 @@ pub fn read_for_apply(alloc: Global, bytes: &[u8]) -> Result<Runnable, ConfigUnr
     apply_document(alloc, document)
 }
 
-/// The same of a parsed document.
+/// Reads what `save` needs from a parsed document.
 fn save_document(alloc: Global, document: Table) -> Result<Runnable, ConfigUnread>
     ensures asked { IfOk result (λ read. spec.IsAskedBy work.save_command (table_view document)
         read.session read.steps.items) }
@@ -81,7 +81,8 @@ fn save_document(alloc: Global, document: Table) -> Result<Runnable, ConfigUnrea
     save_session(alloc, session, policy)
 }
 
-/// The same of a parsed document. The key of the values is taken out of the table, so that nothing is copied.
+/// Reads what `apply` needs from a parsed document. The key of the values is taken out of the table, so that nothing is
+/// copied.
 fn apply_document(alloc: Global, document: Table) -> Result<Runnable, ConfigUnread>
     ensures asked { IfOk result (λ read. spec.IsAskedBy work.apply_command (table_view document)
         read.session read.steps.items) }
@@ -99,7 +100,7 @@ fn apply_document(alloc: Global, document: Table) -> Result<Runnable, ConfigUnre
     apply_session(alloc, session, policy, &value)
 }
 
-/// The same of a session and its policy.
+/// Makes what `save` runs from a session and its policy.
 fn save_session(
     alloc: Global,
     session: Session,
@@ -124,7 +125,7 @@ fn save_session(
     planned(alloc, session, policy, &indexes, lines)
 }
 
-/// The same of a session and its policy, and of the value of the state where there is one.
+/// Makes what `apply` runs from a session, its policy, and the value of the state where there is one.
 fn apply_session(
     alloc: Global,
     session: Session,

@@ -10,8 +10,8 @@ use Rattle.masked_fields.specs.Field.{field}
 use Rattle.board_bus.specs.declared.fault.BusFault.{BusFault}
 use Rattle.board_bus.specs.Cells.{CellMap, read_word}
 use Rattle.board_bus.specs.Transactions.{first_fault, outcome}
-use Rattle.board_node.specs.declared.spec.BoardSpec.{BoardSpec}
-use Rattle.board_node.specs.declared.spec.LinkSpec.{LinkSpec}
+use Rattle.board_specs.specs.declared.spec.BoardSpec.{BoardSpec}
+use Rattle.board_specs.specs.declared.spec.LinkSpec.{LinkSpec}
 use Rattle.node_tree.specs.Maps.{Name, RegisterMap}
 use Rattle.script_steps.specs.Rulings.{Asked, asked_operations}
 use Rattle.script_steps.specs.declared.operation.RegOp.{RegOp}

@@ -13,10 +13,10 @@ use Rattle.board_bus.specs.declared.fault.BusFault.{BusFault}
 use Rattle.board_bus.specs.Cells.{Cell, CellMap, HoldsWords, cell_at, read_word}
 use Rattle.board_bus.proofs.Openings.{opening-words}
 use Rattle.board_bus.proofs.WordsKept.{read-word}
-use Rattle.board_node.specs.declared.spec.BoardSpec.{BoardSpec}
-use Rattle.board_node.specs.declared.spec.LinkSpec.{LinkSpec}
-use Rattle.board_node.specs.declared.spec.LinkSpec.TheVariants.{Sim, Udp}
-use Rattle.board_node.specs.OpeningWords.{LinkNamesWords, OpensOnWords}
+use Rattle.board_specs.specs.declared.spec.BoardSpec.{BoardSpec}
+use Rattle.board_specs.specs.declared.spec.LinkSpec.{LinkSpec}
+use Rattle.board_specs.specs.declared.spec.LinkSpec.TheVariants.{Sim, Udp}
+use Rattle.board_specs.specs.OpeningWords.{LinkNamesWords, OpensOnWords}
 use Rattle.node_tree.specs.Maps.{Name, RegisterMap}
 use Rattle.node_tree.specs.declared.register.Register.{Register}
 use Rattle.script_lang.specs.OwnNames.{HaveOwnNames}

@@ -5,7 +5,7 @@ use Rattle.std.specs.List.{AllZip, slice_get}
 use Rattle.std.specs.FinMap.{get}
 use Rattle.std.proofs.lemmas.Bool.{cases_lt, eqb-true}
 use Rattle.std.proofs.lemmas.Option.{get_or_from_slice_get, same_Some, slice_get_within}
-use Rattle.board_node.specs.declared.spec.BoardSpec.{BoardSpec}
+use Rattle.board_specs.specs.declared.spec.BoardSpec.{BoardSpec}
 use Rattle.masked_fields.specs.Field.{FitsMask, shifted_value}
 use Rattle.node_tree.specs.Maps.{RegisterMap}
 use Rattle.node_tree.specs.declared.register.Register.{Register}

@@ -14,10 +14,10 @@ use Rattle.reply_join.specs.ByWords.{answers}
 use Rattle.masked_fields.specs.Field.{field}
 use Rattle.board_bus.specs.Cells.{CellMap, HoldsWords, read_word}
 use Rattle.board_bus.specs.Bodies.{run_body}
-use Rattle.board_node.specs.declared.spec.BoardSpec.{BoardSpec}
-use Rattle.board_node.specs.declared.spec.LinkSpec.{LinkSpec}
-use Rattle.board_node.specs.declared.spec.LinkSpec.TheVariants.{Sim, Udp}
-use Rattle.board_node.specs.OpeningWords.{OpensOnWords}
+use Rattle.board_specs.specs.declared.spec.BoardSpec.{BoardSpec}
+use Rattle.board_specs.specs.declared.spec.LinkSpec.{LinkSpec}
+use Rattle.board_specs.specs.declared.spec.LinkSpec.TheVariants.{Sim, Udp}
+use Rattle.board_specs.specs.OpeningWords.{OpensOnWords}
 use Rattle.world_model.specs.Settings.{Limits}
 use Rattle.lane_record.specs.declared.outcome.Outcome.TheVariants.{Replied}
 use Rattle.script_steps.specs.declared.operation.RegOp.{RegOp}
@@ -53,12 +53,12 @@ use Rattle.board_history.proofs.Asking.{op_at}
 use Rattle.board_history.proofs.BusLines.{session_holds}
 use Rattle.board_history.proofs.Lists.{all_at}
 use Rattle.board_history.proofs.Readiness.{ArePackedFor, IsReady, all_verbs_kept, is_ready}
-use Rattle.lane_history.specs.Links.{CanBeMade, IsBoardOf, LinkReport, board_there}
-use Rattle.lane_history.specs.Runs.{AreRunsOver, ShowAloneRunsWhereTold}
+use Rattle.board_history.specs.Links.{CanBeMade, IsBoardOf, LinkReport, board_there}
+use Rattle.board_history.specs.LinkRuns.{AreRunsOver, ShowAloneRunsWhereTold}
 use Rattle.config_laws.specs.Reads.{IsMaskedRead, IsWordRead, ReadSingleWords, ShowsOpeningWord, base_of}
 use Rattle.config_laws.proofs.BusReads.{IsThere}
 use Rattle.config_laws.proofs.PlanReads.{IsReadAt, both_all, planned_reads, reads_of}
-use Rattle.world_core.specs.Telling.{Telling}
+use Rattle.links.specs.Telling.{Telling}
 
 -- ---- good results
 

@@ -7,7 +7,7 @@ use Rattle.std.specs.Str.{bytes_eq}
 use Rattle.std.proofs.lemmas.Option.{same_Some}
 use Rattle.masked_fields.specs.Field.{field}
 use Rattle.board_bus.specs.Cells.{read_word}
-use Rattle.board_node.specs.declared.spec.BoardSpec.{BoardSpec}
+use Rattle.board_specs.specs.declared.spec.BoardSpec.{BoardSpec}
 use Rattle.world_model.specs.Settings.{Limits}
 use Rattle.node_tree.specs.Maps.{Name, RegisterMap}
 use Rattle.script_steps.specs.declared.operation.Step.{Step}
@@ -18,8 +18,8 @@ use Rattle.transcript.specs.declared.line.OpResult.{OpResult}
 use Rattle.transcript.specs.declared.line.OpResult.TheVariants.{Value}
 use Rattle.transcript.specs.Lines.{client_lines, line_of, lines_behind}
 use Rattle.board_history.specs.Runs.{opens_with}
-use Rattle.lane_history.specs.Links.{LinkReport}
-use Rattle.lane_history.specs.Runs.{AreRunsOver}
+use Rattle.board_history.specs.Links.{LinkReport}
+use Rattle.board_history.specs.LinkRuns.{AreRunsOver}
 use Rattle.config_store.specs.declared.state.StateEntry.{StateEntry}
 use Rattle.config_store.specs.Kept.{IndexedBoard, KeptRegister, indexed_boards}
 use Rattle.config_store.specs.Meanings.{Reads, read_of}

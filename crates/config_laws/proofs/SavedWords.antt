@@ -5,8 +5,8 @@ use Rattle.std.proofs.Math.Nat.{div-le_self}
 use Rattle.std.proofs.lemmas.Nat.{and_le_l}
 use Rattle.masked_fields.specs.Field.{field, shift}
 use Rattle.board_bus.proofs.WordsKept.{read-word}
-use Rattle.board_node.specs.declared.spec.BoardSpec.{BoardSpec}
-use Rattle.board_node.specs.OpeningWords.{OpensOnWords}
+use Rattle.board_specs.specs.declared.spec.BoardSpec.{BoardSpec}
+use Rattle.board_specs.specs.OpeningWords.{OpensOnWords}
 use Rattle.board_history.specs.Runs.{opens_with}
 use Rattle.board_history.proofs.Lists.{all_at}
 use Rattle.config_store.specs.declared.state.StateEntry.{StateEntry}

@@ -12,7 +12,7 @@ use Rattle.toml.specs.Data.{Members}
 use Rattle.toml_parser.specs.Lexical.{is_bare}
 use Rattle.address_table.specs.Limits.{longest_id}
 use Rattle.address_table.specs.Rules.{is_id, is_id_byte}
-use Rattle.board_node.specs.declared.spec.BoardSpec.{BoardSpec}
+use Rattle.board_specs.specs.declared.spec.BoardSpec.{BoardSpec}
 use Rattle.node_tree.specs.Maps.{AreValidTables, Name, RegisterMap, TableMap}
 use Rattle.node_tree.specs.Names.{IsIndexOf}
 use Rattle.node_tree.specs.declared.register.Register.{Register}

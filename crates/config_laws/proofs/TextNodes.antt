@@ -16,7 +16,7 @@ use Rattle.toml.specs.Tables.{define, get_node, header, implicit, insert, key_va
 use Rattle.toml.specs.Tables.{replace, std_table, value}
 use Rattle.toml.proofs.NodeLaws.{get_node-insert, get_node-replace}
 use Rattle.toml.proofs.ReadLines.{run}
-use Rattle.board_node.specs.declared.spec.BoardSpec.{BoardSpec}
+use Rattle.board_specs.specs.declared.spec.BoardSpec.{BoardSpec}
 use Rattle.node_tree.specs.Maps.{Name}
 use Rattle.script_lang.proofs.TableLists.{same_name}
 use Rattle.script_lang.specs.OwnNames.{HaveOwnNames}

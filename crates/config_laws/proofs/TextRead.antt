@@ -13,7 +13,7 @@ use Rattle.toml.specs.Tables.{Document, Expression, close, define, no_nodes}
 use Rattle.toml.proofs.Blanks.{skip_newline, skip_within}
 use Rattle.toml.proofs.ReadLines.{Turn, run}
 use Rattle.toml.proofs.Turns.{lines_end, lines_more, lines_refused}
-use Rattle.board_node.specs.declared.spec.BoardSpec.{BoardSpec}
+use Rattle.board_specs.specs.declared.spec.BoardSpec.{BoardSpec}
 use Rattle.config_store.specs.declared.state.StateEntry.{StateEntry}
 use Rattle.config_store.specs.States.{state_entries}
 use Rattle.config_store.specs.Text.{heading}

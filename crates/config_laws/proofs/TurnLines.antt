@@ -12,8 +12,8 @@ use Rattle.ipb_base.proofs.AllLemmas.{back_of_all}
 use Rattle.transaction_codec.specs.declared.request.Op.{Op}
 use Rattle.board_bus.specs.Cells.{CellMap}
 use Rattle.board_bus.specs.Transactions.{outcome}
-use Rattle.board_node.specs.declared.spec.BoardSpec.{BoardSpec}
-use Rattle.board_node.specs.OpeningWords.{OpensOnWords}
+use Rattle.board_specs.specs.declared.spec.BoardSpec.{BoardSpec}
+use Rattle.board_specs.specs.OpeningWords.{OpensOnWords}
 use Rattle.world_model.specs.Settings.{Limits}
 use Rattle.script_steps.specs.declared.operation.RegOp.{RegOp}
 use Rattle.script_steps.specs.declared.operation.Step.{Step}
@@ -35,8 +35,8 @@ use Rattle.transcript.proofs.Allowed.{allowed-append, asked_allowed}
 use Rattle.board_history.specs.Runs.{board_run, greeting_of, opens_with, parts_in_turn}
 use Rattle.board_history.proofs.Answering.{Answering, AnsweringAny, Garbling, Joins, Keeping, KeepingAll}
 use Rattle.board_history.proofs.Readiness.{ArePackedFor, IsReady}
-use Rattle.lane_history.specs.Links.{CanBeMade, LinkReport}
-use Rattle.lane_history.specs.Runs.{AreRunsOver, ShowAloneRunsWhereTold}
+use Rattle.board_history.specs.Links.{CanBeMade, LinkReport}
+use Rattle.board_history.specs.LinkRuns.{AreRunsOver, ShowAloneRunsWhereTold}
 use Rattle.config_laws.specs.Turns.{AreOfOneWord, ShowTurns, ShowsTurn, bus_behind}
 use Rattle.config_laws.proofs.BusReads.{Failures, Successes}
 use Rattle.config_laws.proofs.LineReads.{BoardAt, board_at, done_is_good, live_if_good, lives_of}

@@ -5,7 +5,7 @@ use Rattle.std.specs.List.{AllByRecursion}
 use Rattle.ipb_base.proofs.AllLemmas.{all-map}
 use Rattle.access_policy.specs.Decisions.{decisions, names_of, ruled_from, ruled_scripts}
 use Rattle.access_policy.specs.declared.policy.Rule.{Rule}
-use Rattle.board_node.specs.declared.spec.BoardSpec.{BoardSpec}
+use Rattle.board_specs.specs.declared.spec.BoardSpec.{BoardSpec}
 use Rattle.world_model.specs.Settings.{Limits}
 use Rattle.script_steps.specs.Rulings.{Asked, asked_operations, steps_under_policy}
 use Rattle.script_steps.specs.declared.operation.Decision.{Decision}
@@ -18,8 +18,8 @@ use Rattle.transcript.specs.declared.line.OpLine.{OpLine}
 use Rattle.transcript.specs.declared.line.OpResult.{OpResult}
 use Rattle.transcript.specs.Claims.{AreOnBoards, IsDone, IsDoneResult, rule_in, rules_of, rules_shown}
 use Rattle.transcript.specs.Lines.{lines_from}
-use Rattle.lane_history.specs.Links.{LinkReport}
-use Rattle.lane_history.specs.Runs.{AreRunsOver}
+use Rattle.board_history.specs.Links.{LinkReport}
+use Rattle.board_history.specs.LinkRuns.{AreRunsOver}
 
 abbrev IsNone : Option ℕ → Type 0
 IsNone found = found ≡ None

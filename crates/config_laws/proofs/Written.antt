@@ -10,7 +10,7 @@ use Rattle.std.proofs.lemmas.Slice.Eq.{bytes_eq-Decides}
 use Rattle.transaction_codec.specs.declared.request.Op.{Op}
 use Rattle.board_bus.specs.Cells.{CellMap}
 use Rattle.board_bus.specs.Transactions.{outcome}
-use Rattle.board_node.specs.declared.spec.BoardSpec.{BoardSpec}
+use Rattle.board_specs.specs.declared.spec.BoardSpec.{BoardSpec}
 use Rattle.node_tree.specs.Maps.{RegisterMap}
 use Rattle.node_tree.specs.declared.register.Register.{Register}
 use Rattle.script_lang.specs.Operations.{write_op}

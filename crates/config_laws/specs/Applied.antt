@@ -2,7 +2,7 @@
 -- the one that its board opens with. Profile.
 use Rattle.std.specs.Prelude.{◌≡◌, ◌⊎◌, List}
 use Rattle.std.specs.List.{AllByRecursion, AllZip, Contains}
-use Rattle.board_node.specs.declared.spec.BoardSpec.{BoardSpec}
+use Rattle.board_specs.specs.declared.spec.BoardSpec.{BoardSpec}
 use Rattle.config_store.specs.declared.state.StateEntry.{StateEntry}
 use Rattle.config_store.specs.Kept.{KeptRegister}
 use Rattle.config_laws.specs.Saved.{IsSaved}

@@ -3,7 +3,7 @@ use Rattle.std.specs.Prelude.{◌≡◌, ℕ, ◌^◌, ◌<◌, Bool, true, fals
 use Rattle.std.specs.List.{AllByRecursion, list_all, slice_get}
 use Rattle.toml_parser.specs.Lexical.{is_bare, quote}
 use Rattle.toml_parser.specs.Strings.{is_plain}
-use Rattle.board_node.specs.declared.spec.BoardSpec.{BoardSpec}
+use Rattle.board_specs.specs.declared.spec.BoardSpec.{BoardSpec}
 use Rattle.node_tree.specs.Maps.{Name}
 use Rattle.script_lang.specs.OwnNames.{HaveOwnNames}
 use Rattle.config_store.specs.declared.state.StateEntry.{StateEntry}

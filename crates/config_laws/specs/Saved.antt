@@ -5,7 +5,7 @@ use Rattle.std.specs.List.{AllZip, filter, flat_map, slice_get}
 use Rattle.std.specs.Str.{bytes_eq}
 use Rattle.masked_fields.specs.Field.{field}
 use Rattle.board_bus.specs.Cells.{read_word}
-use Rattle.board_node.specs.declared.spec.BoardSpec.{BoardSpec}
+use Rattle.board_specs.specs.declared.spec.BoardSpec.{BoardSpec}
 use Rattle.node_tree.specs.Maps.{Name}
 use Rattle.board_history.specs.Runs.{opens_with}
 use Rattle.config_store.specs.declared.state.StateEntry.{StateEntry}

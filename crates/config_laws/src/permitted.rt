@@ -6,12 +6,12 @@ ghost use Rattle.world_model.specs.Settings.{Limits};
 ghost use Rattle.node_tree.specs.Maps.{RegisterMap};
 ghost use Rattle.access_policy.specs.Decisions.{names_of, ruled_scripts};
 ghost use Rattle.access_policy.specs.declared.policy.Rule.{Rule as PolicyRule};
-ghost use Rattle.board_node.specs.declared.spec.BoardSpec.{BoardSpec};
+ghost use Rattle.board_specs.specs.declared.spec.BoardSpec.{BoardSpec};
 ghost use Rattle.script_lang.specs.Scripts.{steps_of};
 ghost use Rattle.script_plans.specs.declared.board_run.BoardRun.{BoardRun};
 ghost use Rattle.transcript.specs.Lines.{run_status, transcript_of};
-ghost use Rattle.lane_history.specs.Links.{LinkReport};
-ghost use Rattle.lane_history.specs.Runs.{AreRunsOver};
+ghost use Rattle.board_history.specs.Links.{LinkReport};
+ghost use Rattle.board_history.specs.LinkRuns.{AreRunsOver};
 
 use script_lang::laws::scripts_ask_of_boards_that_are_there;
 use transcript::laws::{lines_tell_what_is_denied, the_status_tells_whether_all_was_done};

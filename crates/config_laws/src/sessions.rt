@@ -7,7 +7,7 @@ ghost use Rattle.toml.specs.Data.{Members};
 ghost use Rattle.node_tree.specs.Maps.{RegisterMap};
 ghost use Rattle.node_tree.specs.Names.{IsIndexOf};
 ghost use Rattle.node_tree.specs.Refusals.{KeepsRules};
-ghost use Rattle.board_node.specs.declared.spec.BoardSpec.{BoardSpec};
+ghost use Rattle.board_specs.specs.declared.spec.BoardSpec.{BoardSpec};
 ghost use Rattle.script_steps.specs.Executable.{AreExecutable};
 ghost use Rattle.script_lang.specs.Document.{IsSession};
 ghost use Rattle.script_lang.specs.OwnNames.{HaveOwnNames};

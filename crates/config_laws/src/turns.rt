@@ -4,20 +4,20 @@
 ghost use Rattle.std.specs.Prelude.{◌≡◌, ℕ, ◌∷◌, [], List, length, true, is_some};
 ghost use Rattle.std.specs.List.{AllByRecursion};
 ghost use Rattle.world_model.specs.Settings.{Limits};
-ghost use Rattle.board_node.specs.declared.spec.BoardSpec.{BoardSpec};
-ghost use Rattle.board_node.specs.OpeningWords.{OpensOnWords};
+ghost use Rattle.board_specs.specs.declared.spec.BoardSpec.{BoardSpec};
+ghost use Rattle.board_specs.specs.OpeningWords.{OpensOnWords};
 ghost use Rattle.script_steps.specs.Executable.{AreExecutable};
 ghost use Rattle.script_steps.specs.Rulings.{asked_operations};
 ghost use Rattle.script_steps.specs.declared.operation.Step.{Step};
 ghost use Rattle.script_lang.specs.OnBoards.{StepsAreOn};
 ghost use Rattle.script_plans.specs.declared.board_run.BoardRun.{BoardRun};
 ghost use Rattle.transcript.specs.Lines.{client_lines, run_status, transcript_of};
-ghost use Rattle.lane_history.specs.Links.{CanBeMade, LinkReport};
-ghost use Rattle.lane_history.specs.Runs.{AreRunsOver};
+ghost use Rattle.board_history.specs.Links.{CanBeMade, LinkReport};
+ghost use Rattle.board_history.specs.LinkRuns.{AreRunsOver};
 ghost use Rattle.config_laws.specs.Turns.{AreOfOneWord, ShowTurns};
 
 use board_bus::laws::{a_body_is_executed_in_order, a_reply_answers_its_body, words_stay_words};
-use lane_history::runs::where_all_was_done_a_client_alone_has_one_run;
+use board_history::runs::where_all_was_done_a_client_alone_has_one_run;
 use mtu_packer::laws::operations_of_words_are_packed;
 use reply_join::laws::{joining_is_a_function, the_answers_are_the_only_ones};
 use transcript::laws::the_status_tells_whether_all_was_done;

@@ -1,14 +1,15 @@
 -- The lines that read kept registers and write values, at their places.
 use Rattle.std.proofs.Common.{◌≡◌, ◌⊎◌, inl, inr, ℕ, zero, suc, ◌+◌, ◌≤◌, nat_le, List, [], ◌∷◌, ◌++◌, length, map, Bool, true, false, cond}
-use Rattle.std.proofs.Common.{codes, Ok, Option, Some, None, option_map, slice_get, refl, sym, ap, subst, arith}
+use Rattle.std.proofs.Common.{codes, Ok, Option, Some, None, option_map, slice_get, refl, sym, ap, subst, arith, ◌∙◌, not}
+use Rattle.std.specs.Prelude.{is_none}
 use Rattle.std.specs.FinMap.{entries, get}
-use Rattle.std.specs.List.{AllByRecursion, flat_map, cons_option}
+use Rattle.std.specs.List.{AllByRecursion, flat_map}
+use Rattle.std.specs.Option.{option_and_then, option_map_or}
 use Rattle.std.specs.Str.{bytes_eq}
 use Rattle.std.proofs.lemmas.Bool.Decides.{nat_tests}
 use Rattle.std.proofs.lemmas.List.{length-append, length-map}
 use Rattle.std.proofs.lemmas.Slice.Eq.{bytes_eq-Decides}
-use Rattle.address_table.specs.Rules.{first_broken}
-use Rattle.board_node.specs.declared.spec.BoardSpec.{BoardSpec}
+use Rattle.board_specs.specs.declared.spec.BoardSpec.{BoardSpec}
 use Rattle.node_tree.specs.Maps.{Name, RegisterMap}
 use Rattle.node_tree.specs.declared.register.Register.{Register}
 use Rattle.script_lang.specs.Operations.{fits_mask, meaning}
@@ -16,17 +17,18 @@ use Rattle.script_steps.specs.declared.operation.Step.TheVariants.{Do}
 use Rattle.script_lang.specs.OwnNames.{HaveOwnNames}
 use Rattle.script_lang.specs.Scripts.{script_faults}
 use Rattle.config_store.specs.declared.state.StateEntry.{StateEntry}
-use Rattle.config_store.specs.declared.refusal.StoreWhy.{StoreWhy}
-use Rattle.config_store.specs.declared.refusal.StoreWhy.TheVariants.{NotKept, BitsOutside, TooMany}
+use Rattle.config_store.specs.declared.refusal.StoreWhy.TheVariants.{UnknownBoard, UnknownName, NotKept, BitsOutside, TooMany}
 use Rattle.config_store.specs.Kept.{IndexedBoard, indexed_boards, is_kept, IsKept, registers_kept, kept_of, kept_on, kept_register}
 use Rattle.config_store.specs.Kept.{KeptRegister}
 use Rattle.config_store.specs.Limits.{most_kept}
 use Rattle.config_store.specs.Lines.{apply_lines, read_line, save_lines, write_line, write_text, read_text}
 use Rattle.config_store.specs.Meanings.{HasWord, HaveWordNames, read_of, write_of}
-use Rattle.config_store.specs.Refusals.{applying_faults, board_why, count_faults, entry_faults, entry_why}
-use Rattle.config_store.specs.Refusals.{index_of, keeping_faults, name_why, overlap_faults}
+use Rattle.config_store.specs.Refusals.{applying_faults, breaks, count_faults, entry_faults, fault_by, faults_by}
+use Rattle.config_store.specs.Refusals.{has_bits_outside, index_of, is_absent_in, is_not_kept, keeping_faults, overlap_faults}
+use Rattle.config_store.specs.Refusals.{register_of}
 use Rattle.config_store.specs.States.{StoreFault}
 use Rattle.config_store.proofs.KeptMeaning.{is_kept_at, kept_is}
+use Rattle.config_store.proofs.LowestRules.{none_pass}
 use Rattle.config_store.proofs.LineMeanings.{read_means, write_means}
 use Rattle.config_store.proofs.NoFaults.{AreFine, fine_append, fine_dispatch, fine_map, no_faults}
 
@@ -131,60 +133,73 @@ index_has name (b ∷ boards) index is = by_name (bytes_eq b.0.name name) refl i
         let rest = later found in
         record { board = rest.board; place = suc rest.place; there = rest.there; called = rest.called; has = rest.has }
 
-two_kept : (a b : Bool) → first_broken ((NotKept, a) ∷ (BitsOutside, b) ∷ []) ≡ None → (a ≡ true) × (b ≡ true)
-two_kept true true h = (refl, refl)
-two_kept true false h = let bad : ⊥ = cc in absurd bad
-two_kept false b h = let bad : ⊥ = cc in absurd bad
+-- it breaks no rule on values
+pub record BreaksNone (boards : List IndexedBoard) (entry : StateEntry) : Type 0 where
+  pub board : breaks boards UnknownBoard entry ≡ false
+  pub name : breaks boards UnknownName entry ≡ false
+  pub kept : breaks boards NotKept entry ≡ false
+  pub bits : breaks boards BitsOutside entry ≡ false
 
-pub entry_written : (boards : List IndexedBoard) (entry : StateEntry) → entry_why boards entry ≡ None
+negated : (b : Bool) → not b ≡ false → b ≡ true
+negated true h = refl
+negated false h = let bad : ⊥ = cc in absurd bad
+
+pub entry_written : (boards : List IndexedBoard) (entry : StateEntry) → BreaksNone boards entry
     → MayBeWritten boards entry
-entry_written boards entry none = by_index (index_of entry.board boards) refl none
+entry_written boards entry none = by_index (index_of entry.board boards) refl
   where
-    by_register : (index : RegisterMap) → IsIndexAt entry.board boards index → (o : Option Register)
-        → get index entry.name ≡ o → name_why index entry o ≡ None → MayBeWritten boards entry
-    by_register index at None is why = let bad : ⊥ = cc in absurd bad
-    by_register index at (Some r) is why =
-        let (kept', fits') = two_kept (is_kept (entries index) (entry.name, r)) (fits_mask r.mask entry.value) why in
+    by_register : (index : RegisterMap) → index_of entry.board boards ≡ Some index → (o : Option Register)
+        → get index entry.name ≡ o → MayBeWritten boards entry
+    by_register index at None is =
+        let known : option_map_or (is_absent_in entry) (Some index) false ≡ false =
+        subst (λ o. option_map_or (is_absent_in entry) o false ≡ false) at none.name in
+        let bad : ⊥ = cc in absurd bad
+    by_register index at (Some r) is =
+        let here = index_has entry.board boards index at in
+        let found : register_of boards entry ≡ Some (index, r) =
+        ap (option_and_then (λ (m : RegisterMap). option_map (λ s. (m, s)) (get m entry.name))) at
+        ∙ ap (option_map (λ s. (index, s))) is in
+        let kept' : is_kept (entries index) (entry.name, r) ≡ true =
+        negated _ (subst (λ o. option_map_or (is_not_kept entry) o false ≡ false) found none.kept) in
         record {
-          board = at.board;
-          place = at.place;
-          there = at.there;
-          called = at.called;
+          board = here.board;
+          place = here.place;
+          there = here.there;
+          called = here.called;
           register = r;
-          is = subst (λ m. IsKept m entry.name r) (sym at.has) (kept_is index entry.name r is kept');
-          fits = fits';
+          is = subst (λ m. IsKept m entry.name r) (sym here.has) (kept_is index entry.name r is kept');
+          fits = negated _ (subst (λ o. option_map_or (has_bits_outside entry) o false ≡ false) found none.bits);
         }
 
-    by_index : (o : Option RegisterMap) → index_of entry.board boards ≡ o → board_why entry o ≡ None
-        → MayBeWritten boards entry
-    by_index None is why = let bad : ⊥ = cc in absurd bad
-    by_index (Some index) is why =
-        by_register index (index_has entry.board boards index is) (get index entry.name) refl why
+    by_index : (o : Option RegisterMap) → index_of entry.board boards ≡ o → MayBeWritten boards entry
+    by_index None is =
+        let known : is_none {T = RegisterMap} None ≡ false = subst (λ o. is_none o ≡ false) is none.board in
+        let bad : ⊥ = cc in absurd bad
+    by_index (Some index) is = by_register index is (get index entry.name) refl
+
+pub no_more : {X : Type 0} (xs ys : List X) → xs ++ ys ≡ [] → (xs ≡ []) × (ys ≡ [])
+no_more [] ys h = (refl, h)
+no_more (x ∷ xs) ys h = let bad : ⊥ = cc in absurd bad
 
 pub entries_written : (boards : List IndexedBoard) (es : List StateEntry) → entry_faults boards es ≡ []
-    → (k : ℕ) (e : StateEntry) → slice_get es k ≡ Some e → entry_why boards e ≡ None
-entries_written boards [] none k e at = let bad : ⊥ = cc in absurd bad
-entries_written boards (x ∷ es) none k e at = by_why (entry_why boards x) refl none k at
-    (λ m rest there. entries_written boards es rest m e there)
-  where
-    by_why : (o : Option StoreWhy) → entry_why boards x ≡ o
-        → cons_option (option_map (λ why. (x.board, x.name, why)) o) (entry_faults boards es) ≡ [] → (k : ℕ)
-        → slice_get (x ∷ es) k ≡ Some e
-        → ((m : ℕ) → entry_faults boards es ≡ [] → slice_get es m ≡ Some e → entry_why boards e ≡ None)
-        → entry_why boards e ≡ None
-    by_why (Some why) is none k at later = let bad : ⊥ = cc in absurd bad
-    by_why None is none zero at later = let same : x ≡ e = cc in subst (λ y. entry_why boards y ≡ None) same is
-    by_why None is none (suc m) at later = later m none at
+    → (k : ℕ) (e : StateEntry) → slice_get es k ≡ Some e → BreaksNone boards e
+entries_written boards es none k e at =
+    let one = no_more (faults_by boards es UnknownBoard) _ none in
+    let two = no_more (faults_by boards es UnknownName) _ one.1 in
+    let three = no_more (faults_by boards es NotKept) _ two.1 in
+    let four = no_more (faults_by boards es BitsOutside) _ three.1 in
+    record {
+      board = none_pass (breaks boards UnknownBoard) (fault_by UnknownBoard) es one.0 k e at;
+      name = none_pass (breaks boards UnknownName) (fault_by UnknownName) es two.0 k e at;
+      kept = none_pass (breaks boards NotKept) (fault_by NotKept) es three.0 k e at;
+      bits = none_pass (breaks boards BitsOutside) (fault_by BitsOutside) es four.0 k e at;
+    }
 
 pub all_at : (es : List StateEntry) → AllByRecursion HasWord es → (k : ℕ) (e : StateEntry) → slice_get es k ≡ Some e
     → HasWord e
 all_at [] all k e at = let bad : ⊥ = cc in absurd bad
 all_at (x ∷ es) all zero e at = let same : x ≡ e = cc in subst HasWord same all.0
 all_at (x ∷ es) all (suc k) e at = all_at es all.1 k e at
-
-pub no_more : {X : Type 0} (xs ys : List X) → xs ++ ys ≡ [] → (xs ≡ []) × (ys ≡ [])
-no_more [] ys h = (refl, h)
-no_more (x ∷ xs) ys h = let bad : ⊥ = cc in absurd bad
 
 few_kept : (n : ℕ) → count_faults n ≡ [] → n ≤ most_kept
 few_kept n h = by_test (nat_le n most_kept) refl h

@@ -9,6 +9,7 @@ pub mod SmallTables
 pub mod LineWords
 pub mod LineMeanings
 pub mod NoFaults
+pub mod LowestRules
 pub mod KeptLines
 pub mod InOrder
 pub mod FewValues

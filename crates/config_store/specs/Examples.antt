@@ -5,7 +5,7 @@ use Rattle.address_table.specs.declared.kinds.Permission.{Permission}
 use Rattle.address_table.specs.declared.kinds.Permission.TheVariants.{R, Rw}
 use Rattle.address_table.specs.declared.kinds.Mode.{Mode}
 use Rattle.address_table.specs.declared.kinds.Mode.TheVariants.{Single}
-use Rattle.board_node.specs.declared.spec.LinkSpec.TheVariants.{Udp}
+use Rattle.board_specs.specs.declared.spec.LinkSpec.TheVariants.{Udp}
 use Rattle.node_tree.specs.Maps.{Name, RegisterMap}
 use Rattle.node_tree.specs.declared.register.Register.{Register}
 use Rattle.script_steps.specs.declared.operation.Verb.TheVariants as verb

@@ -7,7 +7,7 @@ use Rattle.address_table.specs.declared.kinds.Mode.{Mode}
 use Rattle.address_table.specs.declared.kinds.Mode.TheVariants.{Single, Block, Port, Hierarchical}
 use Rattle.address_table.specs.declared.kinds.Permission.{Permission}
 use Rattle.address_table.specs.declared.kinds.Permission.TheVariants.{R, W, Rw}
-use Rattle.board_node.specs.declared.spec.BoardSpec.{BoardSpec}
+use Rattle.board_specs.specs.declared.spec.BoardSpec.{BoardSpec}
 use Rattle.node_tree.specs.Maps.{Name, RegisterMap}
 use Rattle.node_tree.specs.Overlaps.{is_dotted_prefix}
 use Rattle.node_tree.specs.declared.register.Register.{Register}

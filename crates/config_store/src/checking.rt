@@ -1,6 +1,6 @@
 //! Whether values may be written.
 
-ghost use Rattle.std.specs.Prelude.{◌≡◌, ◌<◌, [], length, true, IfOk, OnOk, IfErr, option_map};
+ghost use Rattle.std.specs.Prelude.{◌≡◌, ◌<◌, [], length, IfSome, IfOk, OnOk, IfErr, option_map};
 ghost use Rattle.std.specs.FinMap as map;
 ghost use Rattle.node_tree.specs.Maps.{IsRegister};
 ghost use Rattle.script_lang.specs.Operations.{fits_mask};
@@ -10,7 +10,7 @@ ghost use Rattle.config_store.specs.Refusals as spec;
 use crate::kept::is_kept;
 use crate::refusal::{StoreRefusal, StoreWhy, refused_at};
 use crate::state::StateEntry;
-use board_node::BoardSpec;
+use board_specs::BoardSpec;
 use ipb_base::NoMemory;
 use masked_fields::terms;
 use node_tree::{Index, Register};
@@ -38,45 +38,106 @@ fn index_of<'a>(boards: &[BoardSpec], indexes: &'a [Index], name: &[u8]) -> Opti
     None
 }
 
-/// The first rule that a value for a register breaks.
-fn register_why(
-    alloc: Global,
-    index: &Index,
+/// The register that a value is for, with the registers of its board.
+fn register_of<'a>(
+    boards: &[BoardSpec],
+    indexes: &'a [Index],
     entry: &StateEntry,
-    register: &Register,
-) -> Result<Option<StoreWhy>, NoMemory>
-    requires { 0 < register.now.mask }
-    ensures { IfOk result (λ why. why ≡ spec.register_why index.now entry.now register.now) }
+) -> Option<(&'a Index, Register)>
+    requires { length indexes.now ≡ length boards.now }
+    ensures found { option_map (λ found. (found.0.now, found.1)) result
+        ≡ spec.register_of (indexed_boards boards.now indexes.now) entry.now }
+    ensures masked { IfSome result (λ found. 0 < found.1.mask) }
 {
-    if !is_kept(alloc, index, entry.name.as_str(), register)? {
-        return Ok(Some(StoreWhy::NotKept));
-    }
-    if !fits(register.mask, entry.value) {
-        return Ok(Some(StoreWhy::BitsOutside));
-    }
-    Ok(None)
+    let index = index_of(boards, indexes, entry.board.as_slice())?;
+    let register = index.find(entry.name.as_str())?;
+    Some((index, register))
 }
 
-/// The first rule that a value breaks.
-fn entry_why(
+/// Whether the board of a value is there and has no register of its name.
+fn has_no_register(boards: &[BoardSpec], indexes: &[Index], entry: &StateEntry) -> bool
+    requires { length indexes.now ≡ length boards.now }
+    ensures { result ≡ spec.breaks (indexed_boards boards.now indexes.now) StoreWhy.UnknownName entry.now }
+{
+    match index_of(boards, indexes, entry.board.as_slice()) {
+        Some(index) => index.find(entry.name.as_str()).is_none(),
+        None => false,
+    }
+}
+
+/// Whether a value is for a register that is there and is not kept.
+fn is_not_kept(
     alloc: Global,
     boards: &[BoardSpec],
     indexes: &[Index],
     entry: &StateEntry,
-) -> Result<Option<StoreWhy>, NoMemory>
+) -> Result<bool, NoMemory>
     requires { length indexes.now ≡ length boards.now }
-    ensures { IfOk result (λ why. why ≡ spec.entry_why (indexed_boards boards.now indexes.now) entry.now) }
+    ensures { IfOk result (λ broken. broken
+        ≡ spec.breaks (indexed_boards boards.now indexes.now) StoreWhy.NotKept entry.now) }
 {
-    let Some(index) = index_of(boards, indexes, entry.board.as_slice()) else {
-        return Ok(Some(StoreWhy::UnknownBoard));
-    };
-    let Some(register) = index.find(entry.name.as_str()) else {
-        return Ok(Some(StoreWhy::UnknownName));
-    };
-    register_why(alloc, index, entry, &register)
+    match register_of(boards, indexes, entry) {
+        Some((index, register)) => Ok(!is_kept(alloc, index, entry.name.as_str(), &register)?),
+        None => Ok(false),
+    }
 }
 
-/// Refuses values of which one breaks a rule.
+/// Whether a value for a register that is there has a bit outside the register's mask.
+fn has_bits_outside(boards: &[BoardSpec], indexes: &[Index], entry: &StateEntry) -> bool
+    requires { length indexes.now ≡ length boards.now }
+    ensures { result ≡ spec.breaks (indexed_boards boards.now indexes.now) StoreWhy.BitsOutside entry.now }
+{
+    match register_of(boards, indexes, entry) {
+        Some((_index, register)) => !fits(register.mask, entry.value),
+        None => false,
+    }
+}
+
+/// Whether a value breaks a rule.
+fn breaks(
+    alloc: Global,
+    boards: &[BoardSpec],
+    indexes: &[Index],
+    why: StoreWhy,
+    entry: &StateEntry,
+) -> Result<bool, NoMemory>
+    requires { length indexes.now ≡ length boards.now }
+    ensures { IfOk result (λ broken. broken
+        ≡ spec.breaks (indexed_boards boards.now indexes.now) why entry.now) }
+{
+    match why {
+        StoreWhy::UnknownBoard => Ok(index_of(boards, indexes, entry.board.as_slice()).is_none()),
+        StoreWhy::UnknownName => Ok(has_no_register(boards, indexes, entry)),
+        StoreWhy::NotKept => is_not_kept(alloc, boards, indexes, entry),
+        StoreWhy::BitsOutside => Ok(has_bits_outside(boards, indexes, entry)),
+        StoreWhy::Shape | StoreWhy::Overlap | StoreWhy::TooMany => Ok(false),
+    }
+}
+
+/// Refuses the first value that breaks a rule.
+fn check_rule(
+    alloc: Global,
+    boards: &[BoardSpec],
+    indexes: &[Index],
+    entries: &[StateEntry],
+    why: StoreWhy,
+) -> Result<(), StoreRefusal>
+    requires { length indexes.now ≡ length boards.now }
+    ensures none { OnOk result (spec.faults_by (indexed_boards boards.now indexes.now) entries.now why ≡ []) }
+    ensures first { IfErr result
+        (spec.TellsFirst (spec.faults_by (indexed_boards boards.now indexes.now) entries.now why)) }
+{
+    for entry in entries {
+        if breaks(alloc, boards, indexes, why, entry)? {
+            let name = entry.name.as_str();
+            return Err(refused_at(alloc, entry.board.as_str(), name, why));
+        }
+    }
+    Ok(())
+}
+
+/// Refuses values of which one breaks a rule: by the lowest rule that any of them breaks, and at the first that breaks
+/// it. It goes through them once for each rule.
 pub(crate) fn check_entries(
     alloc: Global,
     boards: &[BoardSpec],
@@ -88,11 +149,8 @@ pub(crate) fn check_entries(
     ensures first { IfErr result
         (spec.TellsFirst (spec.entry_faults (indexed_boards boards.now indexes.now) entries.now)) }
 {
-    for entry in entries {
-        if let Some(why) = entry_why(alloc, boards, indexes, entry)? {
-            let name = entry.name.as_str();
-            return Err(refused_at(alloc, entry.board.as_str(), name, why));
-        }
-    }
-    Ok(())
+    check_rule(alloc, boards, indexes, entries, StoreWhy::UnknownBoard)?;
+    check_rule(alloc, boards, indexes, entries, StoreWhy::UnknownName)?;
+    check_rule(alloc, boards, indexes, entries, StoreWhy::NotKept)?;
+    check_rule(alloc, boards, indexes, entries, StoreWhy::BitsOutside)
 }

@@ -63,7 +63,7 @@ pub fn a_text_has_values_and_comments()
     ensures none { state_text (small_board.0 ∷ []) [] ≡ codes "[state.b0]\n" }
 {}
 
-/// Values that are not written, each with the rule that it breaks.
+/// Values that are not written, each with the rule that it breaks; of two the one that breaks the lower rule is told first.
 pub fn rules_on_values()
     ensures kept { applying_faults (small_board ∷ []) (value_for (codes "b0") (codes "a.top") 1 ∷ []) ≡ [] }
     ensures outside { applying_faults (small_board ∷ []) (value_for (codes "b0") (codes "a.top") 2 ∷ [])
@@ -74,6 +74,9 @@ pub fn rules_on_values()
         ≡ (codes "b0", codes "b", UnknownName) ∷ [] }
     ensures other_board { applying_faults (small_board ∷ []) (value_for (codes "b9") (codes "a.top") 1 ∷ [])
         ≡ (codes "b9", codes "a.top", UnknownBoard) ∷ [] }
+    ensures lowest { applying_faults (small_board ∷ [])
+        (value_for (codes "b0") (codes "zz") 1 ∷ value_for (codes "b9") (codes "a.top") 1 ∷ [])
+        ≡ (codes "b9", codes "a.top", UnknownBoard) ∷ (codes "b0", codes "zz", UnknownName) ∷ [] }
 {}
 
 /// A state, and what is none: a name without quotes is a table in a table.

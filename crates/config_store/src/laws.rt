@@ -3,7 +3,7 @@
 ghost use Rattle.std.specs.Prelude.{◌≡◌, ◌≢◌, ◌↔◌, ℕ, ◌<◌, ◌^◌, [], ◌∷◌, ◌++◌, List, true};
 ghost use Rattle.std.specs.Prelude.{bit_and, codes, Ok, Some};
 ghost use Rattle.std.specs.List.{AllByRecursion, AllZip, Contains, filter_map, slice_get};
-ghost use Rattle.board_node.specs.declared.spec.BoardSpec.{BoardSpec};
+ghost use Rattle.board_specs.specs.declared.spec.BoardSpec.{BoardSpec};
 ghost use Rattle.masked_fields.specs.Field.{field};
 ghost use Rattle.std.specs.FinMap.{get};
 ghost use Rattle.address_table.specs.Rules.{is_id};
@@ -30,7 +30,8 @@ ghost use Rattle.config_store.specs.Meanings.{
   write_of,
 };
 ghost use Rattle.config_store.specs.Overlaps.{name_of, overlapping_names};
-ghost use Rattle.config_store.specs.Refusals.{applying_faults, entry_faults, keeping_faults};
+ghost use Rattle.config_store.specs.Refusals.{IsLowest, applying_faults, entry_faults, keeping_faults, value_rules};
+ghost use Rattle.config_store.specs.States.{StoreFault};
 ghost use Rattle.config_store.specs.Order.{AreInOrder};
 ghost use Rattle.config_store.specs.Puts.{AreApartFrom, CanAllBePut, CanBePut, put_all};
 
@@ -104,6 +105,12 @@ pub fn the_scripts_write_and_read()
         × AllZip (Reads (indexed_boards boards indexes)) (kept_of (indexed_boards boards indexes)) reads
         × (steps_from boards indexes 1 (apply_lines entries (kept_of (indexed_boards boards indexes)))
         ≡ writes ++ Dispatch ∷ reads) }
+{}
+
+/// Of values that break rules the lowest rule that any of them breaks is told, at the first value that breaks it.
+pub fn the_lowest_rule_is_told()
+    ensures { (boards : List IndexedBoard) (entries : List EntryValue) (fault : StoreFault)
+        → (slice_get (entry_faults boards entries) 0 ≡ Some fault) ↔ IsLowest value_rules boards entries fault }
 {}
 
 /// The names that overlap earlier ones are those of the second registers of the pairs that a listing shows.

@@ -12,7 +12,7 @@ use crate::limits::MAX_KEPT;
 use crate::overlapping::check_overlaps;
 use crate::refusal::{StoreRefusal, StoreWhy, refused_at};
 use crate::state::{State, StateEntry};
-use board_node::BoardSpec;
+use board_specs::BoardSpec;
 use ipb_base::{NoMemory, Text};
 use node_tree::Index;
 use script_lang::Session;
@@ -96,7 +96,7 @@ fn reads(alloc: Global, boards: &[BoardSpec], indexes: &[Index]) -> Result<Vec<T
     Ok(lines)
 }
 
-/// Those of a board.
+/// Adds the lines of one board.
 fn push_board(
     alloc: Global,
     lines: &mut Vec<Text>,

@@ -63,7 +63,7 @@ fn push_boards(
     Ok(())
 }
 
-/// Those for the registers of a board.
+/// Adds the entries for the registers of one board.
 fn push_board(
     alloc: Global,
     entries: &mut Vec<StateEntry>,

@@ -4,7 +4,7 @@ ghost use Rattle.std.specs.Prelude.{◌≡◌, ◌++◌, codes, IfOk, OnOk, stri
 ghost use Rattle.std.specs.List.{filter, flat_map};
 ghost use Rattle.config_store.specs.Text as spec;
 
-use board_node::BoardSpec;
+use board_specs::BoardSpec;
 use ipb_base::NoMemory;
 use script_steps::Verb;
 use std::alloc::Global;

@@ -2,7 +2,7 @@
 use Rattle.std.proofs.Common.{◌≡◌, ◌∙◌, ℕ, ◌||◌, Bool, true, false, List, Option, Some, None, refl, sym, ap, subst}
 use Rattle.std.proofs.Common.{if◌then◌else◌}
 use Rattle.world_model.specs.Hub.{Hub}
-use Rattle.world_core.specs.Telling.{IfTelling, Telling}
+use Rattle.links.specs.Telling.{IfTelling, Telling}
 use Rattle.lane_record.specs.Items.{told_by_first, plan_in}
 use Rattle.hub_lane.specs.declared.answers.Asked.TheVariants as asks
 use Rattle.hub_lane.specs.Calls.{Asking, Offers, SendsAs, asked_in_vain, has_stopped, with_offer}

@@ -4,7 +4,7 @@ use Rattle.world_model.specs.Hub.{Hub, after_handing_out}
 use Rattle.world_model.specs.Links.{Told, sent_on}
 use Rattle.world_model.specs.Sends.{Next, bytes_to_send, next_send}
 use Rattle.reliable_engine.specs.Answers.{hub_next}
-use Rattle.world_core.specs.Telling.{IfTelling, IsGot, IsQuiet, IsSent, Telling}
+use Rattle.links.specs.Telling.{IfTelling, IsGot, IsQuiet, IsSent, Telling}
 use Rattle.hub_lane.specs.declared.answers.Pumped.{Pumped}
 use Rattle.hub_lane.specs.declared.answers.Pumped.TheVariants.{Reply, Status, Stray, Quiet, Idle, LinkDown}
 use Rattle.hub_lane.specs.Sends.{after_sends, all_sent}

@@ -21,8 +21,8 @@ use Rattle.world_model.proofs.Hubs.{places_map}
 use Rattle.world_model.proofs.OpenPlaces.{message_opens_none, reply_closes, send_opens}
 use Rattle.world_model.proofs.Flushing.{quiet_cases}
 use Rattle.reliable_engine.specs.Answers.{IsOpen}
-use Rattle.world_core.specs.Telling.{IsGot, IsQuiet, IsReceived, IsSent, Telling}
-use Rattle.recovery_laws.proofs.Heard.{AirGrows, nothing_due}
+use Rattle.links.specs.Telling.{IsGot, IsQuiet, IsReceived, IsSent, Telling}
+use Rattle.hub_lane.proofs.RoundHeard.{AirGrows, nothing_due}
 use Rattle.hub_lane.specs.Standing.{AreInAir, NoneOpenHanded, WasHanded}
 use Rattle.hub_lane.proofs.Standing.{SameBoard}
 

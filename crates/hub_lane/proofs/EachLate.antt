@@ -19,7 +19,7 @@ use Rattle.world_model.specs.Answered.{AreAllAnswered, HasLateAnswer, HasReply}
 use Rattle.world_model.specs.LateAnswers.{AreOfTimedOut}
 use Rattle.world_model.specs.Settings.{Limits}
 use Rattle.world_model.proofs.Lists.{all_get, at_within, front_length}
-use Rattle.world_core.specs.Telling.{Telling}
+use Rattle.links.specs.Telling.{Telling}
 use Rattle.lane_record.specs.declared.outcome.Outcome.{Outcome}
 use Rattle.lane_record.specs.declared.outcome.Outcome.TheVariants as became
 use Rattle.lane_record.specs.declared.item.Item.{Item}

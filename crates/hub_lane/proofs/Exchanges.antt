@@ -15,7 +15,7 @@ use Rattle.world_model.specs.Facts.{HasBodies}
 use Rattle.world_model.proofs.Lists.{either}
 use Rattle.world_model.proofs.Flushing.{message_cases, quiet_cases}
 use Rattle.world_model.specs.Settings.{Limits}
-use Rattle.world_core.specs.Telling.{Telling}
+use Rattle.links.specs.Telling.{Telling}
 use Rattle.lane_record.specs.declared.outcome.Outcome.{Outcome}
 use Rattle.lane_record.specs.declared.outcome.Outcome.TheVariants as became
 use Rattle.lane_record.specs.declared.item.Item.{Item}
@@ -26,7 +26,7 @@ use Rattle.lane_record.specs.Lates.{put_lates}
 use Rattle.lane_record.specs.Offers.{AddsOnly, AgreesWith, KeepsOutcomes, Settles, put_all}
 use Rattle.lane_record.proofs.Rounds.{give_up_tells, message_tells}
 use Rattle.lane_record.proofs.Lengths.{give_up_short, message_short}
-use Rattle.recovery_laws.proofs.Rounds.{mul_more}
+use Rattle.hub_lane.proofs.RoundsPaid.{mul_more}
 use Rattle.hub_lane.specs.Below.{LateLaws}
 use Rattle.hub_lane.specs.declared.answers.Pumped.{Pumped}
 use Rattle.hub_lane.specs.declared.answers.Pumped.TheVariants.{Reply, Status, Stray, Quiet, Idle, LinkDown}

@@ -6,10 +6,10 @@ use Rattle.status_packet.specs.declared.status.Status.{Status}
 use Rattle.world_model.specs.declared.datagram.Direction.TheVariants as goes
 use Rattle.world_model.specs.Links.{Told, birth_of}
 use Rattle.world_model.specs.Settings.{Limits}
-use Rattle.world_core.specs.declared.link.Link.{Ghosts}
-use Rattle.world_core.specs.declared.link.LinkFault.{LinkFault}
-use Rattle.world_core.specs.Receives.{first_status}
-use Rattle.world_core.specs.Telling.{IfTelling, IsSent, Telling}
+use Rattle.links.specs.declared.link.Link.{Ghosts}
+use Rattle.links.specs.declared.link.LinkFault.{LinkFault}
+use Rattle.links.specs.Receives.{first_status}
+use Rattle.links.specs.Telling.{IfTelling, IsSent, Telling}
 use Rattle.hub_lane.specs.Heard.{EndWith}
 use Rattle.hub_lane.specs.Greeting.{CanBegin, CountsRound, EndsAskingWith, EndsGreetingWith, EndsRound}
 use Rattle.hub_lane.specs.Greeting.{EndsRoundWith, HandedOutNone, HasAskedAtMost, HasAskedNothing, IsUnused}

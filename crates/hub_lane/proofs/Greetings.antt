@@ -22,17 +22,17 @@ use Rattle.world_model.specs.Facts.{IsGreeting, IsGreetingOf, IsStart}
 use Rattle.world_model.specs.Links.{Told, IsHeard, birth_of, first_sends, heard_on, hears_all, sent_on}
 use Rattle.world_model.proofs.Lists.{all_get, get_seam, get_within}
 use Rattle.world_model.specs.Settings.{Limits}
-use Rattle.world_core.specs.declared.link.Link.{Ghosts}
-use Rattle.world_core.specs.declared.link.LinkFault.{LinkFault}
-use Rattle.world_core.specs.declared.link.LinkFault.TheVariants as fault
-use Rattle.world_core.specs.declared.link.Received.{Received}
-use Rattle.world_core.specs.declared.link.Received.TheVariants as came
-use Rattle.world_core.specs.Telling.{IfTelling, IsGot, IsQuiet, IsReceived, IsSent, Receives, Telling}
+use Rattle.links.specs.declared.link.Link.{Ghosts}
+use Rattle.links.specs.declared.link.LinkFault.{LinkFault}
+use Rattle.links.specs.declared.link.LinkFault.TheVariants as fault
+use Rattle.links.specs.declared.link.Received.{Received}
+use Rattle.links.specs.declared.link.Received.TheVariants as came
+use Rattle.links.specs.Telling.{IfTelling, IsGot, IsQuiet, IsReceived, IsSent, Receives, Telling}
 use Rattle.hub_lane.specs.Standing.{AreInAir}
 use Rattle.hub_lane.proofs.Closed.{got_in_air, sent_in_air, unheard_in_air}
 use Rattle.hub_lane.proofs.Requests.{if_both}
-use Rattle.recovery_laws.proofs.Heard.{AirGrows, GoesThere, contains_get, front_goes, heard_first, heard_goes}
-use Rattle.recovery_laws.proofs.Heard.{nothing_due, one_way}
+use Rattle.hub_lane.proofs.RoundHeard.{AirGrows, GoesThere, contains_get, front_goes, heard_first, heard_goes}
+use Rattle.hub_lane.proofs.RoundHeard.{nothing_due, one_way}
 use Rattle.hub_lane.specs.declared.greeting.Answer.{Answer}
 use Rattle.hub_lane.specs.declared.greeting.Answer.TheVariants as answer
 use Rattle.hub_lane.specs.Greeting.{CanBegin, EndsAskingWith, EndsRoundWith, IsExpecting}

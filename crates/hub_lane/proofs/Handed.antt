@@ -14,7 +14,7 @@ use Rattle.world_model.specs.Links.{IsJoined}
 use Rattle.world_model.proofs.Lists.{all_get, at_from_one}
 use Rattle.world_model.proofs.Places.{has_below, has_from, one_place}
 use Rattle.reliable_engine.specs.Answers.{IsOpen}
-use Rattle.world_core.specs.Telling.{IsGot, Telling}
+use Rattle.links.specs.Telling.{IsGot, Telling}
 use Rattle.hub_lane.specs.Standing.{WasHanded}
 
 -- a reply that is handed out, with the identifier of an open place, is of that place

@@ -15,10 +15,10 @@ use Rattle.world_model.proofs.OpenPlaces.{named, none_named}
 use Rattle.reliable_engine.specs.Answers.{IsOpen}
 use Rattle.reliable_engine.specs.Events.{IsAtRest}
 use Rattle.world_model.specs.Settings.{Limits}
-use Rattle.world_core.specs.declared.link.Link.{Ghosts}
-use Rattle.world_core.specs.Telling.{IfTelling, IsGot, IsQuiet, IsSent, Telling}
+use Rattle.links.specs.declared.link.Link.{Ghosts}
+use Rattle.links.specs.Telling.{IfTelling, IsGot, IsQuiet, IsSent, Telling}
 use Rattle.lane_record.specs.declared.outcome.Outcome.{Outcome}
-use Rattle.recovery_laws.specs.UnderWay.{CanRecover, IsUnderWay}
+use Rattle.hub_lane.specs.UnderWay.{CanRecover, IsUnderWay}
 use Rattle.hub_lane.specs.declared.answers.Pumped.{Pumped}
 use Rattle.hub_lane.specs.declared.answers.Pumped.TheVariants.{Reply, Status, Stray, Quiet, Idle, LinkDown}
 use Rattle.hub_lane.specs.Below.{WayLaws}

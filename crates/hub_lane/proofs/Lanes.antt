@@ -15,7 +15,7 @@ use Rattle.world_model.specs.Hub.{Hub, is_waiting, new_hub, offer}
 use Rattle.world_model.specs.Facts.{HasBodies, IsSendable}
 use Rattle.world_model.proofs.Lists.{either}
 use Rattle.world_model.specs.Settings.{AreLimits, Limits}
-use Rattle.world_core.specs.Telling.{Telling}
+use Rattle.links.specs.Telling.{Telling}
 use Rattle.lane_record.specs.declared.outcome.Outcome.{Outcome}
 use Rattle.lane_record.specs.declared.outcome.Outcome.TheVariants as became
 use Rattle.lane_record.specs.declared.item.Item.{Item}

@@ -1,3 +1,10 @@
+mod RoundAnswers
+mod RoundHearing
+mod RoundHeard
+mod RoundReceives
+mod RoundSends
+mod LowestPlace
+mod RoundsPaid
 mod Handed
 mod Standing
 mod Closed

@@ -12,13 +12,13 @@ use Rattle.reliable_engine.specs.Answers.{hub_next}
 use Rattle.world_model.specs.Board.{Board}
 use Rattle.world_model.specs.Settings.{Limits}
 use Rattle.lane_record.specs.declared.outcome.Outcome.{Outcome}
-use Rattle.world_core.specs.declared.link.Received.{Received}
-use Rattle.world_core.specs.declared.link.Received.TheVariants.{Got, Quiet as received_quiet}
-use Rattle.recovery_laws.proofs.Heard.{AirGrows}
+use Rattle.links.specs.declared.link.Received.{Received}
+use Rattle.links.specs.declared.link.Received.TheVariants.{Got, Quiet as received_quiet}
+use Rattle.hub_lane.proofs.RoundHeard.{AirGrows}
 use Rattle.hub_lane.specs.Lanes.{board_of}
-use Rattle.world_core.specs.declared.link.LinkFault.{LinkFault}
-use Rattle.world_core.specs.declared.link.LinkFault.TheVariants.{Failed, NoMemory}
-use Rattle.world_core.specs.Telling.{IfTelling, IsGot, IsQuiet, IsReceived, IsSent, Receives, Telling}
+use Rattle.links.specs.declared.link.LinkFault.{LinkFault}
+use Rattle.links.specs.declared.link.LinkFault.TheVariants.{Failed, NoMemory}
+use Rattle.links.specs.Telling.{IfTelling, IsGot, IsQuiet, IsReceived, IsSent, Receives, Telling}
 use Rattle.hub_lane.specs.declared.answers.Pumped.{Pumped}
 use Rattle.hub_lane.specs.declared.answers.Pumped.TheVariants.{Reply, Status, Stray, Quiet, Idle, LinkDown}
 use Rattle.hub_lane.specs.Carrying.{HasPut}

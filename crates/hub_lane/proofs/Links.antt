@@ -6,12 +6,12 @@ use Rattle.board_bus.specs.Cells.{CellMap}
 use Rattle.ipb_base.specs.Faults.{Rose}
 use Rattle.ipb_base.specs.Lists.{IsPrefix}
 use Rattle.world_model.specs.Board.{Board}
-use Rattle.world_core.specs.declared.link.Link.{Ghosts}
-use Rattle.world_core.specs.declared.link.LinkFault.{LinkFault}
-use Rattle.world_core.specs.declared.link.Received.{Received}
-use Rattle.world_core.specs.declared.link.Received.TheVariants.{Got, Quiet as received_quiet}
-use Rattle.world_core.specs.Receives.{receives_after}
-use Rattle.world_core.specs.Telling.{IfTelling, IsQuiet, Receives, Telling}
+use Rattle.links.specs.declared.link.Link.{Ghosts}
+use Rattle.links.specs.declared.link.LinkFault.{LinkFault}
+use Rattle.links.specs.declared.link.Received.{Received}
+use Rattle.links.specs.declared.link.Received.TheVariants.{Got, Quiet as received_quiet}
+use Rattle.links.specs.Receives.{receives_after}
+use Rattle.links.specs.Telling.{IfTelling, IsQuiet, Receives, Telling}
 use Rattle.lane_record.specs.declared.item.Item.{Item}
 use Rattle.hub_lane.specs.declared.answers.Pumped.TheVariants.{Quiet}
 use Rattle.hub_lane.specs.declared.answers.Pumped.{Pumped}

@@ -15,16 +15,16 @@ use Rattle.world_model.specs.Messages.{ToHub, Reply, StatusReply, to_hub}
 use Rattle.world_model.specs.declared.offered.Offered.{Offered}
 use Rattle.world_model.specs.Hub.{Hub, IsDrained, after_handing_out, give_up, hear_quiet, is_waiting, offer, take_message}
 use Rattle.world_model.proofs.Flushing.{quiet_cases}
-use Rattle.world_core.specs.declared.link.Received.{Received}
-use Rattle.world_core.specs.declared.link.Received.TheVariants.{Got, Quiet}
-use Rattle.world_core.specs.Receives.{IsReplyAmong, first_status, quiets_in, receives_after, since_status, tells_status}
+use Rattle.links.specs.declared.link.Received.{Received}
+use Rattle.links.specs.declared.link.Received.TheVariants.{Got, Quiet}
+use Rattle.links.specs.Receives.{IsReplyAmong, first_status, quiets_in, receives_after, since_status, tells_status}
 use Rattle.lane_record.specs.declared.outcome.Outcome.{Outcome}
 use Rattle.lane_record.specs.declared.outcome.Outcome.TheVariants as became
 use Rattle.lane_record.specs.Lates.{late_in, put_lates}
 use Rattle.lane_record.specs.Offers.{AddsOnly, all_lost, outcome_of, put, put_all}
 use Rattle.lane_record.specs.Outcomes.{is_lost}
 use Rattle.lane_record.proofs.Lates.{came, none_added, none_late}
-use Rattle.recovery_laws.proofs.Rounds.{mul_more}
+use Rattle.hub_lane.proofs.RoundsPaid.{mul_more}
 use Rattle.hub_lane.specs.declared.answers.Pumped.{Pumped}
 use Rattle.hub_lane.specs.declared.answers.Pumped.TheVariants as pumps
 use Rattle.hub_lane.specs.declared.greeting.Answer.{Answer}

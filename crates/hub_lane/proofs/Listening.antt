@@ -5,9 +5,9 @@ use Rattle.std.specs.Prelude.{Result, Ok, Err, IfSome, OnErr}
 use Rattle.ipb_base.specs.Faults.{Rose}
 use Rattle.status_packet.specs.declared.status.Status.{Status}
 use Rattle.world_model.specs.Settings.{Limits}
-use Rattle.world_core.specs.declared.link.Link.{Ghosts}
-use Rattle.world_core.specs.Receives.{first_status}
-use Rattle.world_core.specs.Telling.{IfTelling, Telling}
+use Rattle.links.specs.declared.link.Link.{Ghosts}
+use Rattle.links.specs.Receives.{first_status}
+use Rattle.links.specs.Telling.{IfTelling, Telling}
 use Rattle.hub_lane.specs.Heard.{EndWith}
 use Rattle.hub_lane.specs.declared.greeting.Answer.{Answer}
 use Rattle.hub_lane.specs.declared.greeting.Answer.TheVariants as answer

@@ -11,7 +11,7 @@ use Rattle.world_model.specs.Hub.{take_message}
 use Rattle.world_model.specs.Sends.{pending}
 use Rattle.world_model.specs.Facts.{HasBodies}
 use Rattle.world_model.specs.Settings.{Limits}
-use Rattle.world_core.specs.Telling.{Telling}
+use Rattle.links.specs.Telling.{Telling}
 use Rattle.lane_record.specs.declared.outcome.Outcome.{Outcome}
 use Rattle.lane_record.specs.declared.item.Item.{Item}
 use Rattle.lane_record.specs.Claims.{Claim, claims}

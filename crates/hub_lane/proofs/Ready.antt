@@ -4,7 +4,7 @@ use Rattle.std.specs.Prelude.{IfSome}
 use Rattle.world_model.specs.Hub.{Hub, after_handing_out}
 use Rattle.world_model.specs.Sends.{Next, next_send}
 use Rattle.world_model.specs.Settings.{Limits}
-use Rattle.world_core.specs.Telling.{Telling}
+use Rattle.links.specs.Telling.{Telling}
 use Rattle.lane_record.specs.declared.outcome.Outcome.{Outcome}
 use Rattle.lane_record.specs.Lates.{put_lates}
 use Rattle.lane_record.specs.Offers.{put_all}

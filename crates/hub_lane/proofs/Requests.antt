@@ -7,13 +7,13 @@ use Rattle.world_model.specs.declared.datagram.Datagram.{Datagram}
 use Rattle.world_model.specs.Board.{hear}
 use Rattle.world_model.specs.Links.{IsHeard, Told, first_sends, heard_on, hears_all}
 use Rattle.world_model.specs.World.{air_after_answer}
-use Rattle.world_core.specs.declared.link.Link.{Ghosts}
-use Rattle.world_core.specs.declared.link.LinkFault.{LinkFault}
-use Rattle.world_core.specs.declared.link.LinkFault.TheVariants as fault
-use Rattle.world_core.specs.declared.link.Received.{Received}
-use Rattle.world_core.specs.declared.link.Received.TheVariants as came
-use Rattle.world_core.specs.Telling.{IfTelling, Receives, Telling}
-use Rattle.recovery_laws.proofs.Heard.{heard_first}
+use Rattle.links.specs.declared.link.Link.{Ghosts}
+use Rattle.links.specs.declared.link.LinkFault.{LinkFault}
+use Rattle.links.specs.declared.link.LinkFault.TheVariants as fault
+use Rattle.links.specs.declared.link.Received.{Received}
+use Rattle.links.specs.declared.link.Received.TheVariants as came
+use Rattle.links.specs.Telling.{IfTelling, Receives, Telling}
+use Rattle.hub_lane.proofs.RoundHeard.{heard_first}
 use Rattle.hub_lane.specs.Greeting.{HasAskedNothing, requests_in}
 use Rattle.world_model.specs.Air.{is_for_board}
 

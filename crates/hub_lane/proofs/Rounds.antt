@@ -18,12 +18,12 @@ use Rattle.world_model.specs.Sends.{Next, bytes_to_send, next_send}
 use Rattle.world_model.proofs.Flushing.{message_cases, quiet_cases, send_cases}
 use Rattle.status_packet.specs.Range.{IsBufferCount}
 use Rattle.world_model.specs.Settings.{AreLimits, Limits}
-use Rattle.world_core.specs.Telling.{IfTelling, IsGot, IsQuiet, IsSent, Telling}
+use Rattle.links.specs.Telling.{IfTelling, IsGot, IsQuiet, IsSent, Telling}
 use Rattle.lane_record.specs.declared.outcome.Outcome.{Outcome}
 use Rattle.lane_record.specs.Bounds.{HasReached}
-use Rattle.recovery_laws.specs.Rounds.{IsPaid}
-use Rattle.recovery_laws.specs.UnderWay.{CanRecover, CanTake}
-use Rattle.recovery_laws.proofs.Rounds.{fits_on, reached_later}
+use Rattle.hub_lane.specs.PaidRounds.{IsPaid}
+use Rattle.hub_lane.specs.UnderWay.{CanRecover, CanTake}
+use Rattle.hub_lane.proofs.RoundsPaid.{fits_on, reached_later}
 use Rattle.hub_lane.specs.declared.answers.Pumped.{Pumped}
 use Rattle.hub_lane.specs.declared.answers.Pumped.TheVariants.{Reply, Status, Stray, Quiet, Idle, LinkDown}
 use Rattle.hub_lane.specs.Hearing.{IsHeardAs, give_ups_after, give_ups_of}

@@ -4,7 +4,8 @@ use Rattle.std.proofs.Common.{refl, sym, ap, ◌∙◌, subst, arith}
 use Rattle.world_model.specs.Hub.{Hub}
 use Rattle.world_model.specs.Sends.{Next, next_send, pending}
 use Rattle.reliable_engine.specs.Answers.{hub_next, sent_next}
-use Rattle.world_core.proofs.Sends.{Fewer, none_by}
+use Rattle.links.proofs.Sends.{Fewer}
+use Rattle.links.proofs.Sends.{none_by}
 use Rattle.hub_lane.specs.Sends.{HasSent, after_sends, all_sent}
 
 pub none_is : (old : Hub) → None ≡ sent_next (next_send old) → next_send old ≡ None

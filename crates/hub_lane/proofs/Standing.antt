@@ -28,14 +28,14 @@ use Rattle.world_model.proofs.OpenPlaces.{named}
 use Rattle.world_model.proofs.Flushing.{quiet_cases, reply_cases, status_cases}
 use Rattle.reliable_engine.specs.Answers.{IsOpen, hub_next}
 use Rattle.world_model.specs.Settings.{Limits}
-use Rattle.world_core.specs.States.{IsReached}
-use Rattle.world_core.specs.Telling.{IfTelling, IsGot, IsQuiet, IsReceived, IsSent, Telling}
+use Rattle.links.specs.States.{IsReached}
+use Rattle.links.specs.Telling.{IfTelling, IsGot, IsQuiet, IsReceived, IsSent, Telling}
 use Rattle.lane_record.specs.declared.outcome.Outcome.{Outcome}
 use Rattle.lane_record.specs.declared.outcome.Outcome.TheVariants as became
 use Rattle.lane_record.specs.Lates.{put_lates}
 use Rattle.lane_record.specs.Offers.{AreToldBy, IsToldBy, all_lost, lost_after, outcome_of, put, put_all}
 use Rattle.lane_record.specs.Outcomes.{is_sent}
-use Rattle.recovery_laws.proofs.Heard.{AirGrows}
+use Rattle.hub_lane.proofs.RoundHeard.{AirGrows}
 use Rattle.lane_record.proofs.Lates.{no_lates, told_lates_added, told_lates_more}
 use Rattle.hub_lane.specs.Standing.{AreHanded, IsHandedFate, IsHandedLate, IsRunning, IsStopped, WasHanded}
 use Rattle.hub_lane.specs.PumpLaws.{SendLeaves}

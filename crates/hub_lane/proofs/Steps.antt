@@ -7,8 +7,8 @@ use Rattle.ipb_base.specs.Faults.{Rose}
 use Rattle.world_model.specs.declared.offered.Offered.{Offered}
 use Rattle.world_model.specs.declared.offered.OpenPlace.{OpenPlace}
 use Rattle.world_model.specs.Hub.{Hub, is_waiting, some_queued, some_waited}
-use Rattle.world_core.specs.declared.link.Link.{Ghosts}
-use Rattle.world_core.specs.Telling.{IfTelling, Telling}
+use Rattle.links.specs.declared.link.Link.{Ghosts}
+use Rattle.links.specs.Telling.{IfTelling, Telling}
 use Rattle.lane_record.specs.declared.outcome.Outcome.{Outcome}
 use Rattle.lane_record.specs.declared.item.Item.{Item}
 use Rattle.lane_record.specs.Claims.{Claim, claim_in, claims, claims_behind}

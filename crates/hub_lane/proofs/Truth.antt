@@ -23,9 +23,9 @@ use Rattle.world_model.proofs.Lists.{all_get, at_from_one, front_more, get_front
 use Rattle.world_model.proofs.Flushing.{send_cases}
 use Rattle.reliable_engine.specs.Answers.{hub_next}
 use Rattle.world_model.specs.Settings.{Limits}
-use Rattle.world_core.specs.States.{IsReached, world_of_both}
-use Rattle.world_core.specs.Receives.{since_status}
-use Rattle.world_core.specs.Telling.{Telling}
+use Rattle.links.specs.States.{IsReached, world_of_both}
+use Rattle.links.specs.Receives.{since_status}
+use Rattle.links.specs.Telling.{Telling}
 use Rattle.lane_record.specs.declared.outcome.Outcome.{Outcome}
 use Rattle.lane_record.specs.declared.outcome.Outcome.TheVariants as became
 use Rattle.lane_record.specs.declared.item.Item.{Item}

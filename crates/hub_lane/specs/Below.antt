@@ -7,10 +7,10 @@ use Rattle.world_model.specs.Hub.{HandedOut, Hub, after_handing_out, give_up, ha
 use Rattle.world_model.specs.Hub.{none_handed_out, offer, take_message, want_status}
 use Rattle.world_model.specs.LateAnswers.{AreOfTimedOut}
 use Rattle.world_model.specs.Sends.{Next, bytes_to_send, next_send}
-use Rattle.world_core.specs.Telling.{IsGot, IsQuiet, IsSent, Telling}
+use Rattle.links.specs.Telling.{IsGot, IsQuiet, IsSent, Telling}
 use Rattle.lane_record.specs.Bounds.{HasReached}
-use Rattle.recovery_laws.specs.Rounds.{IsPaid}
-use Rattle.recovery_laws.specs.UnderWay.{CanRecover, IsUnderWay}
+use Rattle.hub_lane.specs.PaidRounds.{IsPaid}
+use Rattle.hub_lane.specs.UnderWay.{CanRecover, IsUnderWay}
 
 pub record RoundLaws : Type 0 where
   pub begins : (rounds : ℕ) (hub : Hub) (held : ℕ) (t : Telling) → hub.status_requests ≡ 0

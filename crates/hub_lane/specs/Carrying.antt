@@ -3,7 +3,7 @@ use Rattle.std.specs.Prelude.{◌≡◌, ℕ, suc, zero, List, [], ◌∷◌, �
 use Rattle.world_model.specs.Hub.{Hub, after_handing_out}
 use Rattle.world_model.specs.Links.{IsHandedAt, IsHeard, Told, sent_on}
 use Rattle.world_model.specs.Sends.{Next, bytes_to_send, next_send}
-use Rattle.world_core.specs.Telling.{Telling}
+use Rattle.links.specs.Telling.{Telling}
 use Rattle.hub_lane.specs.declared.answers.Pumped.{Pumped}
 use Rattle.hub_lane.specs.declared.answers.Pumped.TheVariants.{Reply, Status, Stray, Quiet, Idle, LinkDown}
 use Rattle.hub_lane.specs.Sends.{after_sends, all_sent}

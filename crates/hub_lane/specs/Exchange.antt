@@ -1,8 +1,8 @@
 -- What an exchange makes of a hub, of what became of its bodies, and of its link: all that the hub wants is sent, and
 -- then comes one receive. Profile.
 use Rattle.std.specs.Prelude.{◌≡◌, ℕ, List, IfSome}
-use Rattle.world_core.specs.declared.link.Link.{Ghosts}
-use Rattle.world_core.specs.Telling.{IfTelling}
+use Rattle.links.specs.declared.link.Link.{Ghosts}
+use Rattle.links.specs.Telling.{IfTelling}
 use Rattle.world_model.specs.Hub.{Hub, after_handing_out}
 use Rattle.lane_record.specs.Lates.{put_lates}
 use Rattle.lane_record.specs.Offers.{put_all}

@@ -9,9 +9,9 @@ use Rattle.world_model.specs.Air.{is_for_board}
 use Rattle.world_model.specs.Messages.{ToHub, StatusReply}
 use Rattle.world_model.specs.Facts.{IsStart}
 use Rattle.world_model.specs.Settings.{Limits}
-use Rattle.world_core.specs.Receives.{tells_status}
-use Rattle.world_core.specs.Telling.{IfTelling, Telling}
-use Rattle.world_core.specs.declared.link.Link.{Ghosts}
+use Rattle.links.specs.Receives.{tells_status}
+use Rattle.links.specs.Telling.{IfTelling, Telling}
+use Rattle.links.specs.declared.link.Link.{Ghosts}
 use Rattle.hub_lane.specs.declared.greeting.Answer.{Answer}
 use Rattle.hub_lane.specs.declared.greeting.Answer.TheVariants as answer
 use Rattle.hub_lane.specs.declared.greeting.Greeted.{Greeted}

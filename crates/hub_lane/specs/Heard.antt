@@ -4,7 +4,7 @@ use Rattle.std.specs.List.{slice_get}
 use Rattle.status_packet.specs.declared.status.Status.{Status}
 use Rattle.world_model.specs.Messages.{ToHub, StatusReply}
 use Rattle.world_model.specs.Hub.{Hub}
-use Rattle.world_core.specs.Receives.{IsReplyAmong, first_status, quiets_in, since_status}
+use Rattle.links.specs.Receives.{IsReplyAmong, first_status, quiets_in, since_status}
 use Rattle.lane_record.specs.declared.outcome.Outcome.{Outcome}
 use Rattle.lane_record.specs.declared.outcome.Outcome.TheVariants.{Replied}
 use Rattle.lane_record.specs.Bounds.{HasReached}

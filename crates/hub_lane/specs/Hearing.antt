@@ -6,7 +6,7 @@ use Rattle.packet_ids.specs.Identifier.{identifier_at}
 use Rattle.reliable_engine.specs.Answers.{IsOpen, TellsPlace}
 use Rattle.ipb_base.specs.Faults.{one_more}
 use Rattle.world_model.specs.Links.{IsHanded}
-use Rattle.world_core.specs.Telling.{Telling}
+use Rattle.links.specs.Telling.{Telling}
 use Rattle.hub_lane.specs.declared.answers.Pumped.{Pumped}
 use Rattle.hub_lane.specs.declared.answers.Pumped.TheVariants.{Reply, Status, Stray, Quiet, Idle, LinkDown}
 

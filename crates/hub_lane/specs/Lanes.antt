@@ -13,7 +13,7 @@ use Rattle.world_model.specs.Board.{Board}
 use Rattle.world_model.specs.Hub.{Hub, IsDrained, is_waiting, new_hub, places}
 use Rattle.world_model.specs.Facts.{HasBodies, IsStart, IsWindow}
 use Rattle.world_model.specs.Settings.{AreLimits, Limits}
-use Rattle.world_core.specs.Telling.{Telling}
+use Rattle.links.specs.Telling.{Telling}
 use Rattle.lane_record.specs.declared.outcome.Outcome.{Outcome}
 use Rattle.lane_record.specs.declared.item.Item.{Item}
 use Rattle.lane_record.specs.Items.{plan_in}

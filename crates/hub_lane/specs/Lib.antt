@@ -5,6 +5,9 @@ pub mod LateAnswers
 pub mod Standing
 pub mod Lanes
 pub mod Links
+pub mod UnderWay
+pub mod PaidRounds
+pub mod RecoveryBelow
 pub mod Rounds
 pub mod Exchange
 pub mod Plans

@@ -2,9 +2,9 @@
 use Rattle.std.specs.Prelude.{◌≡◌, ◌≢◌, ◌⊎◌, ◌≤◌, ℕ, List, true, false, IfSome, Result, Err}
 use Rattle.ipb_base.specs.Faults.{Rose}
 use Rattle.ipb_base.specs.Lists.{IsPrefix}
-use Rattle.world_core.specs.declared.link.Link.{Ghosts}
-use Rattle.world_core.specs.declared.link.LinkFault.{LinkFault}
-use Rattle.world_core.specs.declared.link.LinkFault.TheVariants.{Failed}
+use Rattle.links.specs.declared.link.Link.{Ghosts}
+use Rattle.links.specs.declared.link.LinkFault.{LinkFault}
+use Rattle.links.specs.declared.link.LinkFault.TheVariants.{Failed}
 use Rattle.hub_lane.specs.declared.answers.Pumped.{Pumped}
 use Rattle.hub_lane.specs.Hearing.{gots_of, quiets_of, receives_of}
 use Rattle.hub_lane.specs.Lanes.{LaneState, board_of}

@@ -2,7 +2,7 @@
 use Rattle.std.specs.Prelude.{List, Option}
 use Rattle.turn_pass.specs.Record.{Record}
 use Rattle.world_model.specs.Settings.{Limits}
-use Rattle.world_core.specs.Telling.{Telling}
+use Rattle.links.specs.Telling.{Telling}
 use Rattle.lane_record.specs.declared.item.Item.{Item}
 use Rattle.lane_record.specs.Coding.{Head, record_of}
 use Rattle.hub_lane.specs.Lanes.{BoardStatus, opening_of}

@@ -5,12 +5,12 @@ use Rattle.std.specs.List.{AllByRecursion, slice_get}
 use Rattle.ipb_base.specs.Faults.{Rose}
 use Rattle.world_model.specs.Hub.{Hub}
 use Rattle.world_model.specs.Settings.{Limits}
-use Rattle.world_core.specs.declared.link.Link.{Ghosts}
-use Rattle.world_core.specs.Telling.{IfTelling, Telling}
+use Rattle.links.specs.declared.link.Link.{Ghosts}
+use Rattle.links.specs.Telling.{IfTelling, Telling}
 use Rattle.lane_record.specs.declared.outcome.Outcome.{Outcome}
 use Rattle.lane_record.specs.Bounds.{HasReached}
-use Rattle.recovery_laws.specs.Rounds.{IsPaid}
-use Rattle.recovery_laws.specs.UnderWay.{CanTake, IsUnderWay}
+use Rattle.hub_lane.specs.PaidRounds.{IsPaid}
+use Rattle.hub_lane.specs.UnderWay.{CanTake, IsUnderWay}
 use Rattle.hub_lane.specs.declared.answers.Pumped.{Pumped}
 use Rattle.hub_lane.specs.declared.answers.Pumped.TheVariants.{Reply, Status, Stray, Quiet, Idle, LinkDown}
 use Rattle.hub_lane.specs.Calls.{has_stopped}

@@ -12,9 +12,9 @@ use Rattle.world_model.specs.World.{start}
 use Rattle.world_model.specs.Facts.{IsStart}
 use Rattle.reliable_engine.specs.Answers.{IsOpen, hub_next}
 use Rattle.world_model.specs.Settings.{Limits}
-pub use Rattle.world_core.specs.Handed.{WasHanded}
-use Rattle.world_core.specs.States.{IsReached}
-use Rattle.world_core.specs.Telling.{Telling}
+pub use Rattle.links.specs.Handed.{WasHanded}
+use Rattle.links.specs.States.{IsReached}
+use Rattle.links.specs.Telling.{Telling}
 use Rattle.lane_record.specs.declared.outcome.Outcome.{Outcome}
 use Rattle.lane_record.specs.Lates.{AreLatesToldBy}
 use Rattle.lane_record.specs.Offers.{AreToldBy}

@@ -6,8 +6,8 @@ use Rattle.lane_record.specs.declared.outcome.Outcome.{Outcome}
 use Rattle.lane_record.specs.Claims.{Claim, IsAskOf}
 use Rattle.lane_tables.specs.Taken.{HasTakenAll, IsOldest}
 use Rattle.hub_lane.specs.Lanes.{LaneState}
-use Rattle.world_core.specs.Telling.{IfTelling}
-use Rattle.world_core.specs.declared.link.Link.{Ghosts}
+use Rattle.links.specs.Telling.{IfTelling}
+use Rattle.links.specs.declared.link.Link.{Ghosts}
 use Rattle.hub_lane.specs.Calls.{IsSameRecord, PumpsAs, Takes, TakesNothing}
 use Rattle.hub_lane.specs.Carrying.{Pumping}
 use Rattle.hub_lane.specs.declared.answers.Pumped.{Pumped}

@@ -6,8 +6,8 @@ use Rattle.world_model.specs.declared.offered.Offered.{Offered}
 use Rattle.world_model.specs.Places.{at_place}
 use Rattle.world_model.specs.Board.{bodies_executed, replies}
 use Rattle.world_model.specs.Facts.{bodies_of}
-use Rattle.world_core.specs.Receives.{first_status, quiets_in, since_status}
-use Rattle.world_core.specs.Telling.{Telling}
+use Rattle.links.specs.Receives.{first_status, quiets_in, since_status}
+use Rattle.links.specs.Telling.{Telling}
 use Rattle.lane_record.specs.declared.outcome.Outcome.{Outcome}
 use Rattle.lane_record.specs.declared.outcome.Outcome.TheVariants.{Replied, TimedOut}
 use Rattle.lane_record.specs.declared.item.Item.{Item}

@@ -9,7 +9,7 @@ use lane_record::Outcome;
 /// Why a body was not planned (profile): the first rule, in this order, that it breaks.
 #[derive(Clone, Copy, PartialEq, Eq)]
 pub enum PlanRefusal {
-    /// Planning was closed.
+    /// Planning was closed before: the lane takes no more bodies.
     Sealed,
     /// The body with its header is longer than a packet of the board.
     TooLong,
@@ -17,7 +17,7 @@ pub enum PlanRefusal {
     ReplyTooLong,
     /// The lane has as many bodies, or as many words of bodies and replies, as it may have.
     Overfull,
-    /// Memory ran out.
+    /// Memory ran out, and the lane is as it was.
     NoMemory,
 }
 

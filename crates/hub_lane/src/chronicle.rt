@@ -11,8 +11,8 @@ use crate::laws::{
     a_finished_lane_is_whole, a_lane_over_a_link_that_tells_is_true,
     a_timed_out_body_has_its_late_answer,
 };
+use links::Link;
 use turn_pass::Chronicle;
-use world_core::Link;
 
 impl<L: Link> Chronicle for Lane<L> {
     ghost use Rattle.hub_lane.specs.Records.{record_shown};

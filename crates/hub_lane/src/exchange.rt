@@ -10,9 +10,9 @@ ghost use Rattle.world_model.specs.Sends.{bytes_to_send, next_send};
 ghost use Rattle.world_model.specs.Facts.{AreSendable, IsWindow};
 ghost use Rattle.world_model.specs.Settings.{Limits};
 ghost use Rattle.hub_lane.specs.Lanes.{IsReady};
-ghost use Rattle.world_core.specs.declared.link.TheConstants.{MAX_DATAGRAM};
-ghost use Rattle.world_core.specs.Messages.{IsWritable};
-ghost use Rattle.world_core.specs.Telling.{IfTelling};
+ghost use Rattle.links.specs.declared.link.TheConstants.{MAX_DATAGRAM};
+ghost use Rattle.links.specs.Messages.{IsWritable};
+ghost use Rattle.links.specs.Telling.{IfTelling};
 ghost use Rattle.hub_lane.specs.Carrying.{HasPut};
 ghost use Rattle.hub_lane.specs.Exchange.{FailsUnheard, Hears, Settles, SettlesNothing, TellsExchange, TellsReceive};
 ghost use Rattle.hub_lane.specs.Hearing.{IsHeardAs};
@@ -26,15 +26,15 @@ use crate::below::{laws_of_rounds, laws_of_ways};
 use crate::outcomes::settle;
 use ipb_base::{NoMemory, Words};
 use lane_tables::OutcomeTable;
+use links::laws::{
+    a_send_leaves_the_fates, each_event_leads_to_a_state_of_a_run, what_is_wanted_can_be_written,
+};
+use links::{Link, LinkFault, Message, Received, append_sending, read_for_hub};
 use packet_ids::{Id, place_of};
 use reliable_engine::laws::draining_ends;
 use reliable_engine::{Engine, Sending};
 use status_packet::Status;
 use std::alloc::Global;
-use world_core::laws::{
-    a_send_leaves_the_fates, each_event_leads_to_a_state_of_a_run, what_is_wanted_can_be_written,
-};
-use world_core::{Link, LinkFault, Message, Received, append_sending, read_for_hub};
 use world_model::laws::links::a_link_forgets_nothing;
 use world_model::laws::sends::only_an_offer_makes_more_bodies;
 
@@ -185,7 +185,7 @@ fn hear(alloc: Global, first: Id, hub: &mut Engine, bytes: &[u8]) -> Result<Pump
     }
 }
 
-/// Hears a reply.
+/// Hears a control packet that may be the reply of an open place.
 fn hear_reply(first: Id, hub: &mut Engine, id: Id, words: Words) -> Pumped
     requires first { first ≡ hub.old.first }
     requires window { IsWindow hub.old.window (length hub.old.sent) (places hub.old.open_places) }

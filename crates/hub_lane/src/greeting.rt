@@ -4,8 +4,8 @@ ghost use Rattle.std.specs.Prelude.{◌≡◌, ◌≤◌, ◌+◌, ◌*◌, ℕ,
 ghost use Rattle.ipb_base.specs.Faults.{Rose};
 ghost use Rattle.ipb_base.specs.Numbers.{most_others};
 ghost use Rattle.world_model.specs.Messages.{to_hub};
-ghost use Rattle.world_core.specs.Receives.{first_status};
-ghost use Rattle.world_core.specs.Telling.{IfTelling};
+ghost use Rattle.links.specs.Receives.{first_status};
+ghost use Rattle.links.specs.Telling.{IfTelling};
 ghost use Rattle.packet_ids.specs.Identifier.{IsIdentifier};
 ghost use Rattle.status_packet.specs.Range.{IsBufferCount, IsMtu};
 ghost use Rattle.status_packet.specs.StatusBytes.{IsStatusReply};
@@ -18,11 +18,11 @@ ghost use Rattle.hub_lane.specs.Heard.{EndWith, EndsWithStatus};
 ghost use Rattle.hub_lane.specs.Lanes.{IsGreeted, new_lane, status_of};
 
 use crate::lane::Lane;
+use links::{Link, LinkFault, Received};
 use reliable_engine::Settings;
 use status_packet::laws::what_is_written_is_known;
 use status_packet::{Status, read_status_reply, write_status_request};
 use std::alloc::Global;
-use world_core::{Link, LinkFault, Received};
 use world_model::laws::links::{a_greeting_goes_on, a_link_forgets_nothing};
 use world_model::laws::reading::what_a_hub_reads;
 
@@ -36,9 +36,9 @@ pub enum Greeted<L: Link> {
     Ready(Lane<L>),
     /// It told none in any round.
     Silent { link: L, rounds: u8 },
-    /// The link failed.
+    /// The link failed before the board told its status.
     Down { link: L },
-    /// Memory ran out.
+    /// Memory ran out before the board told its status.
     NoMemory { link: L },
 }
 
@@ -197,7 +197,7 @@ fn listen<L: Link>(
     Ok(None)
 }
 
-/// Receives once.
+/// Receives one datagram, and tells whether it is the status of the board.
 fn hear_once<L: Link>(
     link: &mut L,
     buffer: &mut Vec<u8>,

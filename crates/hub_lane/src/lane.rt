@@ -11,7 +11,7 @@ ghost use Rattle.lane_record.specs.Coding.{entry_of};
 ghost use Rattle.lane_record.specs.Lates.{late_in};
 ghost use Rattle.world_model.specs.Hub.{offer};
 ghost use Rattle.hub_lane.specs.Plans.{CanPlan, IsRefused, Plans};
-ghost use Rattle.world_core.specs.Telling.{IfTelling};
+ghost use Rattle.links.specs.Telling.{IfTelling};
 ghost use Rattle.hub_lane.specs.Carrying.{HasPut, Pumping};
 ghost use Rattle.hub_lane.specs.Heard.{EndsWithStatus, HasHeard, HasListened};
 ghost use Rattle.hub_lane.specs.Calls.{Asking, AsksAs, IsReplyAt, IsSameRecord, IsSpent, OffersAs, PumpsAs, SendsAs};
@@ -31,14 +31,14 @@ use lane_record::laws::book::entries_go_into_the_book;
 use lane_record::laws::entries::an_ask_is_of_its_plan;
 use lane_record::laws::offers::{a_failed_link_loses_what_waits, an_ask_is_an_offer};
 use lane_tables::{Book, OutcomeTable};
+use links::laws::each_event_leads_to_a_state_of_a_run;
+use links::{Link, LinkFault, Waiter};
 use packet_ids::Id;
 use reliable_engine::{Engine, Settings};
 use status_packet::Status;
 use std::alloc::Global;
 use std::marker::Model;
 use turn_pass::Entry;
-use world_core::laws::each_event_leads_to_a_state_of_a_run;
-use world_core::{Link, LinkFault, Waiter};
 use world_model::laws::sends::only_an_offer_makes_more_bodies;
 
 /// The bytes of the headers of IPv4 and UDP (RFC 791, RFC 768).

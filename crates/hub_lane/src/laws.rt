@@ -6,7 +6,7 @@ ghost use Rattle.hub_lane.specs.Records.{record_shown};
 ghost use Rattle.world_model.specs.Hub.{Hub};
 ghost use Rattle.world_model.specs.Facts.{bodies_of};
 ghost use Rattle.world_model.specs.Settings.{Limits};
-ghost use Rattle.world_core.specs.Telling.{Telling};
+ghost use Rattle.links.specs.Telling.{Telling};
 ghost use Rattle.lane_record.specs.declared.outcome.Outcome.{Outcome};
 ghost use Rattle.lane_record.specs.Outcomes.{AreSettled};
 ghost use Rattle.hub_lane.specs.declared.greeting.TheConstants.{MOST_OTHERS};
@@ -20,12 +20,14 @@ ghost use Rattle.hub_lane.specs.Lanes.{BoardStatus, IsLane, opening_of};
 ghost use Rattle.lane_record.specs.Claims.{IsFinished};
 ghost use Rattle.lane_record.specs.declared.item.Item.{Item};
 
+pub mod recovery;
+
 use crate::greeting::MOST_OTHERS;
 use lane_record::laws::coding::{a_head_is_spelled_by_numbers, an_entry_is_spelled_by_numbers};
 use lane_record::laws::finished::{
     a_finished_record_tells_all, a_hub_has_sent_what_a_finished_record_tells,
 };
-use world_core::laws::a_state_of_a_run_tells_the_truth;
+use links::laws::a_state_of_a_run_tells_the_truth;
 use world_model::laws::answered::each_sent_place_is_open_or_answered;
 
 /// The limit of what a round of the greeting hears.

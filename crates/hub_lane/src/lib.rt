@@ -17,6 +17,7 @@ pub use ipb_base::{NoMemory, Words};
 pub use lane::Lane;
 pub use lane_record::Outcome;
 pub use lane_tables::{MAX_BODIES, MAX_WORDS};
+pub use links::{Link, LinkFault, Received, Waiter};
 pub use step::{Looked, Stepped, Turned};
 pub use turn_pass::Entry;
-pub use world_core::{Link, LinkFault, Received, Settings, Waiter};
+pub use world_model::Settings;

@@ -21,7 +21,7 @@ use lane_tables::OutcomeTable;
 use reliable_engine::{Engine, Fate};
 use std::alloc::Global;
 
-/// The same words in memory of their own. A packet can carry them, where they are not too many.
+/// A copy of some words, which shares no memory with them. A packet can carry them, where they are not too many.
 pub(crate) fn copy_words(alloc: Global, words: &[u32]) -> Result<Words, NoMemory>
     ensures copied { IfOk result (λ copied. copied ≡ words.now) }
     ensures sendable { length words.now ≤ MAX_BODY_WORDS → IsSendable words.now }
@@ -29,7 +29,7 @@ pub(crate) fn copy_words(alloc: Global, words: &[u32]) -> Result<Words, NoMemory
     Ok(Words::from_vec(Vec::from_slice(alloc, words)?))
 }
 
-/// The same outcome in memory of its own.
+/// A copy of an outcome, which shares no memory with it.
 pub(crate) fn copy_outcome(alloc: Global, outcome: &Outcome) -> Result<Outcome, NoMemory>
     ensures { IfOk result (λ copied. copied ≡ outcome.now) }
 {

@@ -11,7 +11,7 @@ use crate::answers::Taken;
 use crate::lane::Lane;
 use ipb_base::NoMemory;
 use lane_record::Outcome;
-use world_core::Link;
+use links::Link;
 
 /// The token of a step that found no outcome. A step alone makes one, so whoever has it knows that a lane received
 /// once.

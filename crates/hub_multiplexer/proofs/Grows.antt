@@ -22,7 +22,7 @@ use Rattle.hub_lane.specs.declared.step.Looked.{Looked}
 use Rattle.hub_lane.specs.declared.step.Looked.TheVariants as looks
 use Rattle.hub_lane.specs.declared.step.Stepped.{Stepped}
 use Rattle.hub_lane.specs.declared.step.Stepped.TheVariants as steps
-use Rattle.world_core.specs.Telling.{Telling}
+use Rattle.links.specs.Telling.{Telling}
 use Rattle.hub_lane.specs.Calls.{AsksAs, IsSameRecord}
 use Rattle.hub_lane.specs.Lanes.{LaneState, opening_of}
 use Rattle.hub_lane.specs.Step.{LooksAs, StepsAs}

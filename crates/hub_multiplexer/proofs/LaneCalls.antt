@@ -1,6 +1,6 @@
 -- What the calls of a lane do to its record.
 use Rattle.std.proofs.Common.{◌≡◌, ◌<◌, ℕ, Bool, true, false, if◌then◌else◌, List, [], ◌∷◌, ◌++◌, Option, Some, ap, ◌∙◌}
-use Rattle.world_core.specs.Telling.{Telling}
+use Rattle.links.specs.Telling.{Telling}
 use Rattle.lane_record.specs.declared.outcome.Outcome.{Outcome}
 use Rattle.lane_record.specs.declared.item.Item.{Item}
 use Rattle.lane_record.specs.Coding.{Head}

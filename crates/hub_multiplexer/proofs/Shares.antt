@@ -3,7 +3,7 @@ use denote.RattleType.{RattleType}
 use denote.Param.Send.{IsSend, IsSync, sendable}
 use Rattle.std.proofs.Crossing.{crosses}
 use Rattle.turn_pass.proofs.Shares.{turn_sync}
-use Rattle.world_core.specs.declared.link.Link as Link
+use Rattle.links.specs.declared.link.Link as Link
 use Rattle.hub_lane.specs.contracts.lane.Lane as Lane
 use Rattle.hub_multiplexer.specs.contracts.hub.Hub as Hub
 

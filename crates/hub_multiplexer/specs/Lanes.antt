@@ -13,7 +13,7 @@ use Rattle.hub_lane.specs.Calls.{AsksAs}
 use Rattle.hub_lane.specs.Lanes.{LaneState}
 use Rattle.hub_lane.specs.Records.{record_shown}
 use Rattle.lane_tables.specs.Taken.{HasTakenAll, IsOldest}
-use Rattle.world_core.specs.Telling.{Telling}
+use Rattle.links.specs.Telling.{Telling}
 use Rattle.hub_multiplexer.specs.Calls.{FoundLane}
 use Rattle.hub_lane.specs.declared.answers.Asked.{Asked}
 use Rattle.hub_lane.specs.declared.answers.Asked.TheVariants as asks

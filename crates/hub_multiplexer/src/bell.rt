@@ -31,7 +31,7 @@ pub(crate) struct Bell {
 }
 
 impl Bell {
-    /// Nobody listens.
+    /// A bell at which nobody listens yet.
     pub(crate) fn of(waiter: Option<Waiter>) -> Bell {
         Bell {
             waiter,

@@ -37,7 +37,7 @@ pub(crate) fn open_turn<V: Chronicle + Send>(
     }
 }
 
-/// The same of a value that is on the heap.
+/// Opens a turn over a value that is on the heap already.
 fn open_boxed<V: Chronicle + Send>(
     alloc: Global,
     boxed: Boxed<V>,
@@ -54,7 +54,7 @@ fn open_boxed<V: Chronicle + Send>(
     }
 }
 
-/// The value.
+/// Takes the value off the heap.
 fn off_heap<V>(boxed: Boxed<V>) -> V
     ensures { result ≡ boxed.value.value }
 {

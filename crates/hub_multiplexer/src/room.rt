@@ -46,7 +46,7 @@ impl<T> Room<T> {
         Room { items }
     }
 
-    /// The vector.
+    /// The vector with all that was pushed into it.
     pub(crate) fn into_vec(self) -> Vec<T>
         ensures empty { result.items ≡ [] }
         ensures capacity { vec_capacity result ≡ self }

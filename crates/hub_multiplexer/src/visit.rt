@@ -20,7 +20,7 @@ pub(crate) enum Visit<'a> {
     StepIfReady(&'a Waiter),
 }
 
-/// Visits a lane.
+/// Takes a lane from its turn, does one thing to it, and gives it back.
 pub(crate) fn visit_lane<L: Link>(
     lane: &mut Lane<L>,
     client: u32,

@@ -1,6 +1,6 @@
 //! The codes of reply frames, which say what became of a request (profile).
 
-/// The board replied.
+/// The board replied: the words of its reply stand behind the code.
 pub const REPLIED: u16 = 0;
 
 /// The hub gave up after some rounds without an answer: whether the board executed the body is not known.

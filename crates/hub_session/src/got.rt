@@ -5,7 +5,7 @@ use lane_record::Outcome;
 /// Why a body may not be planned: the first rule of planning, in this order, that it breaks.
 #[derive(Clone, Copy)]
 pub enum BodyRefusal {
-    /// Planning was closed.
+    /// Planning was closed before: the lane takes no more bodies.
     Sealed,
     /// The body with its header is longer than a packet of the board.
     TooLong,

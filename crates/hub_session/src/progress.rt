@@ -28,7 +28,7 @@ pub(crate) struct Progress {
 }
 
 impl Progress {
-    /// Nothing came yet.
+    /// The progress of a connection from which nothing came yet.
     pub(crate) fn new(alloc: Global) -> Progress
         ensures held { result.framer ≡ [] }
         ensures bytes { result.replies.bytes.items ≡ [] }

@@ -5,15 +5,15 @@
 pub enum SessionEnd {
     /// The input ended behind a whole frame, or before the first.
     Closed,
-    /// The source failed.
+    /// The source failed while it was read.
     ReadFault,
-    /// The sink failed.
+    /// The sink failed while an answer was written.
     WriteFault,
     /// The length field of a frame is below 8 or above 8976.
     BadFrame,
     /// The input ended within a frame.
     CutFrame,
-    /// Memory ran out.
+    /// Memory ran out while the connection was served.
     NoMemory,
 }
 

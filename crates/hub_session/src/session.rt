@@ -215,7 +215,7 @@ fn end_of_input(framer: &Framer) -> SessionEnd
     }
 }
 
-/// Reads one piece.
+/// Reads one piece of the input, of as many bytes as came.
 fn read_piece<S: Source>(
     src: &mut S,
     progress: &mut Progress,

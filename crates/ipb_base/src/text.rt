@@ -58,7 +58,7 @@ impl Text {
         }
     }
 
-    /// The same text in memory of its own.
+    /// A copy of a text, which shares no memory with it. An error means that memory ran out.
     pub fn copy_of(alloc: Global, text: &str) -> Result<Text, NoMemory>
         ensures { IfOk result (λ copied. copied ≡ text.now) }
     {
@@ -67,7 +67,7 @@ impl Text {
         })
     }
 
-    /// The text.
+    /// The text as a string slice.
     pub fn as_str(&self) -> &str
         ensures { result.now ≡ self.now }
     {

@@ -52,7 +52,7 @@ impl Words {
         items
     }
 
-    /// The words.
+    /// The words as a slice, in order.
     pub fn as_slice(&self) -> &[u32]
         ensures { result.now ≡ self.now }
     {

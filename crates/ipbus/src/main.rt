@@ -4,16 +4,27 @@
 //! `control`; beside some of them lines on standard error say what happened.
 #![tactic(auto)]
 
-use ipbus_program::{NO_MEMORY, NoGate, control};
-use net_edges::{KeptSink, KeptSource, RealRack, StdinSource, StdoutSink, TcpDoor};
-use operator_notes::{
-    Command, Ending, MEMORY_NOTE, closing_notes, command_of, most_given, most_written,
+mod provenance;
+mod turns;
+
+use ipbus_program::{NO_MEMORY, control};
+use net_edges::{
+    Console, KeptSink, KeptSource, Progress, RealRack, StdinSource, StdoutSink, TcpDoor,
 };
+use operator_notes::{
+    Command, Ending, MEMORY_NOTE, Provenance, asks_version, closing_notes, command_of, most_given,
+    most_written, provenance_notes,
+};
+use provenance::read_provenance;
 use std::alloc::{AllocError, Global};
-use std::env;
 use std::io::{ErrorKind, Stderr};
 use std::process::ExitCode;
 use std::rt::Env;
+use std::{env, thread};
+use turns::Turns;
+
+/// The most clients of a session.
+const MOST_CLIENTS: usize = 64;
 
 /// The words after the program's name. Words that are not UTF-8 are none that the program knows, as no words are.
 fn words<R: Env + AllocGlobal>(rt: &R) -> Result<Vec<String>, AllocError> {
@@ -52,10 +63,33 @@ fn say_closing(to: Stderr, alloc: Global, ending: Ending<'_>) {
     }
 }
 
+/// Says what was proved of the program, as the file says that was made with it.
+fn say_provenance(host: HostRuntime) {
+    let alloc: Global = host.alloc();
+    let read = read_provenance(host);
+    let told = match &read {
+        Ok(read) => read.provenance(),
+        Err(_) => Provenance::Unread,
+    };
+    if let Ok(notes) = provenance_notes(alloc, told) {
+        say_all(host.stderr(), notes.as_slice());
+    }
+}
+
 /// How many connections a command serves, if it serves any.
 fn connections_of(command: Option<&Command>) -> Option<u32> {
     match command {
         Some(Command::Serve { port: _, count }) => Some(*count),
+        _ => None,
+    }
+}
+
+/// What is said of a run while it goes on, if the command runs scripts on boards.
+fn progress_of(alloc: Global, command: Option<&Command>, console: Console) -> Option<Progress> {
+    match command {
+        Some(Command::Run | Command::Save | Command::Apply | Command::Record) => {
+            Progress::new(alloc, console, MOST_CLIENTS)
+        }
         _ => None,
     }
 }
@@ -71,14 +105,28 @@ fn main(rt: HostRuntime) -> ExitCode {
     let command = command_of(alloc, &words).unwrap_or(None);
     let mut input = KeptSource::new(alloc, StdinSource::new(&rt), most_given(command.as_ref()));
     let mut out = KeptSink::new(alloc, StdoutSink::new(&rt), most_written(command.as_ref()));
-    let mut rack = RealRack::with_notes(&rt, to);
+    let console = Console::new(rt, matches!(command, Some(Command::Run)));
+    let progress = progress_of(alloc, command.as_ref(), console.again());
+    let mut rack = RealRack::with_notes(&rt, console.again());
     let mut door = match connections_of(command.as_ref()) {
-        Some(connections) => TcpDoor::with_notes(&rt, to, connections),
+        Some(connections) => TcpDoor::with_notes(&rt, console, connections),
         None => TcpDoor::new(&rt),
     };
+    let watcher = match progress.as_ref().and_then(Progress::watch) {
+        Some(watch) => thread::spawn(&rt, move || watch.keep(&rt)).ok(),
+        None => None,
+    };
+    let gate = Turns {
+        progress: progress.as_ref(),
+    };
     let status = control(
-        &rt, alloc, &words, &mut input, &mut out, &mut rack, &mut door, &NoGate,
+        &rt, alloc, &words, &mut input, &mut out, &mut rack, &mut door, &gate,
     );
+    if let (Some(progress), Some(watcher)) = (&progress, watcher) {
+        progress.end();
+        watcher.join(&rt);
+        progress.clear();
+    }
     let ending = Ending {
         status,
         words: &words,
@@ -87,5 +135,8 @@ fn main(rt: HostRuntime) -> ExitCode {
         written: out.taken(),
     };
     say_closing(to, alloc, ending);
+    if asks_version(&ending) {
+        say_provenance(rt);
+    }
     ExitCode::from(status)
 }

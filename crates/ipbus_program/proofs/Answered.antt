@@ -4,8 +4,8 @@ use Rattle.std.proofs.Common.{String, Global, append-nil}
 use Rattle.std.specs.Result.{IsErr, IsErrAnd}
 use Rattle.ipb_outside.specs.declared.sink.Sink.{Ghosts as SinkGhosts}
 use Rattle.ipb_outside.specs.declared.source.Source.{Ghosts as SourceGhosts}
-use Rattle.board_node.specs.declared.spec.LinkSpec.{LinkSpec}
-use Rattle.lane_history.specs.Links.{LinkReport}
+use Rattle.board_specs.specs.declared.spec.LinkSpec.{LinkSpec}
+use Rattle.board_history.specs.Links.{LinkReport}
 use Rattle.session_run.specs.Faults.{IsRunFailure}
 use Rattle.session_run.specs.declared.session.RunFault.{RunFault}
 use Rattle.session_run.specs.declared.session.RunFault.TheVariants as run

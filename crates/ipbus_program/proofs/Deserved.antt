@@ -7,8 +7,8 @@ use Rattle.std.specs.Io.KnownBytes.{prepend_known, append_known, IsAtEnd}
 use Rattle.std.proofs.lemmas.Option.{none-some, same_Some}
 use Rattle.ipb_base.specs.Faults.{Rose}
 use Rattle.ipb_outside.specs.Told.{TakesCount}
-use Rattle.board_node.specs.declared.spec.LinkSpec.{LinkSpec}
-use Rattle.lane_history.specs.Links.{LinkReport}
+use Rattle.board_specs.specs.declared.spec.LinkSpec.{LinkSpec}
+use Rattle.board_history.specs.Links.{LinkReport}
 use Rattle.command_words.specs.declared.command.Command.{Command}
 use Rattle.ipb_outside.specs.Faults.{RisesExactlyIf}
 use Rattle.command_terms.specs.Numbers.{no_memory_status, refused_status}

@@ -2,7 +2,7 @@
 use Rattle.std.proofs.Common.{◌≡◌, ◌⊎◌, inl, inr, ℕ, List, [], Option, Result, Ok, Err, String, Global}
 use Rattle.std.proofs.Common.{refl, sym, ap, ◌∙◌, append-nil, subst, arith, ◌==◌, if◌then◌else◌}
 use Rattle.std.proofs.KnownBytes.{prepend_known-nil}
-use Rattle.board_node.specs.declared.spec.LinkSpec.{LinkSpec}
+use Rattle.board_specs.specs.declared.spec.LinkSpec.{LinkSpec}
 use Rattle.ipb_outside.specs.Faults.{RisesExactlyIf}
 use Rattle.ipb_outside.specs.Told.{AppendsPart, TakesAtMost}
 use Rattle.command_words.specs.declared.command.Command.{Command}

@@ -1,3 +1,4 @@
+mod Listings
 pub mod Causes
 pub mod Deserved
 pub mod Ending

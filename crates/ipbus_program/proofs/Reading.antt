@@ -3,8 +3,8 @@ use Rattle.std.proofs.Common.{◌≡◌, ◌⊎◌, inl, inr, ℕ, List, [], Opt
 use Rattle.std.proofs.Common.{true, refl, sym, append-nil, subst, ◌∙◌}
 use Rattle.std.specs.Result.{IsErr, IsErrAnd}
 use Rattle.ipb_outside.specs.Told.{TakesAtMost}
-use Rattle.board_node.specs.declared.spec.LinkSpec.{LinkSpec}
-use Rattle.lane_history.specs.Links.{LinkReport}
+use Rattle.board_specs.specs.declared.spec.LinkSpec.{LinkSpec}
+use Rattle.board_history.specs.Links.{LinkReport}
 use Rattle.session_serve.specs.Serving.{AreBack}
 use Rattle.session_serve.proofs.Standing.{none_served}
 use Rattle.command_terms.specs.declared.answer.Answer.{Answer}

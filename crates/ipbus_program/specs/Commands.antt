@@ -4,7 +4,7 @@ use Rattle.command_words.specs.declared.command.Command.TheVariants.{Run, Check,
 use Rattle.command_words.specs.declared.command.Command.TheVariants.{Record, Describe, Undescribe, Save, Apply}
 use Rattle.command_terms.specs.Terms.{Terms}
 use Rattle.run_command.specs.Terms.{run_terms}
-use Rattle.check_command.specs.Terms.{check_terms}
+use Rattle.ipbus_program.specs.CheckTerms.{check_terms}
 use Rattle.serve_command.specs.Terms.{serve_terms}
 use Rattle.load_run.specs.Terms.{load_terms}
 use Rattle.audit_command.specs.Terms.{audit_terms}

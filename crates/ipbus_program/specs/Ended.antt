@@ -5,8 +5,8 @@ use Rattle.std.specs.declared.alloc.Global.{Global}
 use Rattle.std.specs.List.{AllByRecursion}
 use Rattle.ipb_base.specs.Faults.{Rose}
 use Rattle.ipb_outside.specs.Told.{TakesAtMost}
-use Rattle.board_node.specs.declared.spec.LinkSpec.{LinkSpec}
-use Rattle.lane_history.specs.Links.{IsUntouched}
+use Rattle.board_specs.specs.declared.spec.LinkSpec.{LinkSpec}
+use Rattle.board_history.specs.Links.{IsUntouched}
 use Rattle.session_serve.specs.Serving.{AreBack}
 use Rattle.command_words.specs.declared.command.Command.{Command}
 use Rattle.command_terms.specs.Numbers.{IsDoneStatus, done_status, not_all_done_status, usage_status, refused_status}

@@ -1,3 +1,5 @@
+pub mod CheckTerms
+pub mod CheckExamples
 pub mod Commands
 pub mod Outside
 pub mod Owed

@@ -1,6 +1,6 @@
 -- What a call finds outside of the program and what it leaves there, as contracts see it. Profile.
 use Rattle.std.specs.Prelude.{ℕ, List, Option}
-use Rattle.board_node.specs.declared.spec.LinkSpec.{LinkSpec}
+use Rattle.board_specs.specs.declared.spec.LinkSpec.{LinkSpec}
 use Rattle.command_terms.specs.Outside.{GivenBack}
 
 -- The outside before a call and after it.

@@ -3,8 +3,8 @@
 use Rattle.std.specs.Prelude.{◌≡◌, ◌⊎◌, ℕ, List, [], ◌++◌, ◌≤◌, length, Option, Result, Err, IfOk, true, false}
 use Rattle.std.specs.List.{AllByRecursion}
 use Rattle.ipb_outside.specs.Told.{TakesAtMost, TakesCount}
-use Rattle.board_node.specs.declared.spec.LinkSpec.{LinkSpec}
-use Rattle.lane_history.specs.Links.{IsUntouched}
+use Rattle.board_specs.specs.declared.spec.LinkSpec.{LinkSpec}
+use Rattle.board_history.specs.Links.{IsUntouched}
 use Rattle.session_run.specs.declared.session.RunFault.{RunFault}
 use Rattle.session_run.specs.declared.session.RunFault.TheVariants as run
 use Rattle.session_serve.specs.declared.report.ServeFault.{ServeFault}

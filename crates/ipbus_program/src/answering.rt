@@ -19,6 +19,8 @@ ghost use Rattle.ipb_base.specs.Numbers.{most_operations};
 ghost use Rattle.ipbus_program.specs.Commands.{terms_of};
 ghost use Rattle.ipbus_program.specs.Steps.{IsFailure, LeavesAlone};
 
+use crate::check::check_document;
+use crate::check_laws::the_terms_of_check;
 use crate::no_answer::NoAnswer;
 use audit_command::laws::the_terms_of_audit;
 use audit_command::{AuditRefusal, MAX_AUDIT, audit_answer, refused_input};
@@ -26,8 +28,6 @@ use capture_commands::laws::{the_terms_of_describe, the_terms_of_undescribe};
 use capture_commands::{
     MAX_CAPTURE, TextRefusal, describe_answer, refused_text, undescribe_answer,
 };
-use check_command::check_document;
-use check_command::laws::the_terms_of_check;
 use client_threads::Gate;
 use command_terms::{Answer, refused};
 use command_words::Command;
@@ -35,9 +35,9 @@ use config_commands::laws::{the_terms_of_apply, the_terms_of_save};
 use config_commands::{apply_document, save_document};
 use ipb_base::NoMemory;
 use ipb_outside::Door;
+use links::Rack;
 use load_run::answer_load;
 use load_run::laws::the_terms_of_load;
-use lossy_network::Rack;
 use record_command::laws::the_terms_of_record;
 use record_command::record_document;
 use run_command::laws::the_terms_of_run;

@@ -31,7 +31,7 @@ use command_words::laws::a_load_has_a_bound;
 use command_words::{Command, USAGE_LINE, command_of};
 use ipb_base::NoMemory;
 use ipb_outside::{Door, ReadEnd, Sink, Source, read_all, write_whole};
-use lossy_network::Rack;
+use links::Rack;
 use std::alloc::Global;
 use std::marker::Sync;
 use std::sync::Wait;
@@ -157,17 +157,27 @@ pub fn control<S: Source, O: Sink, R: Rack, D: Door, T: Threads + Wait + Sync, G
         → Keeps R.Rack R.L.Link rack.old rack.new
         (λ links. GivesBack D.Door D.Incoming.Source D.Outgoing.Sink door.old door.new (CameInFrames links)) }
 
-    // A fault of the input is told by status 4 alone, one of the output by 5, one of the rack by 7, one of the door by
-    // 8: each comes with a fault of its own, and none is passed over.
+    // Each of these statuses has its cause, and no fault is passed over.
+
+    // The status is 4 exactly where the input met a fault in this call.
     ensures input_faults { RisesExactlyIf (result ≡ read_fault_status) (S.faults input.old) (S.faults input.new) }
+    // The status is 5 exactly where the output met a fault in this call.
     ensures output_faults { RisesExactlyIf (result ≡ write_fault_status) (O.faults out.old) (O.faults out.new) }
+    // The status is 7 exactly where the rack met a fault in this call: a link could not be made.
     ensures rack_faults { RisesExactlyIf (result ≡ rack_fault_status) (R.faults rack.old) (R.faults rack.new) }
+    // The status is 8 exactly where the door met a fault in this call: it could not listen or accept.
     ensures door_faults { RisesExactlyIf (result ≡ door_fault_status) (D.faults door.old) (D.faults door.new) }
 
-    // Of any input, output, rack and door, whether they tell what they carry or not: what is left alone.
+    // What is left alone, whether input, output, rack and door tell what they carry or not.
+
+    // Words that ask for no command with an input leave the input as it was.
     ensures unread { AreNoReader words.now → input.new ≡ input.old }
+    // With status 4, 6, 7 and 8 nothing is written, and with no status is the output ended.
     ensures unwritten { (IsTextless result → out.new ≡ out.old) × (O.ended out.new ≡ O.ended out.old) }
+    // Words that ask for no links, and status 2, 3 and 4, leave the rack as it was.
     ensures unmade { MakesNoLink words.now result → rack.new ≡ rack.old }
+    // Words that ask for no server, and status 2, 3, 4 and 7, leave the door as it was; with any status each connection
+    // that it let in goes back to it.
     ensures shut { (CallsNoDoor words.now result → door.new ≡ door.old) × (D.out door.new ≡ D.out door.old) }
 
     // Where the words ask for a server, the door listens on the port that they name: with 0 and 1 on this one more, with
@@ -178,21 +188,24 @@ pub fn control<S: Source, O: Sink, R: Rack, D: Door, T: Threads + Wait + Sync, G
     // Other words get the usage line, or the output met a fault, want of memory aside.
     ensures other_words { AreNoCommand words.now
         → (result ≡ usage_status) ⊎ (result ≡ write_fault_status) ⊎ (result ≡ no_memory_status) }
-    // Of an input that tells its bytes, where no count of faults rose: bytes that break no rule of the command are
-    // done whole, as those are that stand for what it asks, and any other are refused as they deserve, want of memory
-    // aside. A command that reads no input is done whole, whatever the input.
+    // What an input that tells its bytes comes to, where no count of faults rose.
+
+    // Bytes that break no rule of the command are done whole, want of memory aside. A command that reads no input is done
+    // whole, whatever the input.
     ensures unbroken { (command : Asked) (bytes : List ℕ)
         → AreCommand words.now command → HasInput (terms_of command).limit (S.left input.old) bytes
         → ((line : List ℕ) → ¬ (terms_of command).Refuses bytes line) → ¬ Rose (O.faults out.old) (O.faults out.new)
         → IsCalm (terms_of command) (S.faults input.old) (S.faults input.new) (R.faults rack.old) (R.faults rack.new)
         (D.faults door.old) (D.faults door.new)
         → IsWhole result }
+    // Bytes that stand for what the command asks are done whole, want of memory aside.
     ensures right { (command : Asked) (bytes : List ℕ)
         → AreCommand words.now command → HasInput (terms_of command).limit (S.left input.old) bytes
         → (terms_of command).Right bytes → ¬ Rose (O.faults out.old) (O.faults out.new)
         → IsCalm (terms_of command) (S.faults input.old) (S.faults input.new) (R.faults rack.old) (R.faults rack.new)
         (D.faults door.old) (D.faults door.new)
         → IsWhole result }
+    // Bytes that break a rule of the command get the line of that refusal and status 3, want of memory aside.
     ensures deserved { (command : Asked) (bytes line : List ℕ)
         → AreCommand words.now command → S.left input.old ≡ Some bytes → (terms_of command).Refuses bytes line
         → ¬ Rose (S.faults input.old) (S.faults input.new) → ¬ Rose (O.faults out.old) (O.faults out.new)

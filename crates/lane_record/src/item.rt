@@ -40,7 +40,7 @@ pub struct Item {
     pub client: u32,
     /// The number of the client's body that it is of, from 0. A Seal has 0.
     pub seq: u64,
-    /// What was done.
+    /// What was done to the body, or to planning.
     pub what: What,
 }
 

@@ -67,7 +67,7 @@ impl Book {
         })
     }
 
-    /// The entries.
+    /// The entries of the record, in order.
     pub fn entries(&self) -> &[Entry]
         ensures { result.now ≡ map entry_of self.now.items }
     {
@@ -167,7 +167,7 @@ impl Book {
         Ok(seq)
     }
 
-    /// Adds the Seal.
+    /// Adds the Seal: planning is closed from then on.
     pub fn seal(&mut self)
         requires { is_sealed self.old.items ≡ false }
         ensures { self.new.items ≡ self.old.items ++ the_seal ∷ [] }

@@ -65,7 +65,7 @@ impl Model for ItemLog {
 }
 
 impl ItemLog {
-    /// No entries.
+    /// A record with no entries. It takes no memory.
     pub(crate) fn new(alloc: Global) -> ItemLog
         ensures { result.items ≡ [] }
     {
@@ -75,7 +75,7 @@ impl ItemLog {
         }
     }
 
-    /// The entries.
+    /// The entries of the record, in order.
     pub(crate) fn entries(&self) -> &[Entry]
         ensures { result.now ≡ map entry_of self.now.items }
     {

@@ -35,7 +35,7 @@ impl Model for OutcomeTable {
 }
 
 impl OutcomeTable {
-    /// Nothing was asked.
+    /// A table in which nothing was asked yet. It takes no memory.
     pub fn new(alloc: Global) -> OutcomeTable
         ensures items { result.items ≡ [] }
         ensures lates { result.lates ≡ [] }

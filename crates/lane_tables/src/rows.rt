@@ -74,7 +74,7 @@ impl ClientRow {
         })
     }
 
-    /// Adds a Plan.
+    /// Adds a Plan, with the body that is planned.
     fn add_plan(&mut self, body: Words) -> Result<(), NoMemory>
         ensures ok { OnOk result (self.new ≡ record self.old { bodies = self.old.bodies ++ just_planned body ∷ [] }) }
         ensures err { OnErr result (self.new ≡ self.old) }
@@ -101,7 +101,7 @@ impl ClientRow {
         self.taken = untaken_from(&self.bodies, self.taken, self.asked);
     }
 
-    /// Whose it is.
+    /// The number of the client whose row it is.
     pub(crate) fn client(&self) -> u32
         ensures { result ≡ self.now.client }
     {

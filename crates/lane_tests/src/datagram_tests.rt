@@ -1,8 +1,8 @@
 //! Datagrams that a hub takes, and those that it leaves alone.
 
 use ipb_base::NoMemory;
+use links::{Message, read_for_hub};
 use std::alloc::Global;
-use world_core::{Message, read_for_hub};
 
 /// These bytes and zeros behind them, so many bytes in all.
 pub(crate) fn padded(alloc: Global, front: &[u8], length: usize) -> Result<Vec<u8>, NoMemory> {

@@ -5,10 +5,12 @@ ghost use Rattle.transaction_codec.specs.Answer.{reply_room};
 ghost use Rattle.world_model.specs.Board.{bodies_executed};
 ghost use Rattle.hub_lane.specs.Greeting.{IfReady};
 
-use board_node::{Board, Bus, Fates, Range, RangeKind};
+use board_node::{Board, Bus, Range, RangeKind};
+use board_specs::Fates;
 use hub_lane::{Entry, Greeted, Lane, Outcome, Settings};
 use ipb_base::{NoMemory, Text, Words};
-use lossy_network::{Link, SimLink};
+use links::Link;
+use lossy_network::SimLink;
 use packet_ids::Id;
 use std::alloc::Global;
 use std::slice;

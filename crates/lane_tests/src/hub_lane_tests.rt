@@ -3,7 +3,7 @@
 use crate::fixtures::{lane, place_of, planned};
 use hub_lane::{Asked, Lane, Outcome, Stepped};
 use ipb_base::NoMemory;
-use lossy_network::Link;
+use links::Link;
 use std::alloc::Global;
 use std::test::Fail;
 

@@ -1,9 +1,10 @@
 //! What a link and a rack whose answers are given beforehand refuse.
 
 use crate::datagram_tests::padded;
-use board_node::{BoardSpec, Fates, LinkSpec, Ranges};
+use board_specs::{BoardSpec, Fates, LinkSpec, Ranges};
 use ipb_base::{NoMemory, Text};
-use lossy_network::{RackFault, ScriptRack, are_datagrams};
+use links::RackFault;
+use lossy_network::{ScriptRack, are_datagrams};
 use packet_ids::Id;
 use std::alloc::Global;
 use std::slice;

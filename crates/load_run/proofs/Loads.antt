@@ -3,14 +3,14 @@ use Rattle.std.proofs.Common.{◌≡◌, ◌≤◌, ℕ, Bool, List, [], ◌∷�
 use Rattle.std.proofs.Common.{sym, ap, ◌∙◌, append-nil, arith}
 use Rattle.std.specs.List.{AllByRecursion}
 use Rattle.std.specs.Result.{IsErr, IsErrAnd}
-use Rattle.board_node.specs.declared.spec.BoardSpec.{BoardSpec}
-use Rattle.board_node.specs.declared.spec.LinkSpec.{LinkSpec}
-use Rattle.board_node.specs.declared.spec.LinkSpec.TheVariants.{Sim, Udp}
+use Rattle.board_specs.specs.declared.spec.BoardSpec.{BoardSpec}
+use Rattle.board_specs.specs.declared.spec.LinkSpec.{LinkSpec}
+use Rattle.board_specs.specs.declared.spec.LinkSpec.TheVariants.{Sim, Udp}
 use Rattle.board_history.specs.Runs.{CanRun, RunsHere}
-use Rattle.board_node.specs.OpeningWords.{OpensOnWords}
+use Rattle.board_specs.specs.OpeningWords.{OpensOnWords}
 use Rattle.script_plans.specs.declared.board_run.BoardRun.{BoardRun}
 use Rattle.script_plans.specs.Runs.{HaveOwnNames}
-use Rattle.lane_history.specs.Links.{CanBeMade, IsUntouched, LinkReport}
+use Rattle.board_history.specs.Links.{CanBeMade, IsUntouched, LinkReport}
 use Rattle.command_terms.proofs.Leaving.{Told, same_Err}
 use Rattle.ipb_base.specs.Numbers.{most_operations}
 use Rattle.load_run.specs.Generated.{boards, steps}

@@ -26,8 +26,8 @@ use Rattle.board_history.specs.Parts.{IsReplyOf}
 use Rattle.board_history.specs.History.{bodies_by_client, outcomes_by_client}
 use Rattle.board_bus.specs.Bodies.{replay}
 use Rattle.board_history.specs.Runs.{opens_with}
-use Rattle.lane_history.specs.Links.{LinkReport, IsBoardOf, board_there}
-use Rattle.lane_history.specs.Runs.{AreRunsOver, IsAsTold, IsRunOver, IsTrueRun}
+use Rattle.board_history.specs.Links.{LinkReport, IsBoardOf, board_there}
+use Rattle.board_history.specs.LinkRuns.{AreRunsOver, IsAsTold, IsRunOver, IsTrueRun}
 use Rattle.load_run.specs.Claims.{HasEachBelow, is_done, order_on, sum_below, TellsRuns, word_at_place}
 use Rattle.ipb_base.specs.Numbers.{most_operations}
 use Rattle.load_run.specs.Generated.{board, boards, link, settings, shares, steps, steps_behind}

@@ -7,8 +7,8 @@
 -- to the one before COUNT, in some order: each was executed once.
 use Rattle.std.specs.Prelude.{◌≡◌, ◌<◌, ◌≤◌, ◌^◌, ℕ, ◌+◌, Bool, true, List, length, Result, Err, IfOk}
 use Rattle.std.specs.List.{AllByRecursion, AllZip}
-use Rattle.board_node.specs.declared.spec.BoardSpec.{BoardSpec}
-use Rattle.board_node.specs.declared.spec.LinkSpec.{LinkSpec}
+use Rattle.board_specs.specs.declared.spec.BoardSpec.{BoardSpec}
+use Rattle.board_specs.specs.declared.spec.LinkSpec.{LinkSpec}
 use Rattle.world_model.specs.Settings.{Limits}
 use Rattle.script_steps.specs.declared.operation.Step.{Step}
 use Rattle.script_lang.specs.declared.script_refusal.TheConstants.{MAX_LINES}
@@ -16,9 +16,9 @@ use Rattle.board_history.specs.Lines.{IsBusLine}
 use Rattle.script_plans.specs.declared.board_run.BoardRun.{BoardRun}
 use Rattle.transcript.specs.Lines.{transcript_of}
 use Rattle.transcript.specs.Shown.{ShowsAllPlaces}
-use Rattle.lane_history.specs.Links.{IsFaithful, IsUntouched, LinkReport}
-use Rattle.lane_history.specs.Runs.{AreRunsOver, AreWholeRuns, IsLineOfRounds, IsUngarbledWhereTold}
-use Rattle.lane_history.specs.Runs.{RepliesCame, ShowAloneRuns, TimeOutsWaited}
+use Rattle.board_history.specs.Links.{IsFaithful, IsUntouched, LinkReport}
+use Rattle.board_history.specs.LinkRuns.{AreRunsOver, AreWholeRuns, IsLineOfRounds, IsUngarbledWhereTold}
+use Rattle.board_history.specs.LinkRuns.{RepliesCame, ShowAloneRuns, TimeOutsWaited}
 use Rattle.session_run.specs.Scripts.{CanBeRun}
 use Rattle.load_run.specs.Claims.{HasEachBelow, TellsRuns, sum_below}
 use Rattle.ipb_base.specs.Numbers.{most_operations}

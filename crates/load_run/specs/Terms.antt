@@ -1,8 +1,8 @@
 -- What `load` owes. Profile.
 use Rattle.std.specs.Prelude.{◌≡◌, ℕ, Bool, List, None, true, false, []}
 use Rattle.ipb_base.specs.Lists.{IsPrefix}
-use Rattle.board_node.specs.declared.spec.LinkSpec.{LinkSpec}
-use Rattle.lane_history.specs.Links.{LinkReport}
+use Rattle.board_specs.specs.declared.spec.LinkSpec.{LinkSpec}
+use Rattle.board_history.specs.Links.{LinkReport}
 use Rattle.command_terms.specs.Numbers.{told_status}
 use Rattle.command_terms.specs.Terms.{Terms}
 use Rattle.load_run.specs.Generated.{boards, steps}

@@ -13,7 +13,7 @@ ghost use Rattle.load_run.specs.Terms.{load_terms};
 use crate::run::run_load;
 use client_threads::Gate;
 use command_terms::{Answer, done_status};
-use lossy_network::Rack;
+use links::Rack;
 use session_run::RunFault;
 use std::alloc::Global;
 use std::marker::Sync;

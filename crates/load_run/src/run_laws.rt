@@ -6,7 +6,7 @@ use crate::laws::{
     a_generated_session_can_be_run, a_summary_tells_the_run_of_the_board,
     the_total_where_all_are_done,
 };
-use lane_history::runs::{
+use board_history::runs::{
     a_client_alone_has_one_run, board_lines_count_replies_that_came,
     board_lines_waited_for_their_time_outs, faithful_lines_fail_by_codes_of_the_bus_alone,
     faithful_links_answer_all, lines_show_the_order_of_each_board,

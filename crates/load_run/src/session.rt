@@ -5,7 +5,7 @@ ghost use Rattle.ipb_base.specs.Numbers.{most_operations};
 ghost use Rattle.load_run.specs.Generated as spec;
 
 use board_bus::{Range, RangeKind};
-use board_node::{BoardSpec, Fates, LinkSpec, Ranges};
+use board_specs::{BoardSpec, Fates, LinkSpec, Ranges};
 use ipb_base::{NoMemory, Text, Words};
 use packet_ids::Id;
 use reliable_engine::Settings;

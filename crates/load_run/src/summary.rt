@@ -32,7 +32,7 @@ struct Tally {
     total: u64,
 }
 
-/// One word more.
+/// A tally with one answered word more.
 fn add_word(tally: Tally, word: u32) -> Tally
     ensures done { result.done ≡ in_64_bits (tally.done + 1) }
     ensures total { result.total ≡ in_64_bits (tally.total + word) }
@@ -54,7 +54,7 @@ fn add_line(tally: Tally, line: &OpLine) -> Tally
     }
 }
 
-/// Those of the lines of a client more.
+/// A tally with the lines of one client more.
 #[tactic(auto, using(crate::proofs::Sums::more_lines_done, crate::proofs::Sums::more_lines_total))]
 fn add_lines(tally: Tally, lines: &[OpLine]) -> Tally
     ensures done { result.done ≡ in_64_bits (tally.done + length (spec.words_of_client lines.now)) }
@@ -67,7 +67,7 @@ fn add_lines(tally: Tally, lines: &[OpLine]) -> Tally
     more
 }
 
-/// Those of all clients.
+/// The tally of the lines of all clients.
 fn tally_of(clients: &[Vec<OpLine>]) -> Tally
     ensures done { let words = spec.words_before (map (λ client. client.items) clients.now) in
         result.done ≡ in_64_bits (length words) }

@@ -10,7 +10,7 @@ use Rattle.world_model.specs.History.{times}
 use Rattle.world_model.specs.Board.{Board}
 use Rattle.world_model.specs.Links.{Told, sent_on}
 use Rattle.world_model.proofs.Accounts.{times-append}
-use Rattle.board_node.specs.declared.spec.Fates.{Fates}
+use Rattle.board_specs.specs.declared.spec.Fates.{Fates}
 use Rattle.lossy_network.specs.declared.fates.DatagramFate.{DatagramFate}
 use Rattle.lossy_network.specs.declared.fates.DatagramFate.TheVariants.{Delivered, Lost, Repeated, Delayed}
 use Rattle.lossy_network.specs.declared.under_way.Late.{Late}

@@ -4,8 +4,8 @@ use Rattle.std.proofs.Common.{[], ◌∷◌, ◌++◌, length, nat_lt, Option, S
 use Rattle.std.specs.Prelude.{nat_le, ◌&&◌}
 use Rattle.std.specs.List.{slice_get}
 use Rattle.std.proofs.lemmas.Bool.Decides.{nat_tests}
-use Rattle.board_node.specs.declared.spec.Fates.{Fates}
-use Rattle.board_node.specs.declared.spec.Fates.TheVariants.{Text, Noise}
+use Rattle.board_specs.specs.declared.spec.Fates.{Fates}
+use Rattle.board_specs.specs.declared.spec.Fates.TheVariants.{Text, Noise}
 use Rattle.world_model.specs.Board.{Board}
 use Rattle.world_model.specs.Links.{Told}
 use Rattle.lossy_network.specs.declared.fates.DatagramFate.{DatagramFate}

@@ -12,7 +12,7 @@ use Rattle.world_model.specs.Air.{goes_to, is_alive}
 use Rattle.world_model.specs.Board.{hear}
 use Rattle.world_model.specs.World.{air_after_answer}
 use Rattle.world_model.specs.Links.{IsHandedAt, Told, first_sends, heard_by, heard_on}
-use Rattle.world_core.specs.declared.link.TheConstants.{MAX_DATAGRAM}
+use Rattle.links.specs.declared.link.TheConstants.{MAX_DATAGRAM}
 use Rattle.lossy_network.specs.Network.{hub_bytes}
 use Rattle.lossy_network.specs.Inside.{IsShort}
 

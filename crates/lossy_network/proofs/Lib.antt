@@ -1,3 +1,6 @@
+pub mod Airs
+mod Store
+pub mod AirHearing
 mod Noise
 mod Hearing
 mod Takings

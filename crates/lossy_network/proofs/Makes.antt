@@ -1,10 +1,10 @@
 -- Why a rack makes no link.
 use Rattle.std.proofs.Common.{◌≡◌, ℕ, ◌<◌, ◌^◌, Bool, true, false, List, Result, Ok, Err, refl, subst, is_none}
 use Rattle.std.proofs.Common.{arith}
-use Rattle.board_node.specs.declared.spec.LinkSpec.{LinkSpec}
+use Rattle.board_specs.specs.declared.spec.LinkSpec.{LinkSpec}
 use Rattle.ipb_outside.specs.Faults.{RisesExactlyIf}
-use Rattle.lossy_network.specs.declared.rack.RackFault.{RackFault}
-use Rattle.lossy_network.specs.declared.rack.RackFault.TheVariants.{Failed, NoMemory}
+use Rattle.links.specs.declared.rack.RackFault.{RackFault}
+use Rattle.links.specs.declared.rack.RackFault.TheVariants.{Failed, NoMemory}
 use Rattle.lossy_network.specs.Network.{Network}
 use Rattle.lossy_network.specs.Racks.{RackState, after_make, fails_to_make, is_named, link_for}
 

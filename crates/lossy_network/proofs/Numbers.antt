@@ -3,7 +3,7 @@ use Rattle.std.proofs.Common.{◌≡◌, ◌∙◌, inl, inr, ℕ, ◌+◌, ◌-
 use Rattle.std.proofs.Common.{◌∷◌, length, min, refl, ap, arith}
 use Rattle.std.specs.List.{list_any}
 use Rattle.ipb_base.specs.Faults.{one_more}
-use Rattle.board_node.specs.declared.spec.Fates.{Fates}
+use Rattle.board_specs.specs.declared.spec.Fates.{Fates}
 use Rattle.world_model.specs.Board.{Board}
 use Rattle.lossy_network.specs.Network.{Network, Receipt, with_call_counted, with_fault, fails, most_takings, new_network}
 use Rattle.lossy_network.specs.Calls.{Call, Receive, RefusedReceive, RefusedSend, Send, after_call, after_calls, network_after}

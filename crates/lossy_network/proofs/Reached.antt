@@ -11,9 +11,9 @@ use Rattle.world_model.specs.Links.{IsHanded, IsHeard, Told, hears_all, sent_on,
 use Rattle.world_model.specs.Messages.{to_hub}
 use Rattle.world_model.specs.Sends.{Next, bytes_to_send, next_send}
 use Rattle.world_model.specs.World.{World}
-use Rattle.world_core.specs.States.{IsReached}
-use Rattle.world_core.specs.declared.link.Received.{Received}
-use Rattle.world_core.specs.declared.link.Received.TheVariants.{Got, Quiet}
+use Rattle.links.specs.States.{IsReached}
+use Rattle.links.specs.declared.link.Received.{Received}
+use Rattle.links.specs.declared.link.Received.TheVariants.{Got, Quiet}
 use Rattle.lossy_network.specs.Network.{ForHub, Front, Network, Nothing, Receipt, Taken, Taking, all_taken, with_call_counted}
 use Rattle.lossy_network.specs.Network.{fails}
 use Rattle.lossy_network.specs.Network.{front, most_takings, network_receipt, takes}
@@ -25,7 +25,7 @@ use Rattle.lossy_network.proofs.Takings.{still, takes_one}
 use Rattle.lossy_network.proofs.Along.{WasDropped, WasHeard, was_taken}
 use Rattle.lossy_network.proofs.Receipts.{the_got, the_quiet}
 
--- ---- the events of a run, a law of `world_core`
+-- ---- the events of a run, a law of `links`
 
 pub record RunEvents (begin : World) : Type 0 where
   pub offered : (so_far : HandedOut) (hub : Hub) (told : Told) (body : Offered) → IsReached begin so_far hub told

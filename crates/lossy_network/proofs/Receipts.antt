@@ -7,7 +7,7 @@ use Rattle.world_model.specs.declared.datagram.Direction.{Direction}
 use Rattle.world_model.specs.declared.datagram.Direction.TheVariants.{ToBoard, ToHub}
 use Rattle.world_model.specs.Air.{is_alive}
 use Rattle.world_model.specs.Links.{IsHandedAt, Told, first_sends, heard_by}
-use Rattle.world_core.specs.declared.link.Received.TheVariants.{Got, Quiet}
+use Rattle.links.specs.declared.link.Received.TheVariants.{Got, Quiet}
 use Rattle.lossy_network.specs.Network.{ForHub, Front, Network, Nothing, Receipt, Taken, all_taken, with_call_counted, front}
 use Rattle.lossy_network.specs.Network.{front_of, front_with, handed_out, hub_bytes, receipt_at, network_receipt}
 use Rattle.lossy_network.specs.Network.{with_queue, without_front}

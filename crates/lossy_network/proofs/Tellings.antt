@@ -9,14 +9,14 @@ use Rattle.std.proofs.lemmas.List.Elements.{Contains-push, Contains-push_cases}
 use Rattle.std.proofs.lemmas.Bool.{lt-ltb}
 use Rattle.ipb_base.specs.Faults.{Rose, one_more}
 use Rattle.world_model.specs.Links.{IsHandedAt, Told, heard_by}
-use Rattle.world_core.specs.declared.link.TheConstants.{MAX_DATAGRAM}
-use Rattle.world_core.specs.declared.link.LinkFault.{LinkFault}
-use Rattle.world_core.specs.declared.link.LinkFault.TheVariants.{Failed, NoMemory}
-use Rattle.world_core.specs.declared.link.Received.{Received}
-use Rattle.world_core.specs.declared.link.Received.TheVariants.{Got, Quiet}
-use Rattle.world_core.specs.Telling.{IsCarried, IsGot, IsQuiet, IsReceived, IsSent, KeepsBut, Receives, Telling}
-use Rattle.world_core.specs.Receives.{receives_after}
-use Rattle.world_core.specs.Telling.{gots_after, quiets_after}
+use Rattle.links.specs.declared.link.TheConstants.{MAX_DATAGRAM}
+use Rattle.links.specs.declared.link.LinkFault.{LinkFault}
+use Rattle.links.specs.declared.link.LinkFault.TheVariants.{Failed, NoMemory}
+use Rattle.links.specs.declared.link.Received.{Received}
+use Rattle.links.specs.declared.link.Received.TheVariants.{Got, Quiet}
+use Rattle.links.specs.Telling.{IsCarried, IsGot, IsQuiet, IsReceived, IsSent, KeepsBut, Receives, Telling}
+use Rattle.links.specs.Receives.{receives_after}
+use Rattle.links.specs.Telling.{gots_after, quiets_after}
 use Rattle.lossy_network.specs.declared.fates.DatagramFate.{DatagramFate}
 use Rattle.lossy_network.specs.declared.fates.DatagramFate.TheVariants.{Delivered, Lost, Repeated, Delayed}
 use Rattle.lossy_network.specs.Fates.{fate_at}
@@ -30,7 +30,7 @@ use Rattle.lossy_network.proofs.Calls.{takes_keep, with_carried}
 use Rattle.lossy_network.specs.Receipts.{GotReceipt, QuietReceipt}
 use Rattle.lossy_network.proofs.Receipts.{the_got, the_quiet}
 
--- ---- the steps of a receive, a law of `world_core`
+-- ---- the steps of a receive, a law of `links`
 
 pub record ReceiveSteps : Type 0 where
   pub nothing : (held : ℕ) (telling : Telling) → IsReceived [] held held telling telling

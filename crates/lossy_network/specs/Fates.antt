@@ -4,8 +4,8 @@ use Rattle.std.specs.List.{slice_get}
 use Rattle.rand_core.specs.Steps.{first_words}
 use Rattle.rand_pcg.specs.Lcg.{Lcg, started, increment_of}
 use Rattle.rand_pcg.specs.Pcg.{multiplier_64, pcg32}
-use Rattle.board_node.specs.declared.spec.Fates.{Fates}
-use Rattle.board_node.specs.declared.spec.Fates.TheVariants.{Text, Noise}
+use Rattle.board_specs.specs.declared.spec.Fates.{Fates}
+use Rattle.board_specs.specs.declared.spec.Fates.TheVariants.{Text, Noise}
 use Rattle.lossy_network.specs.declared.fates.DatagramFate.{DatagramFate}
 use Rattle.lossy_network.specs.declared.fates.DatagramFate.TheVariants.{Delivered, Lost, Repeated, Delayed}
 

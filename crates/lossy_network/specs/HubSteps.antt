@@ -7,8 +7,8 @@ use Rattle.world_model.specs.Hub.{Hub, HandedOut, after_handing_out, hands_out, 
 use Rattle.world_model.specs.Hub.{hear_quiet, is_waiting, new_hub, offer, take_message}
 use Rattle.world_model.specs.Messages.{to_hub}
 use Rattle.world_model.specs.Sends.{Next, bytes_to_send, next_send}
-use Rattle.world_core.specs.declared.link.Received.{Received}
-use Rattle.world_core.specs.declared.link.Received.TheVariants.{Got, Quiet}
+use Rattle.links.specs.declared.link.Received.{Received}
+use Rattle.links.specs.declared.link.Received.TheVariants.{Got, Quiet}
 use Rattle.lossy_network.specs.Network.{Network, Receipt, with_call_counted, fails, network_receipt, network_with_send, takes}
 
 -- the hub, the link, and what was handed out

@@ -5,12 +5,12 @@ use Rattle.std.specs.VecDeque.{deque_len, deque_capacity}
 use Rattle.std.specs.Vec.{vec_len, vec_capacity}
 use Rattle.rand_pcg.specs.Lcg.{Lcg, advance}
 use Rattle.rand_pcg.specs.Pcg.{multiplier_64}
-use Rattle.board_node.specs.declared.spec.Fates.{Fates}
-use Rattle.board_node.specs.declared.spec.Fates.TheVariants.{Text, Noise}
+use Rattle.board_specs.specs.declared.spec.Fates.{Fates}
+use Rattle.board_specs.specs.declared.spec.Fates.TheVariants.{Text, Noise}
 use Rattle.world_model.specs.declared.datagram.Datagram.{Datagram}
 use Rattle.world_model.specs.declared.datagram.Direction.{Direction}
 use Rattle.world_model.specs.declared.datagram.Direction.TheVariants.{ToBoard, ToHub}
-use Rattle.world_core.specs.declared.link.TheConstants.{MAX_DATAGRAM}
+use Rattle.links.specs.declared.link.TheConstants.{MAX_DATAGRAM}
 use Rattle.lossy_network.specs.declared.under_way.UnderWay.{UnderWay}
 use Rattle.lossy_network.specs.declared.link.SimLink.TheInside.{Inside}
 use Rattle.lossy_network.specs.declared.sim_rack.SimRack.TheInside.{Inside as RackInside}

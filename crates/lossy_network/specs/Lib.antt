@@ -1,3 +1,5 @@
+pub mod Airs
+pub mod Store
 pub mod Fates
 pub mod Traffic
 pub mod Network

@@ -3,15 +3,15 @@ use Rattle.std.specs.Prelude.{ℕ, zero, suc, ◌+◌, ◌==◌, Bool, if◌then
 use Rattle.std.specs.Prelude.{map, nat_lt, Option, Some, None}
 use Rattle.std.specs.List.{list_any, slice_get}
 use Rattle.ipb_base.specs.Faults.{one_more}
-use Rattle.board_node.specs.declared.spec.Fates.{Fates}
+use Rattle.board_specs.specs.declared.spec.Fates.{Fates}
 use Rattle.world_model.specs.declared.datagram.Datagram.{Datagram}
 use Rattle.world_model.specs.declared.datagram.Direction.TheVariants.{ToBoard, ToHub}
 use Rattle.world_model.specs.Air.{goes_to, is_alive}
 use Rattle.world_model.specs.Board.{Board}
 use Rattle.world_model.specs.Links.{Told, first_sends, heard_by, sent_on}
-use Rattle.world_core.specs.declared.link.Received.{Received}
-use Rattle.world_core.specs.declared.link.Received.TheVariants.{Got, Quiet}
-use Rattle.world_core.specs.Telling.{Telling}
+use Rattle.links.specs.declared.link.Received.{Received}
+use Rattle.links.specs.declared.link.Received.TheVariants.{Got, Quiet}
+use Rattle.links.specs.Telling.{Telling}
 use Rattle.lossy_network.specs.Fates.{fate_at}
 use Rattle.lossy_network.specs.Traffic.{Traffic, put_on, place_of}
 

@@ -1,7 +1,7 @@
 -- What a receive of a simulated link comes to. Profile.
 use Rattle.std.specs.Prelude.{◌≡◌, ℕ, List, [], ◌∷◌}
 use Rattle.world_model.specs.Links.{IsHandedAt}
-use Rattle.world_core.specs.declared.link.Received.TheVariants.{Got}
+use Rattle.links.specs.declared.link.Received.TheVariants.{Got}
 use Rattle.lossy_network.specs.Network.{Network, all_taken, with_call_counted, handed_out, quiet_receipt, network_receipt, with_queue}
 
 -- the queue came to its end, and the receive is quiet

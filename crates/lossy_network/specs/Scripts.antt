@@ -5,13 +5,13 @@ use Rattle.std.specs.Prelude.{vec_len}
 use Rattle.std.specs.List.{All, list_any}
 use Rattle.std.specs.Global.{Vec}
 use Rattle.ipb_base.specs.Faults.{one_more}
-use Rattle.board_node.specs.declared.spec.LinkSpec.{LinkSpec}
-use Rattle.board_node.specs.declared.spec.LinkSpec.TheVariants.{Sim, Udp}
-use Rattle.world_core.specs.declared.link.TheConstants.{MAX_DATAGRAM}
-use Rattle.world_core.specs.declared.link.Received.{Received}
-use Rattle.world_core.specs.declared.link.Received.TheVariants.{Got, Quiet}
-use Rattle.lossy_network.specs.declared.rack.RackFault.{RackFault}
-use Rattle.lossy_network.specs.declared.rack.RackFault.TheVariants.{Failed, NoMemory}
+use Rattle.board_specs.specs.declared.spec.LinkSpec.{LinkSpec}
+use Rattle.board_specs.specs.declared.spec.LinkSpec.TheVariants.{Sim, Udp}
+use Rattle.links.specs.declared.link.TheConstants.{MAX_DATAGRAM}
+use Rattle.links.specs.declared.link.Received.{Received}
+use Rattle.links.specs.declared.link.Received.TheVariants.{Got, Quiet}
+use Rattle.links.specs.declared.rack.RackFault.{RackFault}
+use Rattle.links.specs.declared.rack.RackFault.TheVariants.{Failed, NoMemory}
 
 -- each is not longer than a datagram may be
 abbrev pub AreDatagrams : List (Vec ℕ) → Type 0

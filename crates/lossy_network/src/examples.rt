@@ -5,7 +5,7 @@
 //! identifier 1.
 
 ghost use Rattle.std.specs.Prelude.{◌≡◌, [], ◌∷◌, codes};
-ghost use Rattle.board_node.specs.declared.spec.Fates.TheVariants.{Text, Noise};
+ghost use Rattle.board_specs.specs.declared.spec.Fates.TheVariants.{Text, Noise};
 ghost use Rattle.lossy_network.specs.declared.fates.DatagramFate.TheVariants.{Delivered, Lost, Repeated, Delayed};
 ghost use Rattle.lossy_network.specs.Calls.{Receive};
 ghost use Rattle.lossy_network.specs.Examples.{fates_to, four_asked, resend_asked, stands, status_asked, stood};

@@ -5,7 +5,7 @@ ghost use Rattle.std.specs.List.{slice_get};
 ghost use Rattle.lossy_network.specs.Fates.{fate_at, fate_of_bits, fate_of_character, fate_of_letter};
 ghost use Rattle.lossy_network.specs.Inside.{IsDrawn};
 
-use board_node::Fates;
+use board_specs::Fates;
 use rand_core::utils::NextWord;
 use rand_pcg::Lcg64Xsh32;
 

@@ -1,10 +1,10 @@
 //! A datagram that is handed out.
 
 ghost use Rattle.std.specs.Prelude.{◌≡◌, [], Some, OnOk, OnErr};
-ghost use Rattle.world_core.specs.Receives.{with_receive};
+ghost use Rattle.links.specs.Receives.{with_receive};
 
 use ipb_base::NoMemory;
-use world_core::ReceiveLog;
+use links::ReceiveLog;
 
 /// Puts a datagram into `into`, which is empty, and adds it to what the receives came to. Where memory ran out `into`
 /// is empty still.

@@ -4,15 +4,15 @@
 ghost use Rattle.std.specs.Prelude.{◌≡◌, ◌+◌, ◌-◌, ◌^◌, ◌==◌, ◌++◌, ◌<◌, ◌≤◌, ℕ, true, List, [], length, map, min};
 ghost use Rattle.std.specs.Prelude.{Some};
 ghost use Rattle.std.specs.List.{AllByRecursion, list_all, list_any, range_with_len};
-ghost use Rattle.board_node.specs.declared.spec.Fates.{Fates};
-ghost use Rattle.board_node.specs.declared.spec.Fates.TheVariants.{Text};
+ghost use Rattle.board_specs.specs.declared.spec.Fates.{Fates};
+ghost use Rattle.board_specs.specs.declared.spec.Fates.TheVariants.{Text};
 ghost use Rattle.world_model.specs.Air.{LIFETIME as most_further_sends};
 ghost use Rattle.world_model.specs.Board.{Board};
 ghost use Rattle.world_model.specs.Facts.{IsStart};
 ghost use Rattle.world_model.specs.Links.{first_sends};
 ghost use Rattle.world_model.specs.World.{start};
-ghost use Rattle.world_core.specs.States.{IsReached};
-ghost use Rattle.world_core.specs.declared.link.Received.TheVariants.{Got, Quiet};
+ghost use Rattle.links.specs.States.{IsReached};
+ghost use Rattle.links.specs.declared.link.Received.TheVariants.{Got, Quiet};
 ghost use Rattle.lossy_network.specs.declared.fates.DatagramFate.TheVariants.{Delivered};
 ghost use Rattle.lossy_network.specs.Fates.{fate_at};
 ghost use Rattle.lossy_network.specs.Network.{Network, fails, new_network, network_receipt};
@@ -21,7 +21,7 @@ ghost use Rattle.lossy_network.specs.Calls.{Call, after_calls, all_takings, copi
 ghost use Rattle.lossy_network.specs.Calls.{failures, times_of};
 ghost use Rattle.lossy_network.specs.HubSteps.{HubAndLink, HubStep, IsHubStep, after_steps, new_hub_and_link};
 
-use world_core::laws::each_event_leads_to_a_state_of_a_run;
+use links::laws::each_event_leads_to_a_state_of_a_run;
 use world_model::laws::links::a_link_forgets_nothing;
 
 /// A receive takes datagrams from the front of the queue until one for the hub stands there, which it hands out, or

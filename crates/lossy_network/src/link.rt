@@ -3,21 +3,23 @@
 ghost use Rattle.std.specs.Prelude.{◌≡◌, ◌↔◌, ◌≤◌, ◌<◌, ◌^◌, ℕ, [], length, true, false, Err, Ok, IfOk, OnOk, OnErr};
 ghost use Rattle.world_model.specs.Board.{bodies_executed};
 ghost use Rattle.world_model.specs.Links.{sent_on};
-ghost use Rattle.world_core.specs.declared.link.TheConstants.{MAX_DATAGRAM};
-ghost use Rattle.world_core.specs.declared.link.LinkFault.TheVariants.{Failed, NoMemory as no_memory};
+ghost use Rattle.links.specs.declared.link.TheConstants.{MAX_DATAGRAM};
+ghost use Rattle.links.specs.declared.link.LinkFault.TheVariants.{Failed, NoMemory as no_memory};
 ghost use Rattle.lossy_network.specs.Network.{Network, all_taken, with_call_counted, with_fault, fails, front, new_network, put_at};
 ghost use Rattle.lossy_network.specs.Network.{receipt_at, network_receipt, network_with_send, takes};
 ghost use Rattle.lossy_network.specs.Inside.{IsTaken, stands, traffic_of};
 
+use crate::air::Air;
 use crate::fates::{next_fate, noise_generator};
 use crate::handing::hand_over;
 use crate::under_way::UnderWay;
-use board_node::{Board, Fates};
+use board_node::Board;
+use board_specs::Fates;
 use ipb_base::NoMemory;
+use links::{LinkFault, MAX_DATAGRAM, ReceiveLog, Received};
 use rand_pcg::Lcg64Xsh32;
 use std::alloc::Global;
 use std::marker::Model;
-use world_core::{Air, LinkFault, MAX_DATAGRAM, ReceiveLog, Received};
 
 /// A link to a board in the same process. Every datagram that is sent on it, by the hub or by the board, meets the fate
 /// that the link was made with. Contracts see it as a `Network`.
@@ -78,7 +80,7 @@ impl SimLink {
         })
     }
 
-    /// The board.
+    /// The simulated board at the end of the link.
     pub fn board(&self) -> &Board
         ensures { result.now ≡ self.now.told.board }
     {

@@ -2,16 +2,16 @@
 
 ghost use Rattle.std.specs.Prelude.{◌≡◌, ◌≢◌, ◌↔◌, ◌≤◌, ◌<◌, ◌^◌, [], length, true, false, IsTrue, Err, IfOk, OnOk, OnErr};
 ghost use Rattle.std.specs.List.{slice_get};
-ghost use Rattle.world_core.specs.declared.link.TheConstants.{MAX_DATAGRAM};
-ghost use Rattle.world_core.specs.declared.link.LinkFault.TheVariants.{Failed, NoMemory as no_memory};
+ghost use Rattle.links.specs.declared.link.TheConstants.{MAX_DATAGRAM};
+ghost use Rattle.links.specs.declared.link.LinkFault.TheVariants.{Failed, NoMemory as no_memory};
 ghost use Rattle.lossy_network.specs.Scripts.{AreDatagrams, bytes_of, script_call_counted, script_with_fault, fails, new_script};
 ghost use Rattle.lossy_network.specs.Scripts.{receipt_of, script_receipt};
 
 use crate::handing::hand_over;
 use crate::link::fits;
 use ipb_base::NoMemory;
+use links::{Link, LinkFault, MAX_DATAGRAM, ReceiveLog, Received};
 use std::marker::Model;
-use world_core::{Link, LinkFault, MAX_DATAGRAM, ReceiveLog, Received};
 
 /// A link whose answers are given beforehand, whatever is sent: those of a board that may answer anything. It tells
 /// nothing of what it carries, and holds nothing back. Contracts see it as a `ScriptState`.

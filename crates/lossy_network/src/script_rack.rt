@@ -2,16 +2,15 @@
 
 ghost use Rattle.std.specs.Prelude.{◌≡◌, ◌↔◌, ◌≤◌, ◌<◌, ◌^◌, [], length, reverse, true, Err, IfOk, IfSome, IfNone, Some};
 ghost use Rattle.std.specs.List.{All, slice_get};
-ghost use Rattle.lossy_network.specs.declared.rack.RackFault.TheVariants.{Failed};
+ghost use Rattle.links.specs.declared.rack.RackFault.TheVariants.{Failed};
 ghost use Rattle.lossy_network.specs.Scripts.{AreDatagrams, after_keep, after_make, is_simulated, lists_of, new_rack};
 ghost use Rattle.lossy_network.specs.Scripts.{bytes_of, lists_after, new_script, next_answers};
 
 use crate::link::fits;
-use crate::rack::{Rack, RackFault};
 use crate::room::make_room;
 use crate::script_link::ScriptLink;
-use crate::spec_log::SpecLog;
-use board_node::{BoardSpec, LinkSpec};
+use board_specs::{BoardSpec, LinkSpec};
+use links::{Rack, RackFault, SpecLog};
 use std::alloc::Global;
 use std::marker::Model;
 

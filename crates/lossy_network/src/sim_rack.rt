@@ -3,18 +3,18 @@
 ghost use Rattle.std.specs.Prelude.{◌≡◌, ◌↔◌, ◌≤◌, ◌<◌, ◌^◌, [], length, true, false, Some, Err, IfOk, OnErr, IfSome, IfNone, List, is_none};
 ghost use Rattle.std.specs.List.{slice_get};
 ghost use Rattle.ipb_base.specs.Faults.{one_more};
-ghost use Rattle.board_node.specs.declared.spec.LinkSpec.{LinkSpec as Spec};
-ghost use Rattle.lossy_network.specs.declared.rack.RackFault.TheVariants.{Failed};
-ghost use Rattle.lossy_network.specs.Racks.{after_keep, after_make, fails_to_make, fresh_board, is_named, IsMakeable};
-ghost use Rattle.lossy_network.specs.Racks.{IsSimulable, link_for, made_after, new_rack};
+ghost use Rattle.board_specs.specs.declared.spec.LinkSpec.{LinkSpec as Spec};
+ghost use Rattle.links.specs.declared.rack.RackFault.TheVariants.{Failed};
+ghost use Rattle.links.specs.Racks.{fresh_board, IsMakeable, IsSimulable, made_after};
+ghost use Rattle.lossy_network.specs.Racks.{after_keep, after_make, fails_to_make, is_named, link_for, new_rack};
 
 use crate::link::{SimLink, fits};
-use crate::rack::{Rack, RackFault};
 use crate::room::make_room;
-use crate::spec_log::SpecLog;
 use board_bus::{Bus, BusRefusal};
-use board_node::{Board, BoardSpec, Fates, Id, LinkSpec, Ranges};
+use board_node::{Board, Id};
+use board_specs::{BoardSpec, Fates, LinkSpec, Ranges};
 use ipb_base::{NoMemory, Text};
+use links::{Rack, RackFault, SpecLog};
 use std::alloc::Global;
 use std::marker::Model;
 
@@ -127,7 +127,7 @@ impl SimRack {
         self.made.add(spec)
     }
 
-    /// Counts a fault.
+    /// Counts one fault of the rack, and answers it.
     fn count_fault(&mut self) -> RackFault
         ensures fault { result ≡ Failed }
         ensures counted { self.new ≡ record self.old { faults = one_more self.old.faults } }
@@ -204,7 +204,7 @@ fn fresh_board(
     }
 }
 
-/// The same fates in memory of their own.
+/// A copy of some fates, which shares no memory with them.
 fn copy_fates(alloc: Global, fates: &Fates) -> Result<Fates, NoMemory>
     ensures { IfOk result (λ copied. copied ≡ fates.now) }
 {

@@ -1,8 +1,8 @@
 //! What a hub knows of a simulated link.
 
 use crate::link::SimLink;
-use world_core::laws::a_receive_goes_step_by_step;
-use world_core::{Link, LinkFault, Received};
+use links::laws::a_receive_goes_step_by_step;
+use links::{Link, LinkFault, Received};
 
 impl Link for SimLink {
     ghost use Rattle.std.specs.Prelude.{Some};

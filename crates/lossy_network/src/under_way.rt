@@ -83,7 +83,7 @@ impl UnderWay {
         }
     }
 
-    /// Those that are delayed up to this place go to the back of the queue, in order of sending.
+    /// Datagrams that are delayed up to this place go to the back of the queue, in order of sending.
     fn release(&mut self, place: usize)
         requires { deque_len self.old.queue + vec_len self.old.delayed ≤ deque_capacity self.old.queue }
         ensures { traffic_of self.new ≡ releases place (traffic_of self.old) }

@@ -1,10 +1,10 @@
 -- What a make leaves of a rack.
 use Rattle.std.proofs.Common.{◌≡◌, Result, Ok, Err, refl, arith}
 use Rattle.ipb_base.specs.Faults.{Rose}
-use Rattle.board_node.specs.declared.spec.LinkSpec.{LinkSpec}
-use Rattle.lossy_network.specs.declared.rack.RackFault.{RackFault}
-use Rattle.lossy_network.specs.declared.rack.RackFault.TheVariants.{Failed, NoMemory}
-use Rattle.lossy_network.specs.Racks.{made_after}
+use Rattle.board_specs.specs.declared.spec.LinkSpec.{LinkSpec}
+use Rattle.links.specs.declared.rack.RackFault.{RackFault}
+use Rattle.links.specs.declared.rack.RackFault.TheVariants.{Failed, NoMemory}
+use Rattle.links.specs.Racks.{made_after}
 use Rattle.net_edges.specs.declared.any_link.AnyLink.{AnyLink}
 use Rattle.net_edges.specs.Links.{RealRackState, after_make}
 

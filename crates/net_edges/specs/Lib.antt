@@ -1,6 +1,1 @@
-pub mod Numbers
-pub mod Places
-pub mod States
-pub mod Errors
-pub mod Heard
 pub mod Links

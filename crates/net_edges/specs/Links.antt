@@ -1,14 +1,14 @@
 -- A link that is simulated, which tells, or goes over UDP, which does not. Profile.
 use Rattle.std.specs.Prelude.{ℕ, List, [], ◌∷◌, ◌++◌, Option, Some, None, Result, Ok, Err}
 use Rattle.ipb_base.specs.Faults.{one_more}
-use Rattle.board_node.specs.declared.spec.LinkSpec.{LinkSpec}
-use Rattle.board_node.specs.declared.spec.LinkSpec.TheVariants.{Sim as SimBoard, Udp as UdpBoard}
-use Rattle.world_core.specs.Telling.{Telling}
+use Rattle.board_specs.specs.declared.spec.LinkSpec.{LinkSpec}
+use Rattle.board_specs.specs.declared.spec.LinkSpec.TheVariants.{Sim as SimBoard, Udp as UdpBoard}
+use Rattle.links.specs.Telling.{Telling}
 use Rattle.lossy_network.specs.Network.{new_network, telling_of as network_telling}
-use Rattle.lossy_network.specs.Racks.{fresh_board}
-use Rattle.lossy_network.specs.declared.rack.RackFault.{RackFault}
-use Rattle.lossy_network.specs.declared.rack.RackFault.TheVariants.{Failed, NoMemory}
-use Rattle.net_edges.specs.Numbers.{wait_nanos}
+use Rattle.links.specs.Racks.{fresh_board}
+use Rattle.links.specs.declared.rack.RackFault.{RackFault}
+use Rattle.links.specs.declared.rack.RackFault.TheVariants.{Failed, NoMemory}
+use Rattle.std_edges.specs.States.{new_udp}
 use Rattle.net_edges.specs.declared.any_link.AnyLink.{AnyLink}
 use Rattle.net_edges.specs.declared.any_link.AnyLink.TheVariants.{Sim, Udp}
 
@@ -43,15 +43,7 @@ receives_of (Udp link) = link.receives
 abbrev pub new_link : LinkSpec → AnyLink
 new_link (SimBoard mtu buffers first ranges fates) =
     Sim (new_network (fresh_board mtu buffers first ranges) fates [])
-new_link (UdpBoard address port wait) = Udp (record {
-  address = address;
-  port = port;
-  wait = wait_nanos wait;
-  faults = 0;
-  quiets = 0;
-  gots = 0;
-  receives = [];
-})
+new_link (UdpBoard address port wait) = Udp (new_udp address port wait)
 
 abbrev pub IsOnNetwork : LinkSpec → Type 0
 IsOnNetwork (SimBoard mtu buffers first ranges fates) = ⊥

@@ -1,10 +1,11 @@
 //! Links of either kind.
 
-use crate::udp_link::UdpLink;
-use link_waiter::Waiter;
+ghost use Rattle.std.specs.Prelude.{◌≡◌};
+
+use links::{Link, LinkFault, Received, Waiter};
 use lossy_network::SimLink;
 use std::alloc::Global;
-use world_core::{Link, LinkFault, Received};
+use std_edges::UdpLink;
 
 /// A link to a board of this process or to one on the network.
 #[derive(Drop)]
@@ -13,6 +14,17 @@ pub enum AnyLink {
     Sim(SimLink),
     /// Over UDP. It does not tell what it carries.
     Udp(UdpLink),
+}
+
+impl AnyLink {
+    /// The link is given back: says what was not said yet.
+    pub(crate) fn finish(&mut self)
+        ensures { self.new ≡ self.old }
+    {
+        if let AnyLink::Udp(link) = self {
+            link.finish();
+        }
+    }
 }
 
 impl Link for AnyLink {

@@ -1,27 +1,25 @@
 //! A rack whose links are simulated or go over UDP, as the session document says.
 
 ghost use Rattle.std.specs.Prelude.{◌≡◌, ◌≤◌, [], length, IfOk, Err};
-ghost use Rattle.lossy_network.specs.Racks.{IsMakeable, made_after};
+ghost use Rattle.links.specs.Racks.{IsMakeable, made_after};
 ghost use Rattle.net_edges.specs.Links.{IsOnNetwork, after_make, new_link};
 
 use crate::any_link::AnyLink;
-use crate::counting::incremented;
-use crate::udp_link::UdpLink;
-use board_node::{BoardSpec, LinkSpec};
+use board_specs::{BoardSpec, LinkSpec};
 use ipb_base::NoMemory;
-use ipb_outside::Failed;
-use lossy_network::{Rack, RackFault, SimRack, SpecLog};
+use links::{Rack, RackFault, SpecLog};
+use lossy_network::SimRack;
 use std::alloc::Global;
-use std::io::Stderr;
 use std::marker::Model;
 use std::net::Net;
+use std_edges::{Console, RackNotes};
 
 /// A rack that makes each link as its board says: simulated, with no call that fails, or over UDP. Contracts see a
 /// `RealRackState`.
 #[derive(Drop)]
 pub struct RealRack<R: Net + AllocGlobal + Drop> {
     rt: R,
-    to: Option<Stderr>,
+    notes: RackNotes,
     kept: Vec<AnyLink>,
     made: SpecLog,
     faults: u64,
@@ -48,20 +46,21 @@ impl<R: Net + AllocGlobal + Drop> RealRack<R> {
         RealRack::made(rt, None)
     }
 
-    /// A rack that has made no link, and whose links over UDP say on standard error what befalls them.
-    pub fn with_notes(rt: R, to: Stderr) -> RealRack<R>
+    /// A rack that has made no link, and whose links over UDP say on standard error what befalls them. It holds a lock
+    /// of this machine for each board over UDP, and makes no link where another process has it.
+    pub fn with_notes(rt: R, console: Console) -> RealRack<R>
         ensures { result ≡ record { kept = []; made = []; faults = 0 } }
     {
-        RealRack::made(rt, Some(to))
+        RealRack::made(rt, Some(console))
     }
 
-    fn made(rt: R, to: Option<Stderr>) -> RealRack<R>
+    fn made(rt: R, console: Option<Console>) -> RealRack<R>
         ensures { result ≡ record { kept = []; made = []; faults = 0 } }
     {
         let alloc: Global = rt.alloc();
         RealRack {
             rt,
-            to,
+            notes: RackNotes::new(alloc, console),
             kept: Vec::new(alloc),
             made: SpecLog::new(alloc),
             faults: 0,
@@ -72,7 +71,8 @@ impl<R: Net + AllocGlobal + Drop> RealRack<R> {
 impl<R: Net + AllocGlobal + Drop> RealRack<R> {
     /// Makes a link for a board: a simulated one, with its fates and no call that fails, or one over UDP to the address
     /// and the port of the board, which waits as long as its spec says. `Failed` comes only for a board on a network,
-    /// where the machine refuses the socket: the rack counts it. It takes the room that keeping the link needs.
+    /// where the machine refuses the socket, where the rack made a link to that address and port before, and where
+    /// another process has the lock of the board: the rack counts it. It takes the room that keeping the link needs.
     pub fn make(&mut self, spec: &BoardSpec) -> Result<AnyLink, RackFault>
         requires { IsMakeable spec.now.link }
         ensures made { IfOk result (λ link. link ≡ new_link spec.now.link) }
@@ -85,10 +85,10 @@ impl<R: Net + AllocGlobal + Drop> RealRack<R> {
         if self.kept.reserve(places).is_err() {
             return Err(RackFault::NoMemory);
         }
-        match make_link(&self.rt, spec, self.to) {
+        match make_link(&self.rt, spec, &mut self.notes) {
             Ok(link) => Ok(put_down(&mut self.made, &spec.link, link)?),
             Err(RackFault::Failed) => {
-                self.faults = incremented(self.faults);
+                self.faults = self.faults.saturating_add(1);
                 Err(RackFault::Failed)
             }
             Err(RackFault::NoMemory) => Err(RackFault::NoMemory),
@@ -110,6 +110,9 @@ impl<R: Net + AllocGlobal + Drop> Rack for RealRack<R> {
     }
 
     fn keep(&mut self, link: AnyLink) {
+        let mut link = link;
+        self.notes.given_back();
+        link.finish();
         self.kept.push_reserved(link);
     }
 }
@@ -126,15 +129,16 @@ fn put_down(made: &mut SpecLog, spec: &LinkSpec, link: AnyLink) -> Result<AnyLin
 fn make_link<R: Net + AllocGlobal>(
     rt: &R,
     spec: &BoardSpec,
-    to: Option<Stderr>,
+    notes: &mut RackNotes,
 ) -> Result<AnyLink, RackFault>
     requires { IsMakeable spec.now.link }
     ensures made { IfOk result (λ link. link ≡ new_link spec.now.link) }
     ensures failed { result ≡ Err RackFault.Failed → IsOnNetwork spec.now.link }
 {
+    let alloc: Global = rt.alloc();
+    notes.add_board(alloc, spec.name.as_str());
     match &spec.link {
         LinkSpec::Sim { .. } => {
-            let alloc: Global = rt.alloc();
             let mut rack = SimRack::new(alloc, Vec::new(alloc), Vec::new(alloc));
             Ok(AnyLink::Sim(rack.make(spec)?))
         }
@@ -142,9 +146,10 @@ fn make_link<R: Net + AllocGlobal>(
             address,
             port,
             wait,
-        } => match UdpLink::with_notes(rt, *address, *port, *wait, to) {
-            Ok(link) => Ok(AnyLink::Udp(link)),
-            Err(Failed) => Err(RackFault::Failed),
-        },
+        } => {
+            let name = spec.name.as_str();
+            let link = notes.link_to(rt, name, *address, *port, *wait)?;
+            Ok(AnyLink::Udp(link))
+        }
     }
 }

@@ -68,7 +68,7 @@ fn first_overlaps(alloc: Global, entries: &[Entry]) -> Result<Vec<usize>, NoMemo
     Ok(firsts)
 }
 
-/// The same, in a list that has no place before an entry.
+/// Puts the first overlapping place of each entry into a list that has none yet.
 fn lower_firsts(alloc: Global, entries: &[Entry], firsts: &mut [usize]) -> Result<(), NoMemory>
     requires in_order { AreInOrder entries.now }
     requires registers { AreNamedRegisters (named_entries entries.now) }

@@ -33,7 +33,7 @@ impl Model for Tables {
 }
 
 impl Tables {
-    /// No tables.
+    /// A list with no tables. It takes no memory.
     pub fn new(alloc: Global) -> Tables
         ensures { result ≡ map.empty }
     {

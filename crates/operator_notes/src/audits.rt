@@ -24,12 +24,18 @@ impl Refused for AuditUnread {
 
 /// The document of an input, behind the line that tells its length.
 fn document_in(bytes: &[u8]) -> &[u8] {
+    let (document, _transcript) = parts_in(bytes);
+    document
+}
+
+/// The document of an input, and the transcript behind it. Both are empty where the input has no such parts.
+pub(crate) fn parts_in(bytes: &[u8]) -> (&[u8], &[u8]) {
     let Some(end) = bytes.iter().position(|byte| *byte == b'\n') else {
-        return &[];
+        return (&[], &[]);
     };
     let Some(length) = number_in_text(&bytes[..end]) else {
-        return &[];
+        return (&[], &[]);
     };
     let rest = &bytes[end + 1..];
-    &rest[..rest.len().min(length as usize)]
+    rest.split_at(rest.len().min(length as usize))
 }

@@ -3,13 +3,25 @@
 use audit_command::Audited;
 use script_steps::{RegOp, Step, Steps};
 
+/// An operation that a client asks for.
+#[derive(Clone, Copy)]
+pub(crate) struct Asked<'a> {
+    /// The client, from 0.
+    pub(crate) client: usize,
+    /// The number of the operation among those of its client, from 1.
+    pub(crate) number: u64,
+    pub(crate) op: &'a RegOp,
+    /// The rule that denies it.
+    pub(crate) denied: Option<u32>,
+}
+
 /// What belongs in a line of a transcript.
 #[derive(Clone, Copy)]
 pub(crate) enum Belongs<'a> {
     /// The heading of a client, from 1.
     Heading(usize),
-    /// The line of an operation: the client from 1, its number among those of the client, and itself.
-    Operation(usize, u64, &'a RegOp),
+    /// The line of an operation.
+    Operation(Asked<'a>),
     /// The line of the board at this position.
     Board(usize),
     Nothing,
@@ -33,7 +45,7 @@ pub(crate) fn what_belongs<'a>(read: &'a Audited<'_>, line: u64) -> Belongs<'a> 
         before = before.saturating_add(1);
         let count = operations(steps);
         if line <= before.saturating_add(count) {
-            return operation(client + 1, line - before.min(line), steps);
+            return operation(client, line - before.min(line), steps);
         }
         before = before.saturating_add(count);
     }
@@ -42,6 +54,16 @@ pub(crate) fn what_belongs<'a>(read: &'a Audited<'_>, line: u64) -> Belongs<'a> 
         return Belongs::Board(position - 1);
     }
     Belongs::Nothing
+}
+
+/// The line of the board at this position.
+pub(crate) fn board_line(read: &Audited<'_>, position: usize) -> u32 {
+    let mut before = 0u64;
+    for steps in read.steps.iter() {
+        before = before.saturating_add(1).saturating_add(operations(steps));
+    }
+    let line = before.saturating_add(position as u64).saturating_add(1);
+    u32::try_from(line).unwrap_or(u32::MAX)
 }
 
 /// How many operations a client has, denied or not.
@@ -59,11 +81,19 @@ fn operations(steps: &Steps) -> u64 {
 fn operation(client: usize, number: u64, steps: &Steps) -> Belongs<'_> {
     let mut count = 0u64;
     for step in steps.as_slice() {
-        if let Step::Do(op) | Step::Denied { rule: _, op } = step {
-            count = count.saturating_add(1);
-            if count == number {
-                return Belongs::Operation(client, number, op);
-            }
+        let (op, denied) = match step {
+            Step::Do(op) => (op, None),
+            Step::Denied { rule, op } => (op, Some(*rule)),
+            Step::Dispatch => continue,
+        };
+        count = count.saturating_add(1);
+        if count == number {
+            return Belongs::Operation(Asked {
+                client,
+                number,
+                op,
+                denied,
+            });
         }
     }
     Belongs::Nothing

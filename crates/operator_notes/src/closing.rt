@@ -1,12 +1,14 @@
 //! What is said at the end, by the status.
 
+use crate::asked_packets::say_asked;
 use crate::denials::say_denials;
 use crate::given_values::Applied;
 use crate::notes::Notes;
 use crate::refusals::say_of_input;
-use crate::statuses::{DOOR_NOTE, MEMORY_NOTE, RACK_NOTE, READ_NOTE, write_note};
+use crate::statuses::{DOOR_NOTE, RACK_NOTE, READ_NOTE, memory_note, write_note};
 use crate::summaries::say_summary;
-use crate::usage::say_usage;
+use crate::unmatched_rules::say_unmatched;
+use crate::usage::{ask_version, say_usage};
 use crate::verdicts::say_verdict;
 use audit_command::MAX_AUDIT;
 use capture_commands::MAX_CAPTURE;
@@ -29,6 +31,11 @@ pub struct Ending<'a> {
     pub written: Option<&'a [u8]>,
 }
 
+/// Whether the words asked for the version.
+pub fn asks_version(ending: &Ending<'_>) -> bool {
+    ending.status == USAGE && ask_version(ending.words)
+}
+
 /// How many bytes of the input are kept, to say what to look for in them: one byte more than the longest input of the
 /// command tells that it is too long.
 pub fn most_given(command: Option<&Command>) -> usize {
@@ -39,10 +46,15 @@ pub fn most_given(command: Option<&Command>) -> usize {
     }
 }
 
-/// How many bytes of the output are kept, to say what was read of a configuration: more than its text can have.
+/// The most bytes of the answer of an audit.
+const MOST_ANSWERED: usize = 64;
+
+/// How many bytes of the output are kept: more than the text of a configuration can have, to say what was read of it;
+/// and the answer of an audit, to say what of a line is wrong without a second audit.
 pub fn most_written(command: Option<&Command>) -> usize {
     match command {
         Some(Command::Save | Command::Apply) => MAX_CAPTURE,
+        Some(Command::Audit) => MOST_ANSWERED,
         _ => 0,
     }
 }
@@ -56,24 +68,38 @@ pub fn closing_notes(alloc: Global, ending: Ending<'_>) -> Result<Vec<String>, N
 
 fn say_ending(notes: &mut Notes, ending: Ending<'_>) {
     match ending.status {
-        DONE => say_configuration(notes, ending),
+        DONE => say_what_is_done(notes, ending),
         NOT_ALL_DONE => say_what_is_missing(notes, ending),
         USAGE => say_usage(notes, ending.words),
         REFUSED => say_refusal(notes, ending),
         READ_FAULT => notes.say(READ_NOTE),
         WRITE_FAULT => say_write_fault(notes, ending),
-        NO_MEMORY => notes.say(MEMORY_NOTE),
+        NO_MEMORY => notes.say(memory_note(ending.command)),
         RACK_FAULT => notes.say(RACK_NOTE),
         DOOR_FAULT => notes.say(DOOR_NOTE),
         _ => {}
     }
 }
 
-/// Says what a policy denied, where a transcript does not fit, and what was not read or written of a configuration.
+/// Says which rules of a policy match nothing, what the scripts of a document that was checked ask of its boards, and
+/// what was read of a configuration.
+fn say_what_is_done(notes: &mut Notes, ending: Ending<'_>) {
+    say_rules(notes, ending);
+    say_plans(notes, ending);
+    say_configuration(notes, ending);
+}
+
+/// Says what a policy denied, what the scripts of a document that was checked ask of its boards, where a transcript does
+/// not fit, and what was not read or written of a configuration.
 fn say_what_is_missing(notes: &mut Notes, ending: Ending<'_>) {
     say_policy(notes, ending);
-    if let (Some(Command::Audit), Some(bytes)) = (ending.command, ending.given) {
-        say_verdict(notes, bytes);
+    say_plans(notes, ending);
+    if let (Some(Command::Audit), Some(bytes), Some(answer)) = (
+        ending.command,
+        ending.given,
+        ending.written,
+    ) {
+        say_verdict(notes, bytes, answer);
     }
     say_configuration(notes, ending);
 }
@@ -82,6 +108,29 @@ fn say_what_is_missing(notes: &mut Notes, ending: Ending<'_>) {
 fn say_policy(notes: &mut Notes, ending: Ending<'_>) {
     if let (Some(command), Some(bytes)) = (ending.command, ending.given) {
         say_denials(notes, command, bytes);
+    }
+    say_rules(notes, ending);
+}
+
+/// Says which rules of the policy of a document that is run or checked match no register.
+fn say_rules(notes: &mut Notes, ending: Ending<'_>) {
+    if let Some(
+        Command::Run
+        | Command::Record
+        | Command::Save
+        | Command::Apply
+        | Command::Check { table: _ },
+    ) = ending.command
+        && let Some(bytes) = ending.given
+    {
+        say_unmatched(notes, bytes);
+    }
+}
+
+/// Says what the scripts of a document that was checked ask of its boards.
+fn say_plans(notes: &mut Notes, ending: Ending<'_>) {
+    if let (Some(Command::Check { table: _ }), Some(bytes)) = (ending.command, ending.given) {
+        say_asked(notes, bytes);
     }
 }
 

@@ -2,18 +2,30 @@
 
 use crate::notes::Notes;
 use crate::refusals::say_refusal;
+use crate::seams::say_seam;
 use crate::sentences::of_state;
+use crate::state_faults::say_given;
+use crate::state_overlaps::say_overlapped;
 use crate::unread::Refused;
 use config_input::{ConfigRefusal, ConfigUnread};
+use config_store::StoreWhy;
 
 impl Refused for ConfigUnread {
     fn say(&self, notes: &mut Notes, input: &[u8]) {
         match self {
             ConfigUnread::Refused(ConfigRefusal::OfSession(refusal)) => {
-                say_refusal(notes, refusal, input)
+                say_refusal(notes, refusal, input);
+                say_seam(notes, input);
             }
             ConfigUnread::Refused(ConfigRefusal::OfState { board, name, why }) => {
-                say_of_state(notes, board.as_str(), name.as_str(), of_state(*why))
+                say_of_state(notes, board.as_str(), name.as_str(), of_state(*why));
+                let (board, name) = (board.as_str(), name.as_str());
+                if *why == StoreWhy::Overlap {
+                    say_overlapped(notes, board, name, input);
+                } else {
+                    say_given(notes, board, name, *why, input);
+                }
+                say_seam(notes, input);
             }
             ConfigUnread::NoMemory => notes.lack_memory(),
         }

@@ -8,7 +8,7 @@ use command_words::Command;
 use config_input::{read_for_apply, read_for_save};
 use ipb_base::NoMemory;
 use script_steps::{Step, Steps};
-use session_input::{Runnable, read_for_run};
+use session_input::{Runnable, read_for_record, read_for_run};
 use std::{fmt, str};
 use toml::Value;
 
@@ -16,17 +16,17 @@ use toml::Value;
 /// its number, how many it denied, and its text; and behind these how many operations no rule allowed. Nothing where the
 /// document has no policy, or the command refuses it or runs nothing of it.
 pub(crate) fn say_denials(notes: &mut Notes, command: &Command, bytes: &[u8]) {
-    if may_have_policy(bytes)
+    if may_have(bytes, "policy")
         && let Some(value) = value_of(notes, bytes, "policy")
     {
         say_denied(notes, &value, command, bytes);
     }
 }
 
-/// Whether the text may have the key, which can be written by escapes too: a document without it is not read again.
-fn may_have_policy(bytes: &[u8]) -> bool {
+/// Whether the text may have a key, which can be written by escapes too: a document without it is not read again.
+pub(crate) fn may_have(bytes: &[u8], key: &str) -> bool {
     match str::from_utf8(bytes) {
-        Ok(text) => text.contains("policy") || text.contains('\\'),
+        Ok(text) => text.contains(key) || text.contains('\\'),
         Err(_) => false,
     }
 }
@@ -46,6 +46,7 @@ fn read_again(notes: &mut Notes, command: &Command, bytes: &[u8]) -> Option<Runn
         Command::Run => notes.made(read_for_run(notes.alloc, bytes)),
         Command::Save => notes.made(read_for_save(notes.alloc, bytes)),
         Command::Apply => notes.made(read_for_apply(notes.alloc, bytes)),
+        Command::Record => notes.made(read_for_record(notes.alloc, bytes)),
         _ => None,
     }
 }
@@ -107,7 +108,7 @@ fn say_rule(notes: &mut Notes, number: usize, rule: &Rule, count: u64) {
     }
 }
 
-/// So many operations.
+/// A number of operations, as a sentence says it.
 #[derive(Clone, Copy)]
 struct Operations(u64);
 

@@ -3,7 +3,7 @@
 use std::fmt;
 
 /// So many characters of a text are shown, and two dots for those behind them.
-const MOST_SHOWN: usize = 200;
+pub(crate) const MOST_SHOWN: usize = 200;
 
 /// A text that is written as it is shown in a line: each control character as its code, and no more than `MOST_SHOWN`
 /// characters.

@@ -1,5 +1,6 @@
 //! Which registers do not show the values that `apply` was to write into them.
 
+use crate::config_text::{BoardText, board_named};
 use crate::escaping::OneLine;
 use crate::keys::value_of;
 use crate::notes::Notes;
@@ -18,21 +19,28 @@ pub(crate) struct Applied<'a> {
 const NO_REGISTER: &str =
     "not done: one write or more, of registers that show the values given all the same";
 
-/// Says the registers to which a document gives a value that the text of its configuration does not show, how many they
-/// are and the first ones by name, in the order in which they were written. Such a write was not done, or its register
-/// was not read, or the board has changed the value since. A write that was not done is not named where the register had
-/// the value before, or has it by a write that was executed late: the board is as it was wanted then. Where none is
-/// named, all registers were read and not all was done, that is said.
-pub(crate) fn say_given(notes: &mut Notes, applied: Applied<'_>, text: &[u8], is_all_read: bool) {
+/// Says of each board how many of its registers were given no value, and the registers to which a document gives a value
+/// that the text of its configuration does not show: how many they are and the first ones by name, in the order in which
+/// they were written. Such a write was not done, or its register was not read, or the board has changed the value since. A
+/// write that was not done is not named where the register had the value before, or has it by a write that was executed
+/// late: the board is as it was wanted then. Where none is counted, all registers were read and not all was done, that is
+/// said.
+pub(crate) fn say_given(
+    notes: &mut Notes,
+    applied: Applied<'_>,
+    text: &[u8],
+    boards: &[BoardText<'_>],
+    is_all_read: bool,
+) {
     let is_missed = is_all_read && !applied.is_all_done;
-    if let Some(given) = state_in(notes, applied.document) {
-        say_given_values(notes, given.as_slice(), text, is_missed);
-    }
-}
-
-fn say_given_values(notes: &mut Notes, given: &[StateEntry], text: &[u8], is_missed: bool) {
-    if let Some(read) = state_in(notes, text) {
-        say_beside(notes, given, read.as_slice(), is_missed);
+    if let Some(given) = state_in(notes, applied.document)
+        && let Some(read) = state_in(notes, text)
+    {
+        say_counts_given(notes, boards, given.as_slice());
+        let count = say_others(notes, boards, given.as_slice(), read.as_slice());
+        if count == 0 && is_missed {
+            notes.say(NO_REGISTER);
+        }
     }
 }
 
@@ -42,33 +50,64 @@ fn state_in(notes: &mut Notes, bytes: &[u8]) -> Option<State> {
     notes.made(read_state(notes.alloc, &value))
 }
 
-/// Says the registers of which another value was read than was given, or none. Where there is none, a write that was
-/// missed is of another one. Both lists are in byte order of the names.
-fn say_beside(notes: &mut Notes, given: &[StateEntry], read: &[StateEntry], is_missed: bool) {
-    let place = notes.count();
-    let count = name_others(notes, given, read);
-    if count > 0 {
-        notes.say_others(count);
-        notes.say(format_args!("not as given: {count}"));
-        notes.put_behind(place);
-    } else if is_missed {
-        notes.say(NO_REGISTER);
+/// Says of each board some of whose registers were given no value how many were given one.
+fn say_counts_given(notes: &mut Notes, boards: &[BoardText<'_>], given: &[StateEntry]) {
+    for board in boards {
+        let count = count_on(given, board.name);
+        let registers = board.registers;
+        if count < registers {
+            let name = OneLine(board.name);
+            notes.say(format_args!("board {name}: {count} of {registers} given"));
+        }
     }
 }
 
-/// Names the first registers of which another value was read than was given, or none. It says how many there are.
-fn name_others(notes: &mut Notes, given: &[StateEntry], read: &[StateEntry]) -> u32 {
+/// How many values are for a board.
+fn count_on(given: &[StateEntry], board: &str) -> u32 {
     let mut count = 0u32;
-    let mut place = 0;
     for entry in given {
-        place = first_from(read, place, entry);
-        let value = value_at(read, place, entry);
-        if value != Some(entry.value) {
-            count = count.saturating_add(1);
-            name_other(notes, count, entry, value);
-        }
+        count = count.saturating_add(u32::from(entry.board.as_str() == board));
     }
     count
+}
+
+/// Says how many registers show another value than was given, or none, and names the first ones, but for those of boards
+/// of which none was read. It says how many there are. Both lists are in byte order of the names.
+fn say_others(
+    notes: &mut Notes,
+    boards: &[BoardText<'_>],
+    given: &[StateEntry],
+    read: &[StateEntry],
+) -> u32 {
+    let place = notes.count();
+    let mut count = 0u32;
+    let mut named = 0u32;
+    let mut at = 0;
+    for entry in given {
+        at = first_from(read, at, entry);
+        let value = value_at(read, at, entry);
+        if value != Some(entry.value) {
+            count = count.saturating_add(1);
+            if !is_of_unread(boards, entry) {
+                named = named.saturating_add(1);
+                name_other(notes, named, entry, value);
+            }
+        }
+    }
+    notes.say_others(named);
+    if count > 0 {
+        notes.say(format_args!("not as given: {count}"));
+        notes.put_behind(place);
+    }
+    count
+}
+
+/// Whether a value is for a board of which no register was read.
+fn is_of_unread(boards: &[BoardText<'_>], entry: &StateEntry) -> bool {
+    match board_named(boards, entry.board.as_str()) {
+        Some(board) => board.is_unread(),
+        None => false,
+    }
 }
 
 /// The first place, from this one on, of a register that is not before another.

@@ -8,7 +8,7 @@ pub(crate) const VERSION: &str =
 pub(crate) const HELP: [&str; 21] = [
     "ipbus run                runs the scripts of the session document on standard input on its boards",
     "                           bin/ipbus run < examples/start/first.toml",
-    "ipbus check TABLE        lists the registers of a table of the document, and which of them overlap",
+    "ipbus check TABLE        lists the registers of a table, and which overlap; says how many packets scripts ask of boards",
     "                           bin/ipbus check channel < examples/start/front_ends.toml",
     "ipbus serve PORT COUNT   serves COUNT connections, 1 to 64, on a TCP port at the boards of the document",
     "                           bin/ipbus serve 5000 2 < examples/net/over_udp.toml",

@@ -21,7 +21,7 @@ pub(crate) struct Notes {
 }
 
 impl Notes {
-    /// None so far.
+    /// A list of notes in which nothing stands yet.
     pub(crate) fn new(alloc: Global) -> Notes {
         Notes {
             alloc,
@@ -63,7 +63,7 @@ impl Notes {
         self.lines.len()
     }
 
-    /// Says a line.
+    /// Adds a line to what is said.
     pub(crate) fn say<D: Display + Drop>(&mut self, line: D) {
         if self.push(line).is_err() {
             self.lacks_memory = true;
@@ -75,7 +75,7 @@ impl Notes {
         Ok(self.lines.push(line)?)
     }
 
-    /// Says these lines.
+    /// Adds some lines to what is said.
     pub(crate) fn say_each(&mut self, lines: &[&str]) {
         for line in lines {
             self.say(*line);

@@ -1,6 +1,7 @@
 //! What to look for in an input that is refused.
 
 use crate::escaping::OneLine;
+use crate::node_faults::say_node;
 use crate::notes::Notes;
 use crate::parsing::say_no_toml;
 use crate::script_lines::quote_line;
@@ -8,15 +9,18 @@ use crate::sentences::{
     NOT_ONE_BOARD, NOT_SERVED, NOT_SIMULATED, POLICY, TOO_LONG, of_board, of_compiling,
     of_document, of_script, of_table,
 };
+use crate::shape_faults::say_shape;
 use crate::unread::{Refused, say_refused};
 use audit_command::read_for_audit;
 use capture_commands::{read_for_describe, read_for_undescribe};
 use command_words::Command;
 use config_input::{read_for_apply, read_for_save};
+use ipb_base::NoMemory;
 use script_lang::{DocWhy, ScriptWhy};
 use session_input::{
     Refusal, Unread, read_for_check, read_for_record, read_for_run, read_for_serve,
 };
+use std::alloc::Global;
 use std::fmt;
 
 /// Says what to look for in an input that a command refuses: its place and the rule in words; of a document that is no
@@ -59,11 +63,17 @@ pub(crate) fn say_refusal(notes: &mut Notes, refusal: &Refusal, bytes: &[u8]) {
             path: _,
             why: DocWhy::NotToml,
         } => say_no_toml(notes, bytes),
-        Refusal::Document { path, why } => say_at(notes, path.as_str(), of_document(*why)),
-        Refusal::Table { table, path, why } => {
-            say_of_node(notes, table.as_str(), path.as_slice(), of_table(*why))
+        Refusal::Document { path, why } => {
+            say_at(notes, path.as_str(), of_document(*why));
+            if *why == DocWhy::Shape {
+                say_shape(notes, path.as_str(), bytes);
+            }
         }
-        Refusal::Policy { path } => say_of_policy(notes, path.as_str()),
+        Refusal::Table { table, path, why } => {
+            say_of_node(notes, table.as_str(), path.as_slice(), of_table(*why));
+            say_node(notes, table.as_str(), path.as_slice(), *why, bytes);
+        }
+        Refusal::Policy { path } => say_of_policy(notes, path.as_str(), bytes),
         Refusal::NoServe => notes.say(NOT_SERVED),
         Refusal::OneBoard => notes.say(NOT_ONE_BOARD),
         Refusal::NotSim { name } => notes.say_of("board", name.as_str(), NOT_SIMULATED),
@@ -85,13 +95,19 @@ fn say_at(notes: &mut Notes, path: &str, rule: &str) {
 }
 
 /// The path begins at the array.
-fn say_of_policy(notes: &mut Notes, path: &str) {
+fn say_of_policy(notes: &mut Notes, path: &str, bytes: &[u8]) {
     if path.is_empty() {
-        notes.say_of("at", "policy", POLICY);
-    } else {
-        let path = OneLine(path);
-        notes.say(format_args!("at policy.{path}: {POLICY}"));
+        return notes.say_of("at", "policy", POLICY);
     }
+    if let Some(path) = notes.made(path_of_policy(notes.alloc, path)) {
+        notes.say_of("at", path.as_str(), POLICY);
+        say_shape(notes, path.as_str(), bytes);
+    }
+}
+
+/// A path that begins at the document, of one that begins at the policy.
+fn path_of_policy(alloc: Global, path: &str) -> Result<String, NoMemory> {
+    Ok(format!(in alloc; "policy.{path}")?)
 }
 
 /// The node is told by its positions from 0, from the top of the table down.

@@ -5,9 +5,22 @@ use command_words::Command;
 /// The input could not be read.
 pub(crate) const READ_NOTE: &str = "the input could not be read; nothing was executed or written";
 
-/// Memory ran out.
+/// What is said where memory ran out.
 pub const MEMORY_NOTE: &str =
     "memory ran out; nothing was written, and what boards were asked before may have been executed";
+
+/// What is said where memory ran out in a command that asks no board.
+const NO_BOARD_NOTE: &str = "memory ran out; nothing was written";
+
+/// What is said where memory ran out, by what the words asked for.
+pub(crate) fn memory_note(command: Option<&Command>) -> &'static str {
+    match command {
+        Some(
+            Command::Describe | Command::Undescribe | Command::Audit | Command::Check { table: _ },
+        ) => NO_BOARD_NOTE,
+        _ => MEMORY_NOTE,
+    }
+}
 
 /// A link could not be made.
 pub(crate) const RACK_NOTE: &str =

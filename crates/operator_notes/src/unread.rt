@@ -6,6 +6,7 @@ use audit_command::AuditUnread;
 use config_input::ConfigUnread;
 use config_store::StoreRefusal;
 use ipb_base::NoMemory;
+use node_tree::CompileRefusal;
 use script_lang::SessionRefusal;
 use session_input::Unread as SessionUnread;
 
@@ -24,6 +25,12 @@ impl Unread for NoMemory {
 impl Unread for SessionRefusal {
     fn lacks_memory(&self) -> bool {
         matches!(self, SessionRefusal::NoMemory)
+    }
+}
+
+impl Unread for CompileRefusal {
+    fn lacks_memory(&self) -> bool {
+        matches!(self, CompileRefusal::NoMemory)
     }
 }
 

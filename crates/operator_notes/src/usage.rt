@@ -46,14 +46,23 @@ const OPERATIONS: Needed = Needed {
 /// Says of words that are no command the page of help or the version where a word asks for it, and else which word is
 /// wrong, and how to go on.
 pub(crate) fn say_usage(notes: &mut Notes, words: &[String]) {
-    if has_word(words, "--help") || has_word(words, "-h") {
+    if asks_help(words) {
         notes.say_each(&HELP);
-    } else if has_word(words, "--version") {
+    } else if ask_version(words) {
         notes.say(VERSION);
     } else {
         say_wrong_word(notes, words);
         notes.say(TRY);
     }
+}
+
+fn asks_help(words: &[String]) -> bool {
+    has_word(words, "--help") || has_word(words, "-h")
+}
+
+/// Whether words that are no command ask for the version.
+pub(crate) fn ask_version(words: &[String]) -> bool {
+    has_word(words, "--version") && !asks_help(words)
 }
 
 fn has_word(words: &[String], wanted: &str) -> bool {

@@ -1,40 +1,35 @@
 //! What a line of a transcript shows that does not fit its session, and what its rule wants there.
 
-ghost use Rattle.run_audit.specs.Verdicts.{CanBeAudited};
-
+use crate::audits::parts_in;
 use crate::belonging::{Belongs, board_name, what_belongs};
 use crate::escaping::OneLine;
+use crate::line_forms::say_operation;
 use crate::notes::Notes;
-use audit_command::{AuditWhy, Audited, Verdict, read_for_audit};
-use ipb_base::NoMemory;
-use run_audit::{audit, result_in_time};
-use script_steps::RegOp;
-use std::alloc::Global;
-use std::str;
-use transcript::{OpResult, push_result};
+use crate::replayed_line::say_result;
+use crate::shown_lines::{line_at, say_line};
+use crate::told_verdicts::{Broken, broken_in};
+use audit_command::{AuditWhy, read_for_audit};
 
-/// Says of a transcript that does not fit its session what the first line at fault shows, and what the rule wants there.
-/// Nothing where it fits, or the input is refused.
-pub(crate) fn say_verdict(notes: &mut Notes, bytes: &[u8]) {
-    if let Some(read) = notes.made(read_for_audit(notes.alloc, bytes)) {
-        say_fault(notes, &read);
+/// Says of a transcript that does not fit its session what the first line at fault shows, and what the rule wants there,
+/// by the answer that was written. Nothing where that says that it fits, or that the input is refused. The transcript is
+/// not judged again.
+pub(crate) fn say_verdict(notes: &mut Notes, bytes: &[u8], answer: &[u8]) {
+    if let Some(broken) = broken_in(answer) {
+        let (_document, transcript) = parts_in(bytes);
+        let line = line_at(transcript, broken.line);
+        say_line(notes, broken.line, line);
+        say_rule(notes, bytes, broken, line);
     }
 }
 
-fn say_fault(notes: &mut Notes, read: &Audited<'_>)
-    requires { CanBeAudited read.now.session read.now.steps.items }
-{
-    let steps = read.steps.as_slice();
-    let verdict = audit(notes.alloc, &read.session, steps, read.transcript);
-    if let Some(Verdict::No { line, why }) = notes.made(verdict) {
-        say_line(notes, read.transcript, line);
-        match why {
-            AuditWhy::Form => say_form(notes, read, line),
-            AuditWhy::Partial => notes.say(PARTIAL),
-            AuditWhy::Place => notes.say(PLACE),
-            AuditWhy::Result => say_result(notes, read, line),
-            AuditWhy::Count => notes.say(COUNT),
-        }
+/// Says what the rule wants in a line.
+fn say_rule(notes: &mut Notes, bytes: &[u8], broken: Broken, line: Option<&[u8]>) {
+    match broken.why {
+        AuditWhy::Form => say_form(notes, bytes, broken.line, line),
+        AuditWhy::Partial => notes.say(PARTIAL),
+        AuditWhy::Place => notes.say(PLACE),
+        AuditWhy::Result => say_result(notes, bytes, broken.line, line.unwrap_or(&[])),
+        AuditWhy::Count => notes.say(COUNT),
     }
 }
 
@@ -47,67 +42,38 @@ const PLACE: &str =
 const COUNT: &str =
     "a board's line counts the places that the lines above show, and these are replied, timeout and lost together";
 
-/// Says the line as it stands in the text.
-fn say_line(notes: &mut Notes, text: &[u8], line: u32) {
-    let before = line.saturating_sub(1) as usize;
-    match text.split_inclusive(|byte| *byte == b'\n').nth(before) {
-        Some(bytes) => say_shown(notes, line, bytes),
-        None => notes.say_line(u64::from(line), "the transcript ends before it"),
-    }
-}
-
-fn say_shown(notes: &mut Notes, line: u32, bytes: &[u8]) {
-    let bytes = bytes.strip_suffix(b"\n".as_slice()).unwrap_or(bytes);
-    let shown = OneLine(str::from_utf8(bytes).unwrap_or("bytes that are no text"));
-    notes.say(format_args!("line {line}: {shown}"))
-}
-
-/// Says which line of a transcript belongs there.
-fn say_form(notes: &mut Notes, read: &Audited<'_>, line: u32) {
-    match what_belongs(read, u64::from(line)) {
+/// Says which line of a transcript belongs there, and what of the line that is there cannot be.
+fn say_form(notes: &mut Notes, bytes: &[u8], line: u32, shown: Option<&[u8]>) {
+    let Some(read) = notes.made(read_for_audit(notes.alloc, bytes)) else {
+        return;
+    };
+    match what_belongs(&read, u64::from(line)) {
         Belongs::Heading(client) => notes.say(format_args!("here belongs: client {client}")),
-        Belongs::Operation(client, number, op) => say_operation(notes, read, client, number, op),
+        Belongs::Operation(asked) => say_operation(notes, &read, asked, shown),
         Belongs::Board(position) => {
-            let name = OneLine(board_name(read, position));
+            let name = OneLine(board_name(&read, position));
             notes.say(format_args!("here belongs the line of board {name}"))
         }
         Belongs::Nothing => notes.say("no line belongs here"),
     }
-}
-
-fn say_operation(notes: &mut Notes, read: &Audited<'_>, client: usize, number: u64, op: &RegOp) {
-    let board = OneLine(board_name(read, op.board as usize));
-    let name = OneLine(op.name.as_str());
-    notes.say(format_args!(
-        "here belongs operation {number} of client {client}, on {board}:{name}, with a result and places that it can have beside the line of its board"
-    ))
-}
-
-/// Says what the board gives at the places of a line.
-fn say_result(notes: &mut Notes, read: &Audited<'_>, line: u32)
-    requires { CanBeAudited read.now.session read.now.steps.items }
-{
-    let steps = read.steps.as_slice();
-    let given = result_in_time(notes.alloc, &read.session, steps, read.transcript, line);
-    if let Some(given) = notes.made(given)
-        && let Some(text) = notes.made(given_text(notes.alloc, given))
-    {
-        say_given(notes, text.as_str(), read.session.settings.rounds());
+    if let Some(bytes) = shown {
+        say_end(notes, bytes);
     }
 }
 
-fn given_text(alloc: Global, given: Option<OpResult>) -> Result<String, NoMemory> {
-    let mut text = String::new(alloc);
-    match given {
-        Some(given) => push_result(&mut text, &given)?,
-        None => text.push_str("nothing")?,
+/// Says what is wrong at the end of a line.
+fn say_end(notes: &mut Notes, bytes: &[u8]) {
+    let Some(line) = bytes.strip_suffix(b"\n".as_slice()) else {
+        return notes.say(
+            "this line has no line feed at its end: the text is cut, or its last line feed was lost",
+        );
+    };
+    match line.last() {
+        Some(b' ') => notes.say("a space stands at the end of this line"),
+        Some(b'\t') => notes.say("a tab stands at the end of this line"),
+        Some(b'\r') => notes.say(
+            "this line ends as on Windows: take out the carriage returns, as tr -d '\\r' does",
+        ),
+        _ => {}
     }
-    Ok(text)
-}
-
-fn say_given(notes: &mut Notes, given: &str, rounds: u8) {
-    let given = OneLine(given);
-    notes.say(format_args!(
-        "the registers of its board give at these places: {given}; a timeout tells {rounds} rounds, and operations of one packet are answered, timed out or lost together"
-    ));
 }

@@ -2,8 +2,8 @@
 
 use crate::bytes::is_rest;
 use ipb_outside::MemSource;
-use net_edges::KeptSource;
 use std::alloc::Global;
+use std_edges::KeptSource;
 
 /// A source of three bytes, of which so many are kept.
 fn kept(alloc: Global, most: usize) -> Option<KeptSource<MemSource>> {

@@ -7,6 +7,10 @@ mod bytes;
 #[cfg(test)]
 mod kept_tests;
 #[cfg(test)]
+mod notes_tests;
+#[cfg(test)]
+mod progress_tests;
+#[cfg(test)]
 mod rack_tests;
 #[cfg(test)]
 mod std_stream_tests;
@@ -14,6 +18,8 @@ mod std_stream_tests;
 mod tcp_tests;
 #[cfg(test)]
 mod udp_tests;
+#[cfg(test)]
+mod waiter_tests;
 
 /// There is nothing to run but the tests.
 fn main() {}

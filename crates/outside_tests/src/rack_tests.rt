@@ -1,11 +1,11 @@
 //! A rack that makes links over UDP. The program runs it with simulated boards too.
 
 ghost use Rattle.std.specs.Prelude.{◌≤◌, length, IfOk};
-ghost use Rattle.world_core.specs.declared.link.TheConstants.{MAX_DATAGRAM};
-ghost use Rattle.lossy_network.specs.Racks.{IsMakeable};
+ghost use Rattle.links.specs.declared.link.TheConstants.{MAX_DATAGRAM};
+ghost use Rattle.links.specs.Racks.{IsMakeable};
 
 use crate::udp_tests::{hears, port_of, socket};
-use board_node::{BoardSpec, LinkSpec};
+use board_specs::{BoardSpec, LinkSpec};
 use ipb_base::{NoMemory, Text};
 use net_edges::{Link, LinkFault, Rack, RackFault, RealRack, Received};
 use std::alloc::Global;
@@ -89,4 +89,27 @@ fn is_link_made(rt: &HostRuntime) -> bool {
 #[test]
 fn a_rack_makes_links_over_udp(rt: HostRuntime) {
     assert!(rt; is_link_made(&rt));
+}
+
+/// Whether a rack makes a link to a board, and counts a fault in place of a second one to its address.
+fn is_linked_once<N: Net + AllocGlobal + Drop>(
+    alloc: Global,
+    rack: &mut RealRack<N>,
+    port: u16,
+) -> bool {
+    match (on_network(alloc, port), on_network(alloc, port)) {
+        (Ok(one), Ok(other)) => {
+            rack.make(&one).is_ok() && matches!(rack.make(&other), Err(RackFault::Failed))
+        }
+        _ => false,
+    }
+}
+
+/// Boards have one address where both the IPv4 address and the port are one.
+#[test]
+fn a_rack_makes_one_link_to_an_address(rt: HostRuntime) {
+    let alloc: Global = rt.alloc();
+    let mut rack = RealRack::new(&rt);
+    assert!(rt; is_linked_once(alloc, &mut rack, 50_001));
+    assert!(rt; is_linked_once(alloc, &mut rack, 50_002));
 }

@@ -4,11 +4,11 @@ ghost use Rattle.std.specs.Prelude.{◌≤◌, length};
 
 use crate::bytes::{differing_bytes, is_rest};
 use ipb_outside::{Failed, Sink, Source, write_whole};
-use net_edges::{StdinSource, StdoutSink};
 use std::alloc::{Allocator, Global};
 use std::fmt::Display;
 use std::io::{self, BufRead, ErrorKind, Input, Lines, Print};
 use std::sync::atomic::{AtomicUsize, Ordering};
+use std_edges::{StdinSource, StdoutSink};
 
 /// A runtime whose standard input is these bytes.
 #[derive(Clone, Copy)]

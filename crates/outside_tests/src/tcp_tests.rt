@@ -2,11 +2,11 @@
 
 use crate::bytes::differing_bytes;
 use ipb_outside::{Door, Failed, Sink, Source, read_all, write_whole};
-use net_edges::TcpDoor;
 use std::alloc::Global;
 use std::io::{Read, Write};
 use std::net::{Ipv4Addr, Shutdown, TcpListener, TcpStream};
 use std::time::Duration;
+use std_edges::TcpDoor;
 
 /// How long a client of a test waits for the door, at most, in seconds.
 const PATIENCE: u64 = 10;

@@ -1,10 +1,10 @@
 //! A link over UDP: from whom it receives, what is quiet, too long or passes, and when a silence is told.
 
 use crate::bytes::differing_bytes;
-use net_edges::{Link, LinkFault, Received, SILENT_AFTER, Silence, UdpLink, is_passing};
 use std::alloc::Global;
 use std::net::{IpAddr, Ipv4Addr, SocketAddr, UdpSocket};
 use std::time::{Duration, Instant};
+use std_edges::{Link, LinkFault, Received, SILENT_AFTER, Silence, UdpLink, is_passing};
 
 /// How long a board of a test waits for the link, at most, in seconds.
 const PATIENCE: u64 = 10;
@@ -39,17 +39,17 @@ pub(crate) fn hears(socket: &UdpSocket, wanted: &[u8]) -> Option<SocketAddr> {
     }
 }
 
-fn sends(socket: &UdpSocket, bytes: &[u8], to: SocketAddr) -> bool {
+pub(crate) fn sends(socket: &UdpSocket, bytes: &[u8], to: SocketAddr) -> bool {
     socket.send_to(bytes, to).is_ok()
 }
 
 /// Both ends of a link: a board, the link, and its address; and somebody else, who may send to it too.
 #[derive(Drop)]
-struct Ends {
-    board: UdpSocket,
-    other: UdpSocket,
-    link: UdpLink,
-    hub: SocketAddr,
+pub(crate) struct Ends {
+    pub(crate) board: UdpSocket,
+    pub(crate) other: UdpSocket,
+    pub(crate) link: UdpLink,
+    pub(crate) hub: SocketAddr,
 }
 
 /// A link to a board at this address, which waits so long, in milliseconds.
@@ -76,19 +76,19 @@ fn linked(rt: &HostRuntime, address: Ipv4Addr, board: UdpSocket, other: UdpSocke
 }
 
 /// The same, the board and somebody else at 127.0.0.1.
-fn linked_here(rt: &HostRuntime) -> Option<Ends> {
+pub(crate) fn linked_here(rt: &HostRuntime) -> Option<Ends> {
     let board = socket(rt)?;
     linked(rt, Ipv4Addr::LOCALHOST, board, socket(rt)?)
 }
 
 /// Whether a link receives this next.
-fn gets(alloc: Global, link: &mut UdpLink, wanted: &[u8]) -> bool {
+pub(crate) fn gets(alloc: Global, link: &mut UdpLink, wanted: &[u8]) -> bool {
     let mut into = Vec::new(alloc);
     link.receive(&mut into) == Ok(Received::Got) && into.as_slice() == wanted
 }
 
 /// Whether a link receives nothing next.
-fn is_quiet(alloc: Global, link: &mut UdpLink) -> bool {
+pub(crate) fn is_quiet(alloc: Global, link: &mut UdpLink) -> bool {
     let mut into = Vec::new(alloc);
     link.receive(&mut into) == Ok(Received::Quiet) && into.is_empty()
 }

@@ -4,7 +4,7 @@ use crate::fixtures::{calm, shut_door, wide_sink, words_of};
 use crossbeam_queue::ArrayQueue;
 use ipb_base::NoMemory;
 use ipb_outside::MemSink;
-use ipbus_program::{DONE, Gate, control};
+use ipbus_program::{DONE, Gate, Outcome, control};
 use lossy_network::SimRack;
 use std::alloc::Global;
 use std::marker::Sync;
@@ -58,6 +58,8 @@ struct MakesThemMeet<R: Wait + Sync + Drop> {
     first_asked: AtomicU64,
     second_answered: AtomicU64,
     waits_in_vain: AtomicU64,
+    planned: AtomicU64,
+    replied: AtomicU64,
 }
 
 /// Waits until a count has come so far, for so many turns at most, and answers whether it has.
@@ -93,7 +95,15 @@ fn is_text_of_both(text: &[u8]) -> bool {
     text == FIRST_BEFORE_SECOND.as_bytes() || text == SECOND_BEFORE_FIRST.as_bytes()
 }
 
+/// What `planned` counts for each dispatch of a client.
+const A_DISPATCH: u64 = 100;
+
 impl<R: Wait + Sync + Drop> Gate for MakesThemMeet<R> {
+    fn planned(&self, _client: u32, dispatches: u64, bodies: u64) {
+        let planned = dispatches.wrapping_mul(A_DISPATCH).wrapping_add(bodies);
+        self.planned.fetch_add(planned, Ordering::SeqCst);
+    }
+
     fn between(&self, client: u32) {
         let _ = self.calls.push(&self.rt, client);
         let is_met = if client == 1 {
@@ -104,6 +114,12 @@ impl<R: Wait + Sync + Drop> Gate for MakesThemMeet<R> {
         };
         if !is_met {
             self.waits_in_vain.fetch_add(1, Ordering::SeqCst);
+        }
+    }
+
+    fn took(&self, _client: u32, lane: usize, outcome: &Outcome) {
+        if lane == 0 && matches!(outcome, Outcome::Replied { .. }) {
+            self.replied.fetch_add(1, Ordering::SeqCst);
         }
     }
 
@@ -143,10 +159,15 @@ fn clients_run_at_once(rt: HostRuntime) -> Result<(), Fail> {
         first_asked: AtomicU64::new(0),
         second_answered: AtomicU64::new(0),
         waits_in_vain: AtomicU64::new(0),
+        planned: AtomicU64::new(0),
+        replied: AtomicU64::new(0),
     };
     let (status, out) = gated(&rt, rt.alloc(), &gate)?;
     assert!(rt; status == DONE && gate.waits_in_vain.load(Ordering::SeqCst) == 0);
     assert!(rt; is_text_of_both(out.bytes()));
     assert!(rt; gate.saw_each_call());
+    // two clients with two dispatches of one packet each
+    assert!(rt; gate.planned.load(Ordering::SeqCst) == 4 * A_DISPATCH + 4);
+    assert!(rt; gate.replied.load(Ordering::SeqCst) == 4);
     Ok(())
 }

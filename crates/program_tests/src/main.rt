@@ -13,9 +13,9 @@ mod at_once;
 #[cfg(test)]
 mod clients;
 #[cfg(test)]
-mod fixtures;
+mod failing_links;
 #[cfg(test)]
-mod links;
+mod fixtures;
 #[cfg(test)]
 mod notes_tests;
 #[cfg(test)]

@@ -6,22 +6,22 @@ use Rattle.std.proofs.lemmas.List.{length-map}
 use Rattle.std.specs.Global.{Vec}
 use Rattle.ipb_base.specs.Lists.{IsPrefix}
 use Rattle.std.specs.List.{AllByRecursion}
-use Rattle.world_core.specs.Telling.{Telling}
+use Rattle.links.specs.Telling.{Telling}
 use Rattle.world_model.specs.Board.{bodies_executed}
 use Rattle.world_model.specs.Facts.{bodies_of}
 use Rattle.world_model.specs.Hub.{Hub}
 use Rattle.world_model.specs.Settings.{Limits}
-use Rattle.board_node.specs.declared.spec.BoardSpec.{BoardSpec}
-use Rattle.board_node.specs.declared.spec.LinkSpec.{LinkSpec}
-use Rattle.board_node.specs.declared.spec.LinkSpec.TheVariants.{Sim, Udp}
-use Rattle.lossy_network.specs.Racks.{telling_for}
+use Rattle.board_specs.specs.declared.spec.BoardSpec.{BoardSpec}
+use Rattle.board_specs.specs.declared.spec.LinkSpec.{LinkSpec}
+use Rattle.board_specs.specs.declared.spec.LinkSpec.TheVariants.{Sim, Udp}
+use Rattle.links.specs.Racks.{telling_for}
 use Rattle.hub_lane.specs.declared.greeting.Greeted.{Greeted}
 use Rattle.hub_lane.specs.Greeting.{link_of}
 use Rattle.hub_lane.specs.Standing.{IsStanding}
 use Rattle.lane_record.specs.declared.outcome.Outcome.{Outcome}
-use Rattle.lane_history.specs.Links.{IsBoardOf, LinkReport, board_there}
-use Rattle.lane_history.specs.Runs.{AreRunsOver, IsMergeOfAsked}
-use Rattle.lane_history.proofs.Shown.{at_some}
+use Rattle.board_history.specs.Links.{IsBoardOf, LinkReport, board_there}
+use Rattle.board_history.specs.LinkRuns.{AreRunsOver, IsMergeOfAsked}
+use Rattle.board_history.proofs.LaneShown.{at_some}
 use Rattle.board_greeting.specs.Boards.{AreReached, IsFreshLink, IsReached}
 use Rattle.script_steps.specs.declared.operation.Step.{Step}
 use Rattle.script_lang.specs.declared.session.Session.{Session}
@@ -36,8 +36,8 @@ use Rattle.capture_reader.specs.declared.capture.Capture.{Capture}
 use Rattle.capture_reader.specs.declared.capture.Caught.{Caught}
 use Rattle.capture_reader.specs.CaptureText.{AreItems}
 use Rattle.capture_reader.specs.Proved.{IsProved}
-use Rattle.link_tap.specs.Traffic.{HasCaught, IsTrafficOf, IsUnused}
-use Rattle.capture_laws.specs.Captures.{bodies_in}
+use Rattle.record_command.specs.Traffic.{HasCaught, IsTrafficOf, IsUnused}
+use Rattle.record_command.specs.Captures.{bodies_in}
 use Rattle.record_command.specs.Headline.{ShowsTraffic, first_of}
 use Rattle.record_command.specs.Steps.{Records, WritesOf}
 

@@ -6,18 +6,18 @@
 --   a run of it                  IsSessionRun                            run_laws/specs/Runs
 --   the text                     capture_text                            capture_reader/specs/CaptureText
 --   what the capture proves      IsProved                                capture_reader/specs/Proved
---   the datagrams of the link    IsTrafficOf                             link_tap/specs/Traffic
---   what the capture shows sent  bodies_in                               capture_laws/specs/Captures
---   what the scripts ask         IsMergeOfAsked                          lane_history/specs/Runs
+--   the datagrams of the link    IsTrafficOf                             record_command/specs/Traffic
+--   what the capture shows sent  bodies_in                               record_command/specs/Captures
+--   what the scripts ask         IsMergeOfAsked                          board_history/specs/LinkRuns
 use Rattle.std.specs.Prelude.{◌≡◌, ℕ, ◌≤◌, ◌==◌, ◌&&◌, List, [], ◌∷◌, length, sum_by, Option, Some, None}
 use Rattle.ipb_base.specs.Lists.{IsPrefix}
 use Rattle.world_model.specs.Board.{bodies_executed}
-use Rattle.board_node.specs.declared.spec.BoardSpec.{BoardSpec}
-use Rattle.board_node.specs.declared.spec.LinkSpec.{LinkSpec}
-use Rattle.board_node.specs.declared.spec.LinkSpec.TheVariants.{Sim, Udp}
-use Rattle.world_core.specs.Telling.{Telling}
-use Rattle.lane_history.specs.Links.{LinkReport}
-use Rattle.lane_history.specs.Runs.{IsMergeOfAsked}
+use Rattle.board_specs.specs.declared.spec.BoardSpec.{BoardSpec}
+use Rattle.board_specs.specs.declared.spec.LinkSpec.{LinkSpec}
+use Rattle.board_specs.specs.declared.spec.LinkSpec.TheVariants.{Sim, Udp}
+use Rattle.links.specs.Telling.{Telling}
+use Rattle.board_history.specs.Links.{LinkReport}
+use Rattle.board_history.specs.LinkRuns.{IsMergeOfAsked}
 use Rattle.script_steps.specs.declared.operation.Step.{Step}
 use Rattle.script_lang.specs.declared.session.Session.{Session}
 use Rattle.script_plans.specs.declared.board_run.BoardRun.{BoardRun}
@@ -30,8 +30,8 @@ use Rattle.command_terms.specs.Numbers.{told_status}
 use Rattle.capture_reader.specs.declared.capture.Capture.{Capture}
 use Rattle.capture_reader.specs.CaptureText.{IsCapture, capture_text}
 use Rattle.capture_reader.specs.Proved.{IsProved}
-use Rattle.link_tap.specs.Traffic.{IsTrafficOf}
-use Rattle.capture_laws.specs.Captures.{bodies_in}
+use Rattle.record_command.specs.Traffic.{IsTrafficOf}
+use Rattle.record_command.specs.Captures.{bodies_in}
 
 -- the identifier that the one board of a session expects first
 abbrev pub first_of : LinkSpec → Option ℕ

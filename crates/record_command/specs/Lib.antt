@@ -2,3 +2,5 @@ pub mod Headline
 pub mod Terms
 pub mod Steps
 pub mod Taps
+pub mod Captures
+pub mod Traffic

@@ -1,8 +1,8 @@
 -- A rack of taps, as contracts see it. What private functions promise one another; no public clause speaks of these.
 use Rattle.std.specs.Prelude.{ℕ, List}
-use Rattle.board_node.specs.declared.spec.LinkSpec.{LinkSpec}
-use Rattle.world_core.specs.declared.link.Link.{Ghosts}
-use Rattle.link_tap.specs.Traffic.{Tapped}
+use Rattle.board_specs.specs.declared.spec.LinkSpec.{LinkSpec}
+use Rattle.links.specs.declared.link.Link.{Ghosts}
+use Rattle.record_command.specs.Traffic.{Tapped}
 
 -- the taps that were given back, in order; the specs of the links that were made elsewhere; and how often one was asked
 -- for

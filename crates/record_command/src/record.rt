@@ -2,11 +2,11 @@
 
 ghost use Rattle.std.specs.Prelude.{◌≡◌, ◌≤◌, ◌∷◌, ◌==◌, [], length, Some, Err, IfErr, IfOk, IfSome, false};
 ghost use Rattle.std.specs.Vec.{vec_capacity};
-ghost use Rattle.lossy_network.specs.Racks.{made_after};
-ghost use Rattle.lane_history.specs.Runs.{AreRunsOver};
+ghost use Rattle.links.specs.Racks.{made_after};
+ghost use Rattle.board_history.specs.LinkRuns.{AreRunsOver};
 ghost use Rattle.hub_lane.specs.Greeting.{link_of};
 ghost use Rattle.session_input.specs.Recording.{IsOneSimulated, IsSimulated};
-ghost use Rattle.board_greeting.specs.Boards.{HasMemory, IsReached};
+ghost use Rattle.board_greeting.specs.Boards.{IsReached};
 ghost use Rattle.board_greeting.specs.Reports.{shown_by};
 ghost use Rattle.board_greeting.specs.Links.{CanBeReached, Keeps};
 ghost use Rattle.session_run.specs.Scripts.{CanBeRun};
@@ -24,19 +24,19 @@ ghost use Rattle.record_command.specs.Steps.{Records, WritesOf};
 ghost use Rattle.record_command.specs.Taps.{tap_ghosts};
 ghost use Rattle.record_command.specs.Terms.{record_terms};
 
+use crate::capture_laws::a_capture_of_a_lane_proves_what_was_executed;
+use crate::tap::TapLink;
 use crate::taps::Taps;
 use board_bus::laws::words_stay_words;
-use board_greeting::keep_all;
-use board_node::{BoardSpec, LinkSpec};
-use capture_laws::laws::a_capture_of_a_lane_proves_what_was_executed;
+use board_greeting::{is_out_of_memory, keep_all};
+use board_history::records::a_lane_sends_a_merge_at_any_moment;
+use board_specs::{BoardSpec, LinkSpec};
 use capture_reader::{Capture, Id, proved, write_capture};
 use client_threads::Gate;
 use command_terms::{Answer, done_status, refused};
 use hub_lane::{Greeted, Lane};
 use ipb_base::NoMemory;
-use lane_history::records::a_lane_sends_a_merge_at_any_moment;
-use link_tap::TapLink;
-use lossy_network::{Rack, RackFault};
+use links::{Link, Rack, RackFault};
 use reliable_engine::Settings;
 use run_laws::laws::{
     a_document_can_run_its_steps, a_document_has_few_clients,
@@ -53,7 +53,6 @@ use std::marker::{Send, Sync};
 use std::sync::Wait;
 use std::thread::Threads;
 use transcript::print_runs;
-use world_core::Link;
 
 /// Runs the scripts of a session document on its one simulated board (profile): makes a link for it by the rack, runs
 /// each client over a tap of that link in a thread of its own that calls the gate, gives the link back, and answers the
@@ -163,13 +162,6 @@ fn greet_tapped<R: Rack>(
     Ok(Lane::greet(alloc, TapLink::new(alloc, link), settings))
 }
 
-/// Whether memory ran out at the greeting.
-fn is_out_of_memory<L: Link>(board: &Greeted<L>) -> bool
-    ensures { result ≡ false → HasMemory board.now }
-{
-    matches!(board, Greeted::NoMemory { .. })
-}
-
 /// Runs the scripts on the one board, which was greeted over a tap, and gives the tap back. `room` is empty and has room
 /// for the board.
 fn run_tapped<L: Link + Send + Drop, T: Threads + Wait + Sync, G: Gate>(
@@ -244,7 +236,7 @@ fn bodies_of_run(run: &BoardRun) -> Option<u64>
     Some(count)
 }
 
-/// The same of all boards.
+/// How many bodies the runs of all boards have together.
 fn body_count(runs: &[BoardRun]) -> Option<u64>
     ensures { IfSome result (λ count. count ≡ spec.body_count runs.now) }
 {

@@ -2,13 +2,12 @@
 
 ghost use Rattle.std.specs.Prelude.{◌≡◌, ◌∷◌, [], length, IfOk};
 
-use board_node::{BoardSpec, LinkSpec};
+use crate::tap::TapLink;
+use board_specs::{BoardSpec, LinkSpec};
 use ipb_base::NoMemory;
-use link_tap::TapLink;
-use lossy_network::{Rack, RackFault, SpecLog};
+use links::{Link, Rack, RackFault, SpecLog};
 use std::alloc::Global;
 use std::marker::{Model, Send};
-use world_core::Link;
 
 /// A rack for one tap that was made elsewhere, which is given back to it. It makes none itself: each make fails, and is
 /// counted.

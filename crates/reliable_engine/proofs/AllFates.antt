@@ -34,7 +34,7 @@ pub stands_behind : {T : Type 0} (front xs ys : List T) → StandsIn xs ys → S
 stands_behind [] xs ys is = is
 stands_behind (x ∷ front) xs ys is = inl (refl, stands_behind front xs ys is)
 
-stands_before : {T : Type 0} (xs more : List T) → StandsIn xs (xs ++ more)
+pub stands_before : {T : Type 0} (xs more : List T) → StandsIn xs (xs ++ more)
 stands_before [] more = tt
 stands_before (x ∷ xs) more = inl (refl, stands_before xs more)
 
@@ -47,14 +47,14 @@ stands_among fate (x ∷ xs) (y ∷ ys) (inr is) among = inr (stands_among fate 
 
 -- ---- what an event tells
 
-insert_stands : (place : ℕ) (new : ℕ × Fate) (fates : List (ℕ × Fate)) → StandsIn fates (insert_fate place new fates)
+pub insert_stands : (place : ℕ) (new : ℕ × Fate) (fates : List (ℕ × Fate)) → StandsIn fates (insert_fate place new fates)
 insert_stands place new [] = tt
 insert_stands place new (f ∷ fs) =
     either (StandsIn (f ∷ fs)) (goes_before place f.1) (new ∷ f ∷ fs) (f ∷ insert_fate place new fs)
     (λ _. inr (stands_same (f ∷ fs)))
     (λ _. inl (refl, insert_stands place new fs))
 
-time_out_stands : (rounds : ℕ) (sent : List Offered) (os : List OpenPlace) (fates : List (ℕ × Fate))
+pub time_out_stands : (rounds : ℕ) (sent : List Offered) (os : List OpenPlace) (fates : List (ℕ × Fate))
     → StandsIn fates (time_out rounds sent os fates)
 time_out_stands rounds sent [] fates = stands_same fates
 time_out_stands rounds sent (o ∷ os) fates =
@@ -139,7 +139,7 @@ hands_nothing h Send events none = (refl, none)
 hands_nothing h HandOutLate events none = (refl, none)
 hands_nothing h HandOut events none = absurd (omega (arith, none))
 
-none_handed : (h : Hub) (events : List HubEvent) → handouts events ≡ 0 → handed_out h events ≡ []
+pub none_handed : (h : Hub) (events : List HubEvent) → handouts events ≡ 0 → handed_out h events ≡ []
 none_handed h [] none = refl
 none_handed h (event ∷ events) none =
     let parts = hands_nothing h event events none in

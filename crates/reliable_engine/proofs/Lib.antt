@@ -16,3 +16,8 @@ mod FateOrder
 mod SendOrder
 mod FateBodies
 mod Lates
+mod MachineRuns
+mod FirstSends
+mod RunFates
+mod RunLates
+mod HandingOut

@@ -1,7 +1,10 @@
 -- Examples that are computed: the bodies and what the hub makes of them.
-use Rattle.std.specs.Prelude.{ℕ, [], ◌∷◌}
+use Rattle.std.specs.Prelude.{ℕ, List, [], ◌∷◌}
+use Rattle.ipb_base.specs.Word.{big_endian}
 use Rattle.world_model.specs.declared.offered.Offered.{Offered}
 use Rattle.world_model.specs.Hub.{Hub, new_hub}
+use Rattle.reliable_engine.specs.MachineRuns as runs
+use Rattle.reliable_engine.specs.MachineRuns.{RunEvent}
 use Rattle.reliable_engine.specs.Events.{Offer, Status, Reply, Quiet, Send, after_events}
 
 -- a body of one word, under that word as its tag
@@ -28,3 +31,13 @@ given_up = after_events (new_hub 1 1 1) (Offer (one_word 7) ∷ Offer (one_word 
 abbrev pub settled_while_asked : Hub
 settled_while_asked =
     after_events (new_hub 1 1 8) (Offer (one_word 7) ∷ Send ∷ Quiet ∷ Reply 1 (0x77 ∷ []) ∷ [])
+
+-- over a link: two bodies are offered and sent, and their replies heard in the other order
+abbrev pub two_bodies_settled : List RunEvent
+two_bodies_settled = runs.Offer 7 (7 ∷ []) ∷ runs.Offer 8 (8 ∷ []) ∷ runs.Send ∷ runs.Send
+    ∷ runs.Heard (big_endian (0x200001f0 ∷ 0x88 ∷ [])) ∷ runs.Heard (big_endian (0x20fffff0 ∷ 0x77 ∷ [])) ∷ []
+
+-- a body is offered and sent, its status asked for once, and its reply heard after the give-up
+abbrev pub one_body_late : List RunEvent
+one_body_late = runs.Offer 7 (7 ∷ []) ∷ runs.Send ∷ runs.Quiet ∷ runs.Send ∷ runs.Quiet
+    ∷ runs.Heard (big_endian (0x200001f0 ∷ 0x77 ∷ [])) ∷ []

@@ -1,10 +1,12 @@
 pub mod Answers
 pub mod Events
 pub mod Examples
+pub mod MachineRuns
 pub mod OpenPlaces
 pub mod SendOrder
 pub mod Slots
 pub mod Steps
 pub mod ToldFates
 pub mod ToldLates
+pub mod Traffic
 pub mod View

@@ -242,7 +242,7 @@ impl Engine {
         }
     }
 
-    /// Gives up (profile).
+    /// Gives up on all open places: each of them is timed out (profile).
     fn give_up(&mut self)
         ensures hub { self.new ≡ give_up self.old }
         ensures counted { body_count self.new ≤ body_count self.old }

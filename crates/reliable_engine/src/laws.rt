@@ -28,6 +28,8 @@ ghost use Rattle.reliable_engine.specs.ToldLates.{AreLatesByPlace, all_lates, ha
 ghost use Rattle.reliable_engine.specs.Examples.{given_up, one_word, settled_while_asked, three_told, two_sent};
 ghost use Rattle.reliable_engine.specs.Examples.{two_settled};
 
+pub mod machine_runs;
+
 use world_model::laws::sends::sends_go_one_by_one;
 
 /// From the lowest open place to the last first send there are never more places than the window, and no two open

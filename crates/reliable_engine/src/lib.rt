@@ -5,6 +5,7 @@
 //! call's contract is that hub's event.
 #![tactic(auto)]
 
+mod below;
 mod engine;
 mod fates;
 pub mod laws;

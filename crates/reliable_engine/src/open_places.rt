@@ -43,7 +43,7 @@ impl Model for OpenPlaces {
 }
 
 impl OpenPlaces {
-    /// No open places.
+    /// A window in which no place is open.
     pub(crate) fn new() -> OpenPlaces
         ensures { result ≡ [] }
     {

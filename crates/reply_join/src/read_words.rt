@@ -48,7 +48,7 @@ impl ReadWords {
         Ok(ReadWords { items })
     }
 
-    /// The words.
+    /// The words that were read, in order.
     pub fn as_slice(&self) -> &[u32]
         ensures { result.now ≡ self.now }
     {

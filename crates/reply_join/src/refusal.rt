@@ -12,7 +12,7 @@ pub enum JoinRefusal {
     /// The words are no reply to this body (IPbus 2.0, transactions). `place`, in words from 0, is that of the first
     /// wrong word, and the number of words where one is missing.
     Garbled { place: u64 },
-    /// Memory ran out.
+    /// Memory ran out for the words that were read.
     NoMemory,
 }
 

@@ -12,7 +12,7 @@ use Rattle.std.proofs.lemmas.Option.{same_Some}
 use Rattle.board_bus.specs.Cells.{CellMap}
 use Rattle.board_history.specs.Order.{Placed}
 use Rattle.board_history.specs.Runs.{greeting_of, opens_with}
-use Rattle.board_node.specs.declared.spec.BoardSpec.{BoardSpec}
+use Rattle.board_specs.specs.declared.spec.BoardSpec.{BoardSpec}
 use Rattle.script_plans.specs.Plan.{ClientBodies, plans_on}
 use Rattle.script_plans.specs.declared.planned.PieceAt.{PieceAt}
 use Rattle.script_plans.specs.declared.board_run.BoardRun.{BoardRun}

@@ -6,7 +6,7 @@ use Rattle.std.specs.List.{AllByRecursion, Any, slice_get}
 use Rattle.std.specs.Option.{unwrap_or}
 use Rattle.std.proofs.lemmas.Option.{none-some, same_Some, slice_get_read}
 use Rattle.ipb_base.proofs.AllLemmas.{AllByRecursion-append}
-use Rattle.board_node.specs.declared.spec.BoardSpec.{BoardSpec}
+use Rattle.board_specs.specs.declared.spec.BoardSpec.{BoardSpec}
 use Rattle.script_plans.proofs.Lookups.{all_at}
 use Rattle.script_plans.specs.Claims.{Rises}
 use Rattle.script_plans.specs.declared.board_run.BoardRun.{BoardRun}

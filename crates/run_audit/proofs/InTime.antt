@@ -7,7 +7,7 @@ use Rattle.std.proofs.lemmas.Bool.{and_from, eq-eqb, eqb-true, lt-ltb}
 use Rattle.std.proofs.lemmas.List.Quantifiers.{position-Some}
 use Rattle.std.proofs.lemmas.Option.{none-some, same_Some, slice_get-get_or, slice_get-map, slice_get_within}
 use Rattle.std.proofs.lemmas.Slice.Zip.{AllZip-left}
-use Rattle.board_node.specs.declared.spec.BoardSpec.{BoardSpec}
+use Rattle.board_specs.specs.declared.spec.BoardSpec.{BoardSpec}
 use Rattle.ipb_base.proofs.AllLemmas.{AllByRecursion-append}
 use Rattle.script_plans.specs.declared.board_run.BoardRun.{BoardRun}
 use Rattle.script_plans.specs.declared.greeting.Greeting.{Greeting}

@@ -4,7 +4,7 @@ use Rattle.std.proofs.Common.{inl, inr, arith, refl, ◌∙◌}
 use Rattle.std.specs.List.{slice_get}
 use Rattle.std.proofs.lemmas.Bool.{cases_eq, cases_lt}
 use Rattle.std.proofs.lemmas.Option.{same_Some, slice_get_within}
-use Rattle.board_node.specs.declared.spec.BoardSpec.{BoardSpec}
+use Rattle.board_specs.specs.declared.spec.BoardSpec.{BoardSpec}
 use Rattle.script_plans.specs.Plan.{ClientBodies}
 use Rattle.script_steps.specs.declared.operation.Step.{Step}
 use Rattle.transcript_reader.specs.declared.shown.Shown.{Shown}

@@ -19,7 +19,7 @@ use Rattle.script_plans.specs.declared.board_run.ClientPart.{ClientPart}
 use Rattle.transcript_reader.specs.declared.shown.Shown.{Shown}
 use Rattle.board_history.specs.Runs.{opens_with}
 use Rattle.transaction_codec.specs.declared.room.TheConstants.{LONGEST_BODY}
-use Rattle.board_node.specs.declared.spec.BoardSpec.{BoardSpec}
+use Rattle.board_specs.specs.declared.spec.BoardSpec.{BoardSpec}
 use Rattle.script_steps.specs.declared.operation.Step.{Step}
 use Rattle.lane_record.specs.declared.outcome.Outcome.TheVariants.{Replied}
 use Rattle.board_history.specs.Order.{Placed, bodies_in, by_place, insert, with_place}

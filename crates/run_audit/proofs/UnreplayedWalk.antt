@@ -3,7 +3,7 @@ use Rattle.std.proofs.Common.{◌≡◌, ◌↔◌, ◌++◌, ◌+◌, ℕ, suc,
 use Rattle.std.proofs.Common.{ap, arith, append_assoc, drop, take, subst, sym, ◌∙◌, map, take-append-drop}
 use Rattle.std.specs.List.{AllByRecursion, AllZip, slice_get}
 use Rattle.std.proofs.lemmas.Option.{same_Some, slice_get_within}
-use Rattle.board_node.specs.declared.spec.BoardSpec.{BoardSpec}
+use Rattle.board_specs.specs.declared.spec.BoardSpec.{BoardSpec}
 use Rattle.script_plans.specs.Claims.{Rises}
 use Rattle.script_plans.specs.declared.board_run.BoardRun.{BoardRun}
 use Rattle.script_plans.specs.declared.greeting.Greeting.{Greeting}

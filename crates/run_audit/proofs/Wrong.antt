@@ -1,6 +1,6 @@
 -- The two rules on results are one.
 use Rattle.std.proofs.Common.{◌≡◌, ◌⊎◌, ℕ, List, Option, inl, inr, subst, sym, ◌∙◌}
-use Rattle.board_node.specs.declared.spec.BoardSpec.{BoardSpec}
+use Rattle.board_specs.specs.declared.spec.BoardSpec.{BoardSpec}
 use Rattle.script_steps.specs.declared.operation.Step.{Step}
 use Rattle.transcript_reader.specs.declared.shown.Shown.{Shown}
 use Rattle.run_audit.specs.Agreeing.{IsApartAt, IsUnreplayedAt}

@@ -1,7 +1,7 @@
 -- How the code compares results: what private functions promise one another. No public clause speaks of these.
 use Rattle.std.specs.Prelude.{◌≡◌, ◌⊎◌, ℕ, true, List, [], ◌∷◌, ◌++◌, length, slice_get, Some, None}
 use Rattle.std.specs.List.{AllByRecursion, Any}
-use Rattle.board_node.specs.declared.spec.BoardSpec.{BoardSpec}
+use Rattle.board_specs.specs.declared.spec.BoardSpec.{BoardSpec}
 use Rattle.script_steps.specs.declared.operation.Step.{Step}
 use Rattle.script_steps.specs.declared.operation.RegOp.{RegOp}
 use Rattle.script_plans.specs.declared.planned.PieceAt.{PieceAt}

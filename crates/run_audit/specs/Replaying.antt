@@ -12,7 +12,7 @@ use Rattle.script_plans.specs.Plan.{ClientBodies}
 use Rattle.board_history.specs.Order.{Placed, with_place}
 use Rattle.run_audit.specs.declared.replaying.PlacedBody.{PlacedBody}
 use Rattle.run_audit.specs.declared.replaying.PlacedReply.{PlacedReply}
-use Rattle.board_node.specs.declared.spec.BoardSpec.{BoardSpec}
+use Rattle.board_specs.specs.declared.spec.BoardSpec.{BoardSpec}
 use Rattle.script_plans.specs.declared.board_run.BoardRun.{BoardRun}
 use Rattle.board_history.specs.Runs.{greeting_of, opens_with}
 use Rattle.run_audit.specs.declared.replaying.BoardPieces.{BoardPieces}

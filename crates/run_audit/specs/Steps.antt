@@ -2,7 +2,7 @@
 use Rattle.std.specs.Prelude.{◌≡◌, ◌⊎◌, ℕ, ◌+◌, ◌<◌, ◌≤◌, ◌==◌, nat_le, if◌then◌else◌, List, [], ◌∷◌, slice_get}
 use Rattle.std.specs.Prelude.{◌&&◌, ◌||◌, Bool, false, not, Option, Some, None, MatchOption, unwrap_or}
 use Rattle.std.specs.List.{flat_map}
-use Rattle.board_node.specs.declared.spec.BoardSpec.{BoardSpec}
+use Rattle.board_specs.specs.declared.spec.BoardSpec.{BoardSpec}
 use Rattle.script_steps.specs.declared.operation.Step.{Step}
 use Rattle.script_plans.specs.Plan.{ClientBodies, no_bodies, plans_on}
 use Rattle.script_plans.specs.declared.planned.PieceAt.{PieceAt}

@@ -4,7 +4,6 @@ ghost use Rattle.std.specs.Prelude.{◌≡◌, ◌↔◌, ◌++◌, IfOk, IfSome
 ghost use Rattle.std.specs.List.{flat_map};
 ghost use Rattle.masked_fields.specs.Field.{field};
 ghost use Rattle.transaction_codec.specs.Request.{SpellsRequests};
-ghost use Rattle.reply_join.specs.ByWords.{answers};
 ghost use Rattle.script_plans.specs.Plan.{AreSpelled};
 ghost use Rattle.transcript.specs.Ends as ends_spec;
 ghost use Rattle.transcript.specs.Results as results_spec;
@@ -17,12 +16,11 @@ use crate::fate::Fate;
 use ipb_base::{NoMemory, Words};
 use lane_record::Outcome;
 use masked_fields::extract;
-use reply_join::laws::joining_is_a_function;
-use reply_join::{Answer, Answers, JoinRefusal, join_reply};
+use reply_join::Answer;
 use script_plans::PieceAt;
 use script_steps::{RegOp, Verb};
 use std::alloc::Global;
-use transcript::{BodyEnd, LateAnswer, OpResult, Told};
+use transcript::{BodyEnd, LateAnswer, OpResult, Told, answers_in, told_by};
 
 /// What a result tells of the body of its operation.
 pub(crate) fn fate_in(told: &OpResult) -> Fate
@@ -391,29 +389,6 @@ pub(crate) fn came_to(
     words.clear();
     push_values(words, ends, pieces)?;
     Ok(is_shown(op, words.as_slice(), told))
-}
-
-/// The answers to the transactions of a body that these words tell; none where they are no reply to it.
-fn answers_in(alloc: Global, body: &[u32], words: &[u32]) -> Result<Option<Answers>, NoMemory>
-    requires { SpellsRequests body.now }
-    ensures { IfOk result (λ found. found ≡ answers body.now words.now) }
-{
-    joining_is_a_function();
-    match join_reply(alloc, body, words) {
-        Ok(list) => Ok(Some(list)),
-        Err(JoinRefusal::Garbled { .. }) => Ok(None),
-        Err(JoinRefusal::NoMemory) => Err(NoMemory),
-    }
-}
-
-/// What is told of a body that was replied to with these answers, or with none.
-fn told_by(answers: Option<Answers>) -> Told
-    ensures { result ≡ ends_spec.told_by answers }
-{
-    match answers {
-        Some(answers) => Told::Answered(answers),
-        None => Told::Garbled,
-    }
 }
 
 /// How a body ended that has this outcome, and no late answer.

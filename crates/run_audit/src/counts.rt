@@ -1,7 +1,7 @@
 //! What the lines of boards count.
 
 ghost use Rattle.std.specs.Prelude.{◌≡◌, ℕ, ◌+◌, ◌<◌, ◌≤◌, ◌^◌, ◌↔◌, IfOk, IsTrue, List, MatchOption, length, map};
-ghost use Rattle.board_node.specs.declared.spec.BoardSpec.{BoardSpec};
+ghost use Rattle.board_specs.specs.declared.spec.BoardSpec.{BoardSpec};
 ghost use Rattle.script_steps.specs.Rulings.{asked_operations};
 ghost use Rattle.transcript_reader.specs.Entries.{clients_from};
 ghost use Rattle.run_audit.specs.Counts.{IsMiscounted, IsMiscountedAt, distinct};

@@ -1,8 +1,7 @@
 //! Laws of audits. These functions do nothing when they run: their clauses are what is proved.
 
 ghost use Rattle.std.specs.Prelude.{◌≡◌, ℕ, ◌+◌, ◌<◌, ◌≤◌, ◌↔◌, List, Some, slice_get};
-ghost use Rattle.board_node.specs.declared.spec.BoardSpec.{BoardSpec};
-ghost use Rattle.ipb_base.specs.Numbers.{ip_udp_bytes};
+ghost use Rattle.board_specs.specs.declared.spec.BoardSpec.{BoardSpec};
 ghost use Rattle.script_plans.specs.Claims.{Rises};
 ghost use Rattle.script_steps.specs.declared.operation.Step.{Step};
 ghost use Rattle.transcript.specs.Shown.{places_told};
@@ -15,13 +14,7 @@ ghost use Rattle.run_audit.specs.AskedLines.{AskedLine, ShownPiece, asked_lines,
 ghost use Rattle.run_audit.specs.Places.{AreOfOneBody, IsMisplacedAt};
 ghost use Rattle.run_audit.specs.Verdicts.{IsVerdict};
 
-use crate::plans::IP_UDP_BYTES;
 use transcript_reader::laws::{a_text_shows_one_thing, a_transcript_has_no_fault};
-
-/// The bytes of the headers that an MTU counts.
-pub fn the_numbers_of_an_audit()
-    ensures { IP_UDP_BYTES ≡ ip_udp_bytes }
-{}
 
 /// The operations of a session stand in the order of the text, each in a line of its own, and client behind client.
 pub fn operations_stand_in_order()

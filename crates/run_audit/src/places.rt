@@ -5,7 +5,7 @@ ghost use Rattle.std.specs.Prelude.{OnOk, length, map, option_map};
 ghost use Rattle.std.specs.BTreeSet.{btree_set_len, contains};
 ghost use Rattle.std.specs.Option.{ForSome};
 ghost use Rattle.std.specs.Ordering.{nat_cmp};
-ghost use Rattle.board_node.specs.declared.spec.BoardSpec.{BoardSpec};
+ghost use Rattle.board_specs.specs.declared.spec.BoardSpec.{BoardSpec};
 ghost use Rattle.script_plans.specs.Claims.{Rises};
 ghost use Rattle.script_steps.specs.declared.operation.Step.{Step};
 ghost use Rattle.transcript.specs.Shown as spec;

@@ -2,9 +2,9 @@
 
 ghost use Rattle.std.specs.Prelude.{◌≡◌, ◌<◌, ◌^◌, [], IfOk, List, MatchOption, length, slice_get, unwrap_or};
 ghost use Rattle.std.specs.List.{AllByRecursion};
-ghost use Rattle.board_node.specs.declared.spec.BoardSpec.{BoardSpec as SpecValue};
+ghost use Rattle.board_specs.specs.declared.spec.BoardSpec.{BoardSpec as SpecValue};
 ghost use Rattle.board_history.specs.Runs.{greeting_of};
-ghost use Rattle.script_plans.specs.Plan.{IsGreeting, no_bodies, plans_on};
+ghost use Rattle.script_plans.specs.Plan.{no_bodies, plans_on};
 ghost use Rattle.script_steps.specs.Packing.{CanBePacked, HaveFewPieces};
 ghost use Rattle.script_steps.specs.declared.operation.Step.{Step};
 ghost use Rattle.transcript_reader.specs.Entries.{IsHere, IsLinkHere};
@@ -13,15 +13,13 @@ ghost use Rattle.run_audit.specs.Steps.{asking, plan_at, planned_pieces, plans_f
 ghost use Rattle.run_audit.specs.Replaying.{HasShortBodies};
 
 use crate::asking::AskedOp;
-use board_node::{BoardSpec, LinkSpec};
+use board_specs::{BoardSpec, LinkSpec};
 use ipb_base::NoMemory;
-use script_plans::{Greeting, PieceAt, Planned, plan_on};
+use script_plans::{PieceAt, Planned, plan_on};
 use script_steps::Steps;
 use std::alloc::Global;
 use std::marker::Model;
-
-/// The bytes of the headers of IPv4 and UDP (RFC 791, RFC 768).
-pub(crate) const IP_UDP_BYTES: u32 = 28;
+use transcript_reader::greeting_of;
 
 /// What each client asks of one board. Contracts see that list.
 #[derive(Drop)]
@@ -52,20 +50,6 @@ impl BoardPlans {
     {
         let BoardPlans { items } = self;
         items
-    }
-}
-
-/// What a board of this process answers to its greeting.
-pub(crate) fn greeting_of(link: &LinkSpec) -> Greeting
-    requires { IsLinkHere link.now }
-    ensures told { result ≡ greeting_of link.now }
-    ensures payload { IsGreeting result }
-{
-    match link {
-        LinkSpec::Sim { mtu, .. } => Greeting::Live {
-            payload: (*mtu - IP_UDP_BYTES) / 4,
-        },
-        LinkSpec::Udp { .. } => Greeting::Down,
     }
 }
 

@@ -2,7 +2,7 @@
 
 ghost use Rattle.std.specs.Prelude.{◌≡◌, ◌++◌, IfOk, List, OnOk, map};
 ghost use Rattle.std.specs.List.{AllByRecursion};
-ghost use Rattle.board_node.specs.declared.spec.BoardSpec.{BoardSpec as SpecValue};
+ghost use Rattle.board_specs.specs.declared.spec.BoardSpec.{BoardSpec as SpecValue};
 ghost use Rattle.board_history.specs.Order.{bodies_in, by_place};
 ghost use Rattle.board_history.specs.Runs.{opens_with};
 ghost use Rattle.script_steps.specs.declared.operation.Step.{Step};
@@ -13,14 +13,15 @@ ghost use Rattle.run_audit.specs.Steps.{AreOf, asking, replays_from, piece_kept}
 
 use crate::asking::AskedOp;
 use crate::places::{PieceShown, shown_pieces};
-use crate::plans::{BoardPlans, greeting_of};
+use crate::plans::BoardPlans;
 use board_bus::Bus;
-use board_node::{BoardSpec, LinkSpec};
+use board_specs::{BoardSpec, LinkSpec};
 use ipb_base::{NoMemory, Text, Words};
 use lane_record::{Outcome, Outcomes};
 use script_plans::{BoardRun, ClientPart, ClientParts, Lates, Planned};
 use std::alloc::Global;
 use std::marker::Model;
+use transcript_reader::greeting_of;
 
 /// The place of each body of a client on a board, where one is shown. Contracts see that list.
 #[derive(Drop)]
@@ -139,7 +140,7 @@ fn all_placed<'a>(
     Ok(placed)
 }
 
-/// The same by place.
+/// The bodies of a board in the order of their places.
 fn placed_in_order<'a>(
     alloc: Global,
     plans: &'a [Planned],
@@ -302,7 +303,7 @@ struct BoardPieces {
     items: Vec<PieceShown>,
 }
 
-/// Those of each board.
+/// The pieces of each board, in board order.
 fn all_pieces(
     alloc: Global,
     plans: &[BoardPlans],

@@ -42,7 +42,7 @@ pub(crate) fn pieces_in<'a>(runs: &'a [BoardRun], asked: &AskedOp) -> &'a [Piece
     }
 }
 
-/// The same of an operation that its client asks of a live board. None where it asks for none of that number.
+/// The pieces of an operation that its client asks of a live board. None where it asks for none of that number.
 pub(crate) fn sent_pieces<'a>(runs: &'a [BoardRun], asked: &AskedOp) -> Option<&'a [PieceAt]>
     ensures { MatchOption result (sent_in runs.now (asking asked.now) ≡ None)
         (λ pieces. sent_in runs.now (asking asked.now) ≡ Some pieces.now) }

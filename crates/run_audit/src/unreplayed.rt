@@ -37,7 +37,7 @@ impl Model for PartEnds {
 }
 
 impl PartEnds {
-    /// Those of a client, of whose bodies none has a late answer.
+    /// The ends of a client's bodies, of which none has a late answer.
     fn of_part(alloc: Global, part: &ClientPart) -> Result<PartEnds, NoMemory>
         ensures { IfOk result (λ ends. ends ≡ spec.ends_in_time part.now) }
     {
@@ -70,7 +70,7 @@ impl Model for BoardEnds {
 }
 
 impl BoardEnds {
-    /// Those of the clients of a board.
+    /// The ends of the bodies of all clients of a board.
     fn of_run(alloc: Global, run: &BoardRun) -> Result<BoardEnds, NoMemory>
         ensures { IfOk result (λ ends. ends ≡ spec.board_ends run.now) }
     {
@@ -82,7 +82,7 @@ impl BoardEnds {
         Ok(BoardEnds { items })
     }
 
-    /// Those of a client; none where it is not there.
+    /// The ends of one client's bodies; none where the client is not there.
     fn of_client(&self, client: usize) -> &[BodyEnd]
         ensures ends { result.now ≡ unwrap_or (slice_get self.now client) [] }
         ensures in_time { HaveNoLate result.now }

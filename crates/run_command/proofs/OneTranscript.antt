@@ -2,8 +2,8 @@
 use Rattle.std.proofs.Common.{◌≡◌, ℕ, inl, inr, List, sym, ap, ◌∙◌}
 use Rattle.std.specs.List.{AllByRecursion}
 use Rattle.board_history.specs.Runs.{runs_from}
-use Rattle.lane_history.specs.Links.{LinkReport, IsFaithful}
-use Rattle.lane_history.specs.Runs.{HaveOwnBoards}
+use Rattle.board_history.specs.Links.{LinkReport, IsFaithful}
+use Rattle.board_history.specs.LinkRuns.{HaveOwnBoards}
 use Rattle.script_steps.specs.declared.operation.Step.{Step}
 use Rattle.script_lang.specs.Document.{SameSession}
 use Rattle.script_lang.specs.declared.session.Session.{Session}

@@ -21,30 +21,30 @@
 --   each client in its order     KeepsScripts                            board_history/specs/Parts
 --   executed once                IsExecutedOnce                          board_history/specs/Parts
 --   each reply                   AreRepliesOf, IsUngarbledWhereTold      board_history/specs/Parts,
---                                                                        lane_history/specs/Runs
---   late answers                 ShowsLates, AreLateExactly,             lane_history/specs/Runs, Lates,
+--                                                                        board_history/specs/LinkRuns
+--   late answers                 ShowsLates, AreLateExactly,             board_history/specs/LinkRuns, Lates,
 --                                AreLateRepliesOf                        board_history/specs/Parts
 --   timeouts                     GaveUpOnlyAfter, TimeOutsWaited,        board_history/specs/GiveUps,
---                                IsLineOfRounds                          lane_history/specs/Runs
---   replies over any link        RepliesCame, HasBroughtReply            lane_history/specs/Runs, Receives
---   lost links, down, silent     IsLostOnlyIfFailed, IsDownRun,          lane_history/specs/Links, Runs
---                                IsSilentRun                             lane_history/specs/Runs
+--                                IsLineOfRounds                          board_history/specs/LinkRuns
+--   replies over any link        RepliesCame, HasBroughtReply            board_history/specs/LinkRuns, Receives
+--   lost links, down, silent     IsLostOnlyIfFailed, IsDownRun,          board_history/specs/Links, LinkRuns
+--                                IsSilentRun                             board_history/specs/LinkRuns
 --   error and skipped            op_result, told_of                      transcript/specs/Results, Ends
 --   denied                       ruled_scripts, rules_shown, planned_on  access_policy/specs/Decisions,
 --                                                                        transcript/specs/Claims,
 --                                                                        script_plans/specs/Plan
 --   the status                   run_status, IsBusLine                   transcript/specs/Lines,
 --                                                                        board_history/specs/Lines
---   where nothing was held back  AreWholeRuns, ShowAloneRuns             lane_history/specs/Runs
---   where all was done           ShowAloneRunsWhereTold                  lane_history/specs/Runs
---   over any link, told or not   HoldsOverAnyLink                        lane_history/specs/Runs
+--   where nothing was held back  AreWholeRuns, ShowAloneRuns             board_history/specs/LinkRuns
+--   where all was done           ShowAloneRunsWhereTold                  board_history/specs/LinkRuns
+--   over any link, told or not   HoldsOverAnyLink                        board_history/specs/LinkRuns
 --   at every status              RanSomeOf, below, by AreLeft            session_run/specs/Links
 --
--- What holds of one board and its link is `IsRunOver` of lane_history/specs/Runs, which has a sentence for each part.
+-- What holds of one board and its link is `IsRunOver` of board_history/specs/LinkRuns, which has a sentence for each part.
 use Rattle.std.specs.Prelude.{◌≡◌, ℕ, List}
 use Rattle.ipb_base.specs.Lists.{IsPrefix}
-use Rattle.board_node.specs.declared.spec.LinkSpec.{LinkSpec}
-use Rattle.lane_history.specs.Links.{LinkReport}
+use Rattle.board_specs.specs.declared.spec.LinkSpec.{LinkSpec}
+use Rattle.board_history.specs.Links.{LinkReport}
 use Rattle.run_laws.specs.Runs.{IsSessionRun}
 use Rattle.script_steps.specs.declared.operation.Step.{Step}
 use Rattle.script_lang.specs.declared.session.Session.{Session}

@@ -2,8 +2,8 @@
 
 ghost use Rattle.std.specs.Prelude.{◌≡◌, ℕ, List};
 ghost use Rattle.std.specs.List.{AllByRecursion};
-ghost use Rattle.lane_history.specs.Links.{IsFaithful};
-ghost use Rattle.lane_history.specs.Runs.{HaveOwnBoards};
+ghost use Rattle.board_history.specs.Links.{IsFaithful};
+ghost use Rattle.board_history.specs.LinkRuns.{HaveOwnBoards};
 ghost use Rattle.script_steps.specs.declared.operation.Step.{Step};
 ghost use Rattle.script_lang.specs.declared.session.Session.{Session};
 ghost use Rattle.session_input.specs.Deserved.{IsRunnable};

@@ -17,7 +17,7 @@ ghost use Rattle.run_command.specs.Terms.{run_terms};
 use client_threads::Gate;
 use command_terms::{Answer, done_status, refused};
 use ipb_base::NoMemory;
-use lossy_network::Rack;
+use links::Rack;
 use run_laws::laws::{
     a_document_can_run_its_steps, a_document_has_few_clients,
     runs_over_links_are_runs_of_a_session, steps_that_fit_may_be_run,

@@ -1,11 +1,11 @@
 //! Laws of the transcripts of sessions. These functions do nothing when they run: their clauses are what is proved.
 
 ghost use Rattle.std.specs.Prelude.{ℕ, List};
-ghost use Rattle.lane_history.specs.Links.{LinkReport};
-ghost use Rattle.lane_history.specs.Runs.{AllExecutedSome};
+ghost use Rattle.board_history.specs.Links.{LinkReport};
+ghost use Rattle.board_history.specs.LinkRuns.{AllExecutedSome};
 ghost use Rattle.run_command.specs.Headline.{IsTranscriptOf};
 
-use lane_history::runs::each_board_executes_a_merge;
+use board_history::runs::each_board_executes_a_merge;
 
 /// What each board executed is a merge of bodies that the scripts ask of it, each client's in its order.
 pub fn the_boards_of_a_transcript_execute_a_merge()

@@ -2,13 +2,13 @@
 use Rattle.std.proofs.Common.{◌≡◌, List, [], ◌∷◌, None}
 use Rattle.std.specs.List.{AllByRecursion}
 use Rattle.board_bus.specs.Ranges.{refusal_of}
-use Rattle.board_node.specs.declared.spec.BoardSpec.{BoardSpec}
-use Rattle.board_node.specs.declared.spec.LinkSpec.{LinkSpec}
-use Rattle.board_node.specs.declared.spec.LinkSpec.TheVariants.{Sim, Udp}
-use Rattle.board_node.specs.OpeningWords.{OpensOnWords}
+use Rattle.board_specs.specs.declared.spec.BoardSpec.{BoardSpec}
+use Rattle.board_specs.specs.declared.spec.LinkSpec.{LinkSpec}
+use Rattle.board_specs.specs.declared.spec.LinkSpec.TheVariants.{Sim, Udp}
+use Rattle.board_specs.specs.OpeningWords.{OpensOnWords}
 use Rattle.script_lang.specs.Limits.{KeepsRules, LinkKeepsRules}
 use Rattle.session_input.specs.Deserved.{HasBus, ranges_of}
-use Rattle.lane_history.specs.Links.{CanBeMade}
+use Rattle.board_history.specs.Links.{CanBeMade}
 use Rattle.session_run.specs.Links.{CanBeReached}
 
 link_made : (link : LinkSpec) → LinkKeepsRules link → refusal_of (ranges_of link) ≡ None → CanBeMade link

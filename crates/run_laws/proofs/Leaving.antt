@@ -4,11 +4,11 @@ use Rattle.std.proofs.Common.{Result, Ok, Err, IfOk, refl, sym, ◌∙◌}
 use Rattle.std.specs.List.{AllByRecursion}
 use Rattle.std.specs.Result.{IsErr, IsErrAnd}
 use Rattle.ipb_base.specs.Lists.{IsPrefix}
-use Rattle.board_node.specs.declared.spec.BoardSpec.{BoardSpec}
-use Rattle.board_node.specs.declared.spec.LinkSpec.{LinkSpec}
+use Rattle.board_specs.specs.declared.spec.BoardSpec.{BoardSpec}
+use Rattle.board_specs.specs.declared.spec.LinkSpec.{LinkSpec}
 use Rattle.access_policy.specs.declared.policy.Rule.{Rule}
-use Rattle.lane_history.specs.Links.{LinkReport, IsUntouched}
-use Rattle.lane_history.specs.Runs.{AreRunsOver}
+use Rattle.board_history.specs.Links.{LinkReport, IsUntouched}
+use Rattle.board_history.specs.LinkRuns.{AreRunsOver}
 use Rattle.script_steps.specs.declared.operation.Step.{Step}
 use Rattle.script_lang.specs.declared.session.Session.{Session}
 use Rattle.script_plans.specs.declared.board_run.BoardRun.{BoardRun}

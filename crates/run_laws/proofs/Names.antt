@@ -1,13 +1,13 @@
 -- Runs over links have the names of their boards, and there is one for each.
 use Rattle.std.proofs.Common.{◌≡◌, ℕ, zero, suc, ◌+◌, ◌<◌, List, [], ◌∷◌, length, get_or, sym, ap, refl, subst, ◌∙◌, arith}
-use Rattle.board_node.specs.declared.spec.BoardSpec.{BoardSpec}
+use Rattle.board_specs.specs.declared.spec.BoardSpec.{BoardSpec}
 use Rattle.world_model.specs.Settings.{Limits}
 use Rattle.script_steps.specs.declared.operation.Step.{Step}
 use Rattle.script_lang.specs.OwnNames as boards
 use Rattle.script_plans.specs.declared.board_run.BoardRun.{BoardRun}
 use Rattle.script_plans.specs.Runs.{HaveOwnNames}
-use Rattle.lane_history.specs.Links.{LinkReport}
-use Rattle.lane_history.specs.Runs.{AreRunsOver}
+use Rattle.board_history.specs.Links.{LinkReport}
+use Rattle.board_history.specs.LinkRuns.{AreRunsOver}
 use Rattle.session_input.specs.Deserved as input
 use Rattle.std.specs.List.{AllByRecursion}
 use Rattle.transcript.specs.Claims.{AreOnBoards}

@@ -2,8 +2,8 @@
 -- speaks of it.
 use Rattle.std.specs.Prelude.{◌≡◌, ℕ, List, length, Result, Err, IfOk}
 use Rattle.std.specs.List.{AllByRecursion}
-use Rattle.board_node.specs.declared.spec.LinkSpec.{LinkSpec}
-use Rattle.lane_history.specs.Links.{LinkReport, IsUntouched}
+use Rattle.board_specs.specs.declared.spec.LinkSpec.{LinkSpec}
+use Rattle.board_history.specs.Links.{LinkReport, IsUntouched}
 use Rattle.script_steps.specs.declared.operation.Step.{Step}
 use Rattle.script_lang.specs.declared.session.Session.{Session}
 use Rattle.session_run.specs.declared.session.RunFault.{RunFault}

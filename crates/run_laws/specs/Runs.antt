@@ -1,10 +1,10 @@
 -- A RUN of the steps of a session's clients, and what its lines show. Profile.
 use Rattle.std.specs.Prelude.{◌≡◌, List, map}
 use Rattle.std.specs.List.{AllByRecursion, AllZip}
-use Rattle.lane_history.specs.Links.{LinkReport, IsFaithful}
+use Rattle.board_history.specs.Links.{LinkReport, IsFaithful}
 use Rattle.board_history.specs.Lines.{IsBusLine}
-use Rattle.lane_history.specs.Runs.{AreRunsOver, AreWholeRuns, IsLineOfRounds, IsUngarbledWhereTold}
-use Rattle.lane_history.specs.Runs.{RepliesCame, ShowAloneRuns, ShowAloneRunsWhereTold, TimeOutsWaited}
+use Rattle.board_history.specs.LinkRuns.{AreRunsOver, AreWholeRuns, IsLineOfRounds, IsUngarbledWhereTold}
+use Rattle.board_history.specs.LinkRuns.{RepliesCame, ShowAloneRuns, ShowAloneRunsWhereTold, TimeOutsWaited}
 use Rattle.script_steps.specs.declared.operation.Step.{Step}
 use Rattle.script_lang.specs.declared.session.Session.{Session}
 use Rattle.script_plans.specs.declared.board_run.BoardRun.{BoardRun}

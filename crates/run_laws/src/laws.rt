@@ -3,8 +3,8 @@
 ghost use Rattle.std.specs.Prelude.{◌≡◌, ◌<◌, ◌≤◌, ◌^◌, ℕ, List, length};
 ghost use Rattle.std.specs.List.{AllByRecursion};
 ghost use Rattle.board_history.specs.Runs.{runs_from};
-ghost use Rattle.lane_history.specs.Links.{IsFaithful, LinkReport};
-ghost use Rattle.lane_history.specs.Runs.{AreRunsOver, HaveOwnBoards};
+ghost use Rattle.board_history.specs.Links.{IsFaithful, LinkReport};
+ghost use Rattle.board_history.specs.LinkRuns.{AreRunsOver, HaveOwnBoards};
 ghost use Rattle.script_plans.specs.declared.board_run.BoardRun.{BoardRun};
 ghost use Rattle.script_steps.specs.declared.operation.Step.{Step};
 ghost use Rattle.script_steps.specs.Packing.{AreWithinLimits, CanBePacked, HaveFewPieces};
@@ -14,7 +14,7 @@ ghost use Rattle.session_input.specs.Deserved.{IsRunnable};
 ghost use Rattle.run_laws.specs.Runs.{IsSessionRun};
 ghost use Rattle.run_laws.specs.Steps.{CanRunSteps, MayRun};
 
-use lane_history::runs::{
+use board_history::runs::{
     a_client_alone_has_one_run, board_lines_count_replies_that_came,
     board_lines_waited_for_their_time_outs, clients_with_boards_of_their_own_have_one_run,
     faithful_lines_fail_by_codes_of_the_bus_alone, faithful_links_answer_all,

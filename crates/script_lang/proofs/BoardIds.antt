@@ -6,7 +6,7 @@ use Rattle.std.specs.Option.{unwrap_or}
 use Rattle.std.proofs.lemmas.Option.{same_Some}
 use Rattle.toml.specs.Data.{Data, Members, as_str, get_member}
 use Rattle.address_table.specs.Rules.{has_key, holds_of, is_id}
-use Rattle.board_node.specs.declared.spec.BoardSpec.{BoardSpec}
+use Rattle.board_specs.specs.declared.spec.BoardSpec.{BoardSpec}
 use Rattle.script_lang.specs.Document.{IsSession, duplicates, misfits, size_faults}
 use Rattle.script_lang.specs.Fields.{text_at}
 use Rattle.script_lang.specs.Keys.{KeyRule, board_keys, document_keys, is_udp, kind_at, sim_keys, sim_keys_with_noise}

@@ -4,7 +4,7 @@ use Rattle.std.proofs.Common.{if◌then◌else◌, refl, sym, subst, ◌∙◌}
 use Rattle.std.specs.List.{list_any}
 use Rattle.std.specs.Str.{bytes_eq}
 use Rattle.std.proofs.lemmas.List.{drop_more, take_more}
-use Rattle.board_node.specs.declared.spec.BoardSpec.{BoardSpec}
+use Rattle.board_specs.specs.declared.spec.BoardSpec.{BoardSpec}
 use Rattle.script_lang.specs.declared.refusal.SessionRefusal.{SessionRefusal}
 use Rattle.script_lang.specs.Document.{duplicates, duplicate_at, TellsFault}
 use Rattle.script_lang.proofs.FaultLists.{front_fault}

@@ -11,7 +11,7 @@ use Rattle.std.proofs.lemmas.Option.{same_Some}
 use Rattle.ipb_base.specs.Word.{IsWord, AreWords}
 use Rattle.address_table.specs.Rules.{first_broken}
 use Rattle.toml.specs.Data.{Members}
-use Rattle.board_node.specs.declared.spec.BoardSpec.{BoardSpec}
+use Rattle.board_specs.specs.declared.spec.BoardSpec.{BoardSpec}
 use Rattle.masked_fields.specs.Field.{shifted_value}
 use Rattle.mtu_packer.specs.Cutting.{HasWords}
 use Rattle.node_tree.specs.Maps.{RegisterMap}

@@ -5,7 +5,7 @@ use Rattle.std.specs.List.{AllByRecursion, cons_option}
 use Rattle.std.specs.Str.{bytes_eq}
 use Rattle.std.proofs.lemmas.Option.{same_Some}
 use Rattle.address_table.specs.Rules.{first_broken}
-use Rattle.board_node.specs.declared.spec.BoardSpec.{BoardSpec}
+use Rattle.board_specs.specs.declared.spec.BoardSpec.{BoardSpec}
 use Rattle.node_tree.specs.Maps.{RegisterMap}
 use Rattle.node_tree.specs.declared.register.Register.{Register}
 use Rattle.script_steps.specs.declared.operation.RegOp.{RegOp}

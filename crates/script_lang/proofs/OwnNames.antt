@@ -7,7 +7,7 @@ use Rattle.std.proofs.lemmas.List.Folds.{list_any-from_Any}
 use Rattle.std.proofs.lemmas.Slice.Eq.{bytes_eq-Decides}
 use Rattle.mtu_packer.proofs.AnyLemmas.{any_same, any_front, any_back, any_here}
 use Rattle.toml.specs.Data.{Members}
-use Rattle.board_node.specs.declared.spec.BoardSpec.{BoardSpec}
+use Rattle.board_specs.specs.declared.spec.BoardSpec.{BoardSpec}
 use Rattle.script_lang.specs.declared.session.Session.{Session}
 use Rattle.script_lang.specs.Document.{duplicates, duplicate_at, Fault, misfits, size_faults, IsSession}
 use Rattle.script_lang.specs.OwnNames.{HaveOwnNames}

@@ -13,7 +13,7 @@ use Rattle.address_table.specs.Tables.{IsTable, IsNode, node, AreNodes, none, mo
 use Rattle.address_table.specs.declared.nodes.Node.{Node, out-Node}
 use Rattle.address_table.specs.declared.nodes.Table.{Table}
 use Rattle.address_table.proofs.ValidNodes.{nodes-valid}
-use Rattle.board_node.specs.declared.spec.BoardSpec.{BoardSpec}
+use Rattle.board_specs.specs.declared.spec.BoardSpec.{BoardSpec}
 use Rattle.node_tree.specs.Addresses.{last_address}
 use Rattle.node_tree.specs.Limits.{most_nodes, most_ids}
 use Rattle.node_tree.specs.Maps.{Name, TableMap, RegisterMap, nodes_of, AreValidTables, IsRegister}

@@ -11,7 +11,7 @@ use Rattle.address_table.specs.Numbers.{number, number_of_integer}
 use Rattle.ipb_base.specs.Digits.{are_digits, is_between, value_of_digits}
 use Rattle.script_lang.specs.declared.session.Session.{Session}
 use Rattle.script_lang.specs.Document.{IsSession}
-use Rattle.board_node.specs.OpeningWords.{NamesWords, LinkNamesWords, OpensOnWords}
+use Rattle.board_specs.specs.OpeningWords.{NamesWords, LinkNamesWords, OpensOnWords}
 use Rattle.script_lang.specs.Fields.{items_at, numbers_in, tables_in}
 use Rattle.script_lang.specs.Keys.{is_udp}
 use Rattle.script_lang.specs.Lines.{numbers_of}

@@ -5,7 +5,7 @@ use Rattle.std.specs.List.{AllByRecursion}
 use Rattle.std.specs.Prelude.{IfErr, IfSome, IsErrAnd}
 use Rattle.std.proofs.lemmas.List.{append-nil, append_assoc, drop_more}
 use Rattle.ipb_base.proofs.AllLemmas.{AllByRecursion-append}
-use Rattle.board_node.specs.declared.spec.BoardSpec.{BoardSpec}
+use Rattle.board_specs.specs.declared.spec.BoardSpec.{BoardSpec}
 use Rattle.node_tree.specs.Maps.{RegisterMap}
 use Rattle.script_lang.proofs.HandedOn.{handed_on}
 use Rattle.script_steps.specs.declared.operation.Step.{Step}

@@ -13,7 +13,7 @@ use Rattle.address_table.specs.declared.nodes.Table.{Table}
 use Rattle.address_table.specs.declared.refusal.TableWhy.{TableWhy}
 use Rattle.address_table.specs.declared.refusal.TableRefusal.TheVariants.{At}
 use Rattle.address_table.specs.declared.refusal.TableRefusal.TheVariants as table_refusal
-use Rattle.board_node.specs.declared.spec.BoardSpec.{BoardSpec}
+use Rattle.board_specs.specs.declared.spec.BoardSpec.{BoardSpec}
 use Rattle.node_tree.specs.Maps.{Name}
 use Rattle.script_lang.specs.declared.refusal.DocWhy.{DocWhy}
 use Rattle.script_lang.specs.declared.refusal.DocWhy.TheVariants.{NotToml, Shape, NoBoards, ManyBoards, ManyClients}

@@ -2,11 +2,11 @@
 -- boards. Profile.
 use Rattle.std.specs.Prelude.{◌≡◌, ℕ, ◌^◌, ◌≤◌, ◌<◌, true, length}
 use Rattle.std.specs.List.{AllByRecursion, list_all}
-use Rattle.board_node.specs.declared.spec.BoardSpec.{BoardSpec}
-use Rattle.board_node.specs.declared.spec.Fates.{Fates}
-use Rattle.board_node.specs.declared.spec.Fates.TheVariants.{Text, Noise}
-use Rattle.board_node.specs.declared.spec.LinkSpec.{LinkSpec}
-use Rattle.board_node.specs.declared.spec.LinkSpec.TheVariants.{Sim, Udp}
+use Rattle.board_specs.specs.declared.spec.BoardSpec.{BoardSpec}
+use Rattle.board_specs.specs.declared.spec.Fates.{Fates}
+use Rattle.board_specs.specs.declared.spec.Fates.TheVariants.{Text, Noise}
+use Rattle.board_specs.specs.declared.spec.LinkSpec.{LinkSpec}
+use Rattle.board_specs.specs.declared.spec.LinkSpec.TheVariants.{Sim, Udp}
 use Rattle.packet_ids.specs.Identifier.{IsIdentifier}
 use Rattle.world_model.specs.Settings.{AreLimits}
 use Rattle.status_packet.specs.Range.{IsMtu, IsBufferCount}

@@ -12,7 +12,7 @@ use Rattle.address_table.specs.declared.kinds.Permission.{Permission}
 use Rattle.address_table.specs.declared.kinds.Permission.TheVariants.{R, W, Rw}
 use Rattle.address_table.specs.declared.kinds.Mode.{Mode}
 use Rattle.address_table.specs.declared.kinds.Mode.TheVariants.{Port, Hierarchical}
-use Rattle.board_node.specs.declared.spec.BoardSpec.{BoardSpec}
+use Rattle.board_specs.specs.declared.spec.BoardSpec.{BoardSpec}
 use Rattle.masked_fields.specs.Field.{shifted_value}
 use Rattle.node_tree.specs.Maps.{RegisterMap}
 use Rattle.node_tree.specs.declared.register.Register.{Register}

@@ -1,7 +1,7 @@
 -- The names of a session's boards. Profile.
 use Rattle.std.specs.Prelude.{◌≢◌, List}
 use Rattle.std.specs.List.{AllPairs}
-use Rattle.board_node.specs.declared.spec.BoardSpec.{BoardSpec}
+use Rattle.board_specs.specs.declared.spec.BoardSpec.{BoardSpec}
 
 -- no two boards have one name
 abbrev pub HaveOwnNames : List BoardSpec → Type 0

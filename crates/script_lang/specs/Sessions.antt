@@ -5,11 +5,11 @@ use Rattle.toml.specs.Data.{Members, no_members, get_member, as_table}
 use Rattle.address_table.specs.Rules.{has_key}
 use Rattle.board_bus.specs.declared.kind.RangeKind.TheVariants.{Rw}
 use Rattle.board_bus.specs.declared.range.Range.{Range}
-use Rattle.board_node.specs.declared.spec.Fates.{Fates}
-use Rattle.board_node.specs.declared.spec.Fates.TheVariants as fates
-use Rattle.board_node.specs.declared.spec.LinkSpec.{LinkSpec}
-use Rattle.board_node.specs.declared.spec.LinkSpec.TheVariants.{Sim, Udp}
-use Rattle.board_node.specs.declared.spec.BoardSpec.{BoardSpec}
+use Rattle.board_specs.specs.declared.spec.Fates.{Fates}
+use Rattle.board_specs.specs.declared.spec.Fates.TheVariants as fates
+use Rattle.board_specs.specs.declared.spec.LinkSpec.{LinkSpec}
+use Rattle.board_specs.specs.declared.spec.LinkSpec.TheVariants.{Sim, Udp}
+use Rattle.board_specs.specs.declared.spec.BoardSpec.{BoardSpec}
 use Rattle.world_model.specs.Settings.{Limits}
 use Rattle.script_lang.specs.Keys.{document_keys, sim_keys, sim_keys_with_noise, udp_keys, range_keys, is_udp}
 use Rattle.script_lang.specs.Fields.{number_at, text_at, items_at, numbers_in, texts_in, tables_in}

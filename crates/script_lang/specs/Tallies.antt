@@ -1,7 +1,7 @@
 -- How the code counts line by line. No public clause speaks of it.
 use Rattle.std.specs.Prelude.{◌≡◌, ℕ, ◌+◌, if◌then◌else◌, List, [], ◌∷◌, ◌++◌, Option, Some, None, option_to_list}
 use Rattle.std.specs.Prelude.{Result, Ok, Err}
-use Rattle.board_node.specs.declared.spec.BoardSpec.{BoardSpec}
+use Rattle.board_specs.specs.declared.spec.BoardSpec.{BoardSpec}
 use Rattle.node_tree.specs.Maps.{RegisterMap}
 use Rattle.script_lang.specs.declared.script_refusal.ScriptWhy.TheVariants.{TooMany}
 use Rattle.script_lang.specs.declared.script_refusal.ScriptRefusal.{ScriptRefusal}

@@ -12,7 +12,7 @@ use crate::session::Boards;
 use crate::texts::{endpoint, range_kind_named};
 use address_table::number;
 use board_bus::{Range, RangeKind};
-use board_node::{BoardSpec, Fates, LinkSpec, Ranges};
+use board_specs::{BoardSpec, Fates, LinkSpec, Ranges};
 use ipb_base::{NoMemory, Text, Words};
 use packet_ids::Id;
 use std::alloc::Global;

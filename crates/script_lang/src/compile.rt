@@ -17,7 +17,7 @@ use crate::script_refusal::{ScriptRefusal, ScriptWhy};
 use crate::session::{Script, Session};
 use crate::tally::{Tally, with_step};
 use crate::using::use_of;
-use board_node::BoardSpec;
+use board_specs::BoardSpec;
 use ipb_base::{NoMemory, Text};
 use node_tree::{Index, Register};
 use script_steps::{Step, Steps};

@@ -24,7 +24,7 @@ use crate::session::{Boards, Session};
 use crate::steps::Misfit;
 use crate::tables::tables;
 use crate::walk::check_table;
-use board_node::BoardSpec;
+use board_specs::BoardSpec;
 use ipb_base::{NoMemory, Text};
 use node_tree::Tables;
 use std::alloc::Global;

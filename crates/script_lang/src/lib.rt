@@ -24,7 +24,7 @@ mod using;
 mod walk;
 
 pub use aside::take_key;
-pub use board_node::{BoardSpec, Fates, LinkSpec, Ranges};
+pub use board_specs::{BoardSpec, Fates, LinkSpec, Ranges};
 pub use compile::compile_scripts;
 pub use document::{parse_document, read_session, read_session_table};
 pub use ipb_base::{NoMemory, Text};

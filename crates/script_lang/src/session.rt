@@ -2,7 +2,7 @@
 
 ghost use Rattle.std.specs.Prelude.{◌≡◌};
 
-use board_node::BoardSpec;
+use board_specs::BoardSpec;
 use ipb_base::Text;
 use node_tree::Tables;
 use std::marker::Model;
@@ -16,7 +16,7 @@ pub struct Boards {
 
 impl Model for Boards {
     ghost use Rattle.std.specs.Prelude.{List};
-    ghost use Rattle.board_node.specs.declared.spec.BoardSpec.{BoardSpec};
+    ghost use Rattle.board_specs.specs.declared.spec.BoardSpec.{BoardSpec};
 
     ghost Value = { List BoardSpec };
 

@@ -66,7 +66,7 @@ fn is_over(tally: Tally) -> bool
     tally.lines > MAX_LINES || tally.operations > MAX_OPERATIONS || tally.words > MAX_BLOCK_WORDS
 }
 
-/// The same with one line more, unless that is more than a session may have.
+/// A tally with one line more, unless that is more than a session may have.
 pub(crate) fn with_step(tally: Tally, step: &Option<Step>) -> Option<Tally>
     requires { spec.is_over tally ≡ false }
     ensures { result ≡ within (with_step tally step.now) }

@@ -51,7 +51,7 @@ fn push_moved(places: &mut Vec<PieceAt>, pieces: &[Piece], first: usize)
 }
 
 impl OpPieces {
-    /// Those of no operation. It takes no memory.
+    /// The pieces of no operation. It takes no memory.
     pub(crate) fn new(alloc: Global) -> OpPieces
         ensures { result ≡ [] }
     {
@@ -75,7 +75,7 @@ impl OpPieces {
         Ok(())
     }
 
-    /// Those of operation `op`, from 0, in order; none where there are fewer.
+    /// The pieces of operation `op`, from 0, in order; none where there are fewer operations.
     pub(crate) fn get(&self, op: usize) -> Option<&[PieceAt]>
         ensures { MatchOption result (slice_get self.now op ≡ None)
             (λ pieces. slice_get self.now op ≡ Some pieces.now) }

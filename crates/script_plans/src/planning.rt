@@ -26,7 +26,7 @@ fn copied_words(alloc: Global, words: &Words) -> Result<Words, NoMemory>
     Ok(Words::from_vec(words.as_slice().to_vec(alloc)?))
 }
 
-/// The same operation in memory of its own.
+/// A copy of an operation, which shares no memory with it.
 fn copied_op(alloc: Global, op: &Op) -> Result<Op, NoMemory>
     ensures { IfOk result (λ copied. copied ≡ op.now) }
 {

@@ -7,10 +7,10 @@ use Rattle.std.specs.Result.{IsErr, IsErrAnd}
 use Rattle.ipb_outside.specs.declared.sink.Sink.{Ghosts as SinkGhosts}
 use Rattle.ipb_outside.specs.declared.source.Source.{Ghosts as SourceGhosts}
 use Rattle.ipb_outside.specs.Pairs.{PairReport}
-use Rattle.board_node.specs.declared.spec.BoardSpec.{BoardSpec}
-use Rattle.board_node.specs.declared.spec.LinkSpec.{LinkSpec}
+use Rattle.board_specs.specs.declared.spec.BoardSpec.{BoardSpec}
+use Rattle.board_specs.specs.declared.spec.LinkSpec.{LinkSpec}
 use Rattle.world_model.specs.Settings.{Limits}
-use Rattle.lane_history.specs.Links.{IsUntouched, LinkReport}
+use Rattle.board_history.specs.Links.{IsUntouched, LinkReport}
 use Rattle.board_greeting.specs.Links.{AreMadeFor}
 use Rattle.script_lang.specs.declared.session.Session.{Session}
 use Rattle.transcript.specs.declared.line.BoardLine.{BoardLine}
@@ -22,7 +22,7 @@ use Rattle.session_serve.specs.Boards.{AreLinksTo, states_of}
 use Rattle.session_serve.specs.Connections.{Conversation, HaveExchanged, WereServed}
 use Rattle.client_history.specs.Boards.{AreServedOver, IsServedOver, ServedBoard}
 use Rattle.session_serve.specs.Serving.{AreBack, AreServed, HadMemory}
-use Rattle.server_summary.specs.Text.{all_closed, serve_status, serve_text}
+use Rattle.serve_command.specs.Text.{all_closed, serve_status, serve_text}
 use Rattle.command_terms.specs.declared.answer.Answer.{Answer}
 use Rattle.command_terms.specs.Numbers.{refused_status}
 use Rattle.command_terms.specs.Outside.{GivenBack}

@@ -2,21 +2,21 @@
 use Rattle.std.specs.Prelude.{ℕ, List}
 use Rattle.std.specs.List.{AllByRecursion}
 use Rattle.ipb_outside.specs.Pairs.{PairReport}
-use Rattle.lane_history.specs.Links.{LinkReport}
+use Rattle.board_history.specs.Links.{LinkReport}
 use Rattle.script_lang.specs.declared.session.Session.{Session}
 use Rattle.script_lang.specs.Document.{IsSession}
 use Rattle.toml.specs.Data.{Members}
-use Rattle.board_node.specs.OpeningWords.{OpensOnWords}
+use Rattle.board_specs.specs.OpeningWords.{OpensOnWords}
 use Rattle.transcript.specs.declared.line.BoardLine.{BoardLine}
-use Rattle.board_node.specs.declared.spec.BoardSpec.{BoardSpec}
+use Rattle.board_specs.specs.declared.spec.BoardSpec.{BoardSpec}
 use Rattle.world_model.specs.Settings.{Limits}
 use Rattle.client_history.specs.Boards.{AreServedOver, ServedBoard}
 use Rattle.hub_session.specs.declared.served.Served.{Served}
 use Rattle.session_serve.specs.Boards.{states_of}
 use Rattle.session_serve.specs.Serving.{AreServed, HadMemory}
-use Rattle.server_summary.specs.Answers.{AllTellAnswers, HasWrittenAll}
-use Rattle.server_summary.specs.Frames.{HasUnaskedCodes, OfEachBoard, OfEachFrame}
-use Rattle.server_summary.specs.Ruled.{AreCodedByRules}
+use Rattle.serve_command.specs.Answers.{AllTellAnswers, HasWrittenAll}
+use Rattle.serve_command.specs.Frames.{HasUnaskedCodes, OfEachBoard, OfEachFrame}
+use Rattle.serve_command.specs.Ruled.{AreCodedByRules}
 use Rattle.serve_command.specs.Serving.{AreAnsweredRightly, AreServedRightly}
 
 -- what follows for the boards of a session that were served, and for the numbers of answers

@@ -2,3 +2,8 @@ pub mod Serving
 pub mod Terms
 pub mod Below
 pub mod Steps
+pub mod Text
+pub mod Answers
+pub mod Frames
+pub mod Ruled
+pub mod Examples

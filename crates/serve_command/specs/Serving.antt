@@ -30,7 +30,7 @@
 -- It is one record, `IsServiceOf`, whose parts are these words. Profile.
 --
 --   the session                  IsServable                              session_input/specs/Deserved
---   the text, the status         serve_text, serve_status                server_summary/specs/Text
+--   the text, the status         serve_text, serve_status                serve_command/specs/Text
 --   the connections              HaveExchanged: IsServed, HasFaultsOf    session_serve/specs/Connections,
 --                                                                        hub_session/specs/Serving
 --   each answer, by its code     answer, reply_to                        hub_session/specs/Answers
@@ -38,27 +38,27 @@
 --   the lines of boards          lines_of, IsAddedUp                     session_serve/specs/Boards,
 --                                                                        client_history/specs/Shown
 --   each board and its link      IsServedOver: IsLiveRun, IsSilentRun,   client_history/specs/Boards,
---                                IsDownRun                               lane_history/specs/Runs
---   timeouts in those lines      TimeOutsWaited                          lane_history/specs/Runs
---   replies in those lines       RepliesCame                             lane_history/specs/Runs
+--                                IsDownRun                               board_history/specs/LinkRuns
+--   timeouts in those lines      TimeOutsWaited                          board_history/specs/LinkRuns
+--   replies in those lines       RepliesCame                             board_history/specs/LinkRuns
 --   lost packets in those lines  HasLostOnlyIfFailed                     client_history/specs/Shown
---   the numbers of answers       AllTellAnswers                          server_summary/specs/Answers
---   the frames for each board    OfEachBoard, OfEachWithCode             server_summary/specs/Frames
---   their places                 PlacesOfFramesRise,                     server_summary/specs/Frames
+--   the numbers of answers       AllTellAnswers                          serve_command/specs/Answers
+--   the frames for each board    OfEachBoard, OfEachWithCode             serve_command/specs/Frames
+--   their places                 PlacesOfFramesRise,                     serve_command/specs/Frames
 --                                PlacesOfFramesDiffer, IsPlaced
---   code 0: executed there       IsAnsweredRightly, IsReplyAt            server_summary/specs/Frames,
+--   code 0: executed there       IsAnsweredRightly, IsReplyAt            serve_command/specs/Frames,
 --                                                                        client_history/specs/Shown
---   code 0: over any link        IsAnsweredAsCarried,                    server_summary/specs/Frames,
---                                HasBroughtReply                         lane_history/specs/Receives
---   codes 1 and 2: the rounds    FramesGivenUpOnlyAfterRounds            server_summary/specs/Frames
---   code 3: the link failed      IsLostOnlyWithLink                      server_summary/specs/Frames
---   codes 4, 5, idle boards      HasUnaskedCodes                         server_summary/specs/Frames
---   codes 6 to 8: the rules      AreCodedByRules                         server_summary/specs/Ruled
+--   code 0: over any link        IsAnsweredAsCarried,                    serve_command/specs/Frames,
+--                                HasBroughtReply                         board_history/specs/Receives
+--   codes 1 and 2: the rounds    FramesGivenUpOnlyAfterRounds            serve_command/specs/Frames
+--   code 3: the link failed      IsLostOnlyWithLink                      serve_command/specs/Frames
+--   codes 4, 5, idle boards      HasUnaskedCodes                         serve_command/specs/Frames
+--   codes 6 to 8: the rules      AreCodedByRules                         serve_command/specs/Ruled
 --   code 8: filled before it     AreServed.filled_before:                session_serve/specs/Refusals
 --                                AreFilledBefore
 --   no lane beyond its limits    AreServed.limits: KeepLimits            client_history/specs/Planned
---   over a faithful link         IsFaithful, NoneIsGivenUpOrLost         lane_history/specs/Links,
---                                                                        server_summary/specs/Frames
+--   over a faithful link         IsFaithful, NoneIsGivenUpOrLost         board_history/specs/Links,
+--                                                                        serve_command/specs/Frames
 --   the pairs, at every status   GivesBack, AreBack                      ipb_outside/specs/Pairs,
 --                                                                        session_serve/specs/Serving
 --   the links, at every status   IsLinkedTo, below                       session_serve/specs/Boards
@@ -68,8 +68,8 @@ use Rattle.std.specs.Prelude.{◌≡◌, ℕ, ◌≤◌, List, [], ◌∷◌, le
 use Rattle.std.specs.List.{AllByRecursion}
 use Rattle.ipb_base.specs.Lists.{IsPrefix}
 use Rattle.ipb_outside.specs.Pairs.{PairReport}
-use Rattle.board_node.specs.declared.spec.BoardSpec.{BoardSpec}
-use Rattle.board_node.specs.declared.spec.LinkSpec.{LinkSpec}
+use Rattle.board_specs.specs.declared.spec.BoardSpec.{BoardSpec}
+use Rattle.board_specs.specs.declared.spec.LinkSpec.{LinkSpec}
 use Rattle.world_model.specs.Board.{bodies_executed}
 use Rattle.world_model.specs.Settings.{Limits}
 use Rattle.script_lang.specs.declared.session.Session.{Session}
@@ -77,9 +77,9 @@ use Rattle.transcript.specs.declared.line.BoardLine.{BoardLine}
 use Rattle.transcript.specs.Lines.{board_line}
 use Rattle.transcript.specs.Shown.{places_told}
 use Rattle.board_history.specs.Runs.{greeting_of, opens_with}
-use Rattle.lane_history.specs.Links.{LinkReport, IsFaithful, board_there}
+use Rattle.board_history.specs.Links.{LinkReport, IsFaithful, board_there}
 use Rattle.board_greeting.specs.Links.{link_specs}
-use Rattle.lane_history.specs.Runs.{RepliesCame, TimeOutsWaited}
+use Rattle.board_history.specs.LinkRuns.{RepliesCame, TimeOutsWaited}
 use Rattle.client_history.specs.Boards.{ServedBoard, run_of}
 use Rattle.client_history.specs.Shown.{HasLostOnlyIfFailed, IsAddedUp}
 use Rattle.hub_lane.specs.declared.answers.BoardState.{BoardState}
@@ -88,13 +88,13 @@ use Rattle.hub_session.specs.Codes.{replied_code, timed_out_code, unsent_code}
 use Rattle.session_serve.specs.Boards.{AreLinksTo, states_of}
 use Rattle.session_serve.specs.Connections.{Conversation}
 use Rattle.session_serve.specs.Serving.{AreServed, HadMemory}
-use Rattle.server_summary.specs.Answers.{AllTellAnswers, HasWrittenAll}
-use Rattle.server_summary.specs.Frames.{FramesGivenUpOnlyAfterRounds, HasLane, HasUnaskedCodes, IsAnsweredAsCarried}
-use Rattle.server_summary.specs.Frames.{IsAnsweredRightly}
-use Rattle.server_summary.specs.Frames.{IsLostOnlyWithLink, IsPlaced, NoneIsGivenUpOrLost, OfEachBoard, OfEachFrame}
-use Rattle.server_summary.specs.Frames.{OfEachWithCode, PlacesOfFramesDiffer, PlacesOfFramesRise, place_on}
-use Rattle.server_summary.specs.Ruled.{AreCodedByRules}
-use Rattle.server_summary.specs.Text.{serve_text, serve_status}
+use Rattle.serve_command.specs.Answers.{AllTellAnswers, HasWrittenAll}
+use Rattle.serve_command.specs.Frames.{FramesGivenUpOnlyAfterRounds, HasLane, HasUnaskedCodes, IsAnsweredAsCarried}
+use Rattle.serve_command.specs.Frames.{IsAnsweredRightly}
+use Rattle.serve_command.specs.Frames.{IsLostOnlyWithLink, IsPlaced, NoneIsGivenUpOrLost, OfEachBoard, OfEachFrame}
+use Rattle.serve_command.specs.Frames.{OfEachWithCode, PlacesOfFramesDiffer, PlacesOfFramesRise, place_on}
+use Rattle.serve_command.specs.Ruled.{AreCodedByRules}
+use Rattle.serve_command.specs.Text.{serve_text, serve_status}
 use Rattle.session_input.specs.Deserved.{IsServable}
 
 -- What follows for a board that was served, and its link:

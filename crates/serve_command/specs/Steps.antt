@@ -2,8 +2,8 @@
 -- these.
 use Rattle.std.specs.Prelude.{◌≡◌, ℕ, ◌<◌, ◌^◌, List, length, Result, Err, IfOk}
 use Rattle.std.specs.List.{AllByRecursion}
-use Rattle.board_node.specs.declared.spec.LinkSpec.{LinkSpec}
-use Rattle.lane_history.specs.Links.{IsUntouched}
+use Rattle.board_specs.specs.declared.spec.LinkSpec.{LinkSpec}
+use Rattle.board_history.specs.Links.{IsUntouched}
 use Rattle.board_greeting.specs.Links.{AreMadeFor}
 use Rattle.script_lang.specs.declared.session.Session.{Session}
 use Rattle.session_run.specs.Links.{CanBeReached}
@@ -13,7 +13,7 @@ use Rattle.session_serve.specs.declared.report.ServeFault.TheVariants.{Rack}
 use Rattle.session_serve.specs.Boards.{AreLinksTo}
 use Rattle.session_serve.specs.Serving.{AreBack, AreServed, HadMemory}
 use Rattle.hub_session.specs.declared.served.Served.{Served}
-use Rattle.server_summary.specs.Text.{serve_text, serve_status}
+use Rattle.serve_command.specs.Text.{serve_text, serve_status}
 use Rattle.command_terms.specs.declared.answer.Answer.{Answer}
 use Rattle.command_terms.specs.Outside.{GivenBack}
 

@@ -2,6 +2,13 @@
 
 ghost use Rattle.serve_command.specs.Below.{ServeLaws};
 
+use crate::summary_laws::{
+    board_lines_tell_the_numbers_of_answers, code_0_answers_what_the_link_brought,
+    code_0_answers_what_was_executed, code_3_answers_where_the_link_failed,
+    codes_1_and_2_answer_after_the_rounds, codes_for_which_the_hub_is_not_asked,
+    codes_tell_of_places, each_frame_has_a_place_of_its_own,
+    no_frame_is_given_up_or_lost_over_a_faithful_link, the_rules_of_planning_decide_of_codes,
+};
 use client_history::boards::{
     a_board_line_counts_the_bodies_of_its_connections,
     a_board_that_tells_executed_what_was_replied, a_board_waited_for_what_was_given_up,
@@ -9,13 +16,6 @@ use client_history::boards::{
     replies_of_a_served_board_came_over_its_link,
 };
 use script_lang::laws::a_session_keeps_its_limits;
-use server_summary::laws::{
-    board_lines_tell_the_numbers_of_answers, code_0_answers_what_the_link_brought,
-    code_0_answers_what_was_executed, code_3_answers_where_the_link_failed,
-    codes_1_and_2_answer_after_the_rounds, codes_for_which_the_hub_is_not_asked,
-    codes_tell_of_places, each_frame_has_a_place_of_its_own,
-    no_frame_is_given_up_or_lost_over_a_faithful_link, the_rules_of_planning_decide_of_codes,
-};
 
 /// What follows for the boards of a session that were served.
 pub(crate) fn serve_laws()

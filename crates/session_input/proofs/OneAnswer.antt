@@ -6,7 +6,7 @@ use Rattle.access_policy.specs.Decisions.{names_of, ruled_scripts}
 use Rattle.access_policy.specs.declared.policy.Rule.{Rule}
 use Rattle.board_bus.specs.declared.range.BusRefusal.{BusRefusal}
 use Rattle.board_bus.specs.Ranges.{refusal_of}
-use Rattle.board_node.specs.declared.spec.BoardSpec.{BoardSpec}
+use Rattle.board_specs.specs.declared.spec.BoardSpec.{BoardSpec}
 use Rattle.node_tree.specs.declared.refusal.CompileWhy.{CompileWhy}
 use Rattle.node_tree.specs.declared.refusal.CompileRefusal.TheVariants.{At}
 use Rattle.node_tree.specs.Maps.{Name, TableMap, RegisterMap}

@@ -8,7 +8,7 @@ ghost use Rattle.session_input.specs.Deserved as spec;
 
 use crate::refusal::{Refusal, Unread};
 use board_bus::{BusRefusal, Range, check_ranges};
-use board_node::{BoardSpec, LinkSpec};
+use board_specs::{BoardSpec, LinkSpec};
 use ipb_base::{NoMemory, Text};
 use node_tree::{CompileRefusal, Index, Tables, compile};
 use std::alloc::Global;

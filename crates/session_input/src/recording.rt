@@ -10,7 +10,7 @@ ghost use Rattle.session_input.specs.Recording as spec;
 
 use crate::reading::{Runnable, read, with_steps};
 use crate::refusal::{Refusal, Unread};
-use board_node::{BoardSpec, LinkSpec};
+use board_specs::{BoardSpec, LinkSpec};
 use ipb_base::Text;
 use script_lang::Session;
 use std::alloc::Global;

@@ -4,9 +4,9 @@ use Rattle.std.proofs.Common.{sym, ap, subst}
 use Rattle.std.specs.Prelude.{IfSome}
 use Rattle.std.specs.Option.{IsSomeAnd}
 use Rattle.ipb_base.specs.Numbers.{payload_of}
-use Rattle.world_core.specs.Telling.{Telling}
+use Rattle.links.specs.Telling.{Telling}
 use Rattle.world_model.specs.Settings.{Limits}
-use Rattle.board_node.specs.declared.spec.BoardSpec.{BoardSpec}
+use Rattle.board_specs.specs.declared.spec.BoardSpec.{BoardSpec}
 use Rattle.script_steps.specs.declared.operation.Step.{Step}
 use Rattle.script_plans.specs.declared.board_run.ClientPart.{ClientPart}
 use Rattle.script_plans.specs.declared.board_run.BoardRun.{BoardRun}
@@ -14,9 +14,9 @@ use Rattle.script_plans.specs.declared.greeting.Greeting.{Greeting}
 use Rattle.script_plans.specs.declared.greeting.Greeting.TheVariants.{Live}
 use Rattle.script_plans.specs.Plan.{plans_on}
 use Rattle.board_history.specs.History.{lates_by_client, outcomes_by_client}
-use Rattle.lane_history.specs.Lates.{lates_of}
-use Rattle.lane_history.specs.Runs.{ShowsScripts}
-use Rattle.lane_history.proofs.Shown.{at_some}
+use Rattle.board_history.specs.Lates.{lates_of}
+use Rattle.board_history.specs.LinkRuns.{ShowsScripts}
+use Rattle.board_history.proofs.LaneShown.{at_some}
 use Rattle.hub_lane.specs.Lanes.{LaneState}
 use Rattle.board_greeting.specs.Boards.{IsLaneTo}
 use Rattle.session_run.specs.Boards.{IsNamed}

@@ -9,7 +9,7 @@ use Rattle.ipb_base.specs.Lists.{IsPrefix}
 use Rattle.ipb_base.specs.Numbers.{payload_of}
 use Rattle.turn_pass.specs.Pass.{Joined, Knowledge, first_knowledge}
 use Rattle.turn_pass.specs.Record.{Record}
-use Rattle.world_core.specs.Telling.{Telling}
+use Rattle.links.specs.Telling.{Telling}
 use Rattle.world_model.specs.Settings.{Limits}
 use Rattle.lane_record.specs.declared.outcome.Outcome.{Outcome}
 use Rattle.lane_record.specs.declared.item.Item.{Item}
@@ -28,7 +28,7 @@ use Rattle.board_history.specs.Runs.{parts_with}
 use Rattle.script_plans.specs.declared.board_run.ClientPart.{ClientPart}
 use Rattle.script_plans.specs.declared.greeting.Greeting.TheVariants.{Live}
 use Rattle.script_plans.specs.Plan.{ClientBodies, planned_on, plans_on}
-use Rattle.lane_history.specs.Records.{IsPartlyPlanned}
+use Rattle.board_history.specs.Records.{IsPartlyPlanned}
 use Rattle.client_history.specs.Clients.{AskAll, LeftByClients, came_with, sealed_plans}
 use Rattle.session_run.specs.Parts.{HasLanes, outcomes_on_lane, parts_from}
 use Rattle.session_run.specs.Plans.{AskAllFrom, counts_by_client}

@@ -3,9 +3,9 @@ use Rattle.std.proofs.Common.{◌≡◌, ℕ, ◌∙◌, List, [], ◌∷◌, le
 use Rattle.std.specs.Prelude.{IfOk, IfSome, Result, Ok, Err}
 use Rattle.std.specs.List.{AllByRecursion}
 use Rattle.ipb_base.proofs.AllLemmas.{all-map}
-use Rattle.world_core.specs.Telling.{Telling}
+use Rattle.links.specs.Telling.{Telling}
 use Rattle.world_model.specs.Settings.{Limits}
-use Rattle.board_node.specs.declared.spec.BoardSpec.{BoardSpec}
+use Rattle.board_specs.specs.declared.spec.BoardSpec.{BoardSpec}
 use Rattle.lane_record.specs.declared.outcome.Outcome.{Outcome}
 use Rattle.script_steps.specs.declared.operation.Step.{Step}
 use Rattle.script_plans.specs.declared.board_run.ClientPart.{ClientPart}
@@ -13,9 +13,9 @@ use Rattle.script_plans.specs.declared.board_run.BoardRun.{BoardRun}
 use Rattle.script_plans.specs.declared.greeting.Greeting.{Greeting}
 use Rattle.script_plans.specs.declared.greeting.Greeting.TheVariants.{Live, Silent, Down}
 use Rattle.script_plans.specs.Plan.{plans_on}
-use Rattle.lane_history.specs.Lates.{AreLateExactly, AreLateOnlyIfTimedOut}
-use Rattle.lane_history.specs.Links.{LinkReport}
-use Rattle.lane_history.specs.Runs.{IsAsTold, IsRunOver, ShowsLates, ShowsScripts}
+use Rattle.board_history.specs.Lates.{AreLateExactly, AreLateOnlyIfTimedOut}
+use Rattle.board_history.specs.Links.{LinkReport}
+use Rattle.board_history.specs.LinkRuns.{IsAsTold, IsRunOver, ShowsLates, ShowsScripts}
 use Rattle.board_greeting.specs.Places.{IsIdleAs, IsIdleBoard}
 use Rattle.session_run.proofs.DispatchParts.{plan_in_part}
 

@@ -1,13 +1,13 @@
 -- The run of a lane's clients.
 use Rattle.std.proofs.Common.{◌≡◌, ℕ, ◌∙◌, List, [], ◌∷◌, length, map, refl, ap}
 use Rattle.std.specs.List.{AllByRecursion}
-use Rattle.board_node.specs.declared.spec.BoardSpec.{BoardSpec}
+use Rattle.board_specs.specs.declared.spec.BoardSpec.{BoardSpec}
 use Rattle.lane_record.specs.declared.outcome.Outcome.{Outcome}
 use Rattle.script_steps.specs.declared.operation.Step.{Step}
 use Rattle.script_plans.specs.declared.board_run.ClientPart.{ClientPart}
 use Rattle.script_plans.specs.declared.board_run.BoardRun.{BoardRun}
 use Rattle.script_plans.specs.Plan.{plans_on}
-use Rattle.lane_history.specs.Runs.{ShowsScripts}
+use Rattle.board_history.specs.LinkRuns.{ShowsScripts}
 use Rattle.session_run.specs.Clients.{IsWholePart}
 use Rattle.session_run.proofs.DispatchParts.{plan_in_part}
 

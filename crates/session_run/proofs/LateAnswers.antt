@@ -6,8 +6,8 @@ use Rattle.lane_record.specs.declared.outcome.Outcome.{Outcome}
 use Rattle.script_steps.specs.declared.operation.Step.{Step}
 use Rattle.script_plans.specs.declared.board_run.ClientPart.{ClientPart}
 use Rattle.board_history.specs.History.{dispatches_of}
-use Rattle.lane_history.specs.Lates.{late_for, lates_of}
-use Rattle.lane_history.specs.Records.{IsClientsRecord}
+use Rattle.board_history.specs.Lates.{late_for, lates_of}
+use Rattle.board_history.specs.Records.{IsClientsRecord}
 use Rattle.hub_lane.specs.Lanes.{LaneState}
 use Rattle.session_run.specs.Clients.{IsWholePart}
 use Rattle.session_run.specs.Lanes.{IsRunOn}

@@ -8,17 +8,17 @@ use Rattle.world_model.specs.Facts.{IsStart, bodies_of}
 use Rattle.world_model.specs.Hub.{Hub, new_hub, none_handed_out}
 use Rattle.world_model.specs.Settings.{Limits}
 use Rattle.world_model.specs.World.{start}
-use Rattle.world_core.specs.States.{IsReached}
-use Rattle.world_core.specs.Telling.{Telling}
-use Rattle.board_node.specs.declared.spec.BoardSpec.{BoardSpec}
+use Rattle.links.specs.States.{IsReached}
+use Rattle.links.specs.Telling.{Telling}
+use Rattle.board_specs.specs.declared.spec.BoardSpec.{BoardSpec}
 use Rattle.lane_record.specs.declared.outcome.Outcome.{Outcome}
 use Rattle.lane_record.specs.Lates.{late_in}
 use Rattle.script_steps.specs.declared.operation.Step.{Step}
 use Rattle.hub_lane.specs.Greeting.{CanBegin}
 use Rattle.hub_lane.specs.Standing.{IsStanding}
 use Rattle.hub_lane.specs.Truth.{IsTrueTo}
-use Rattle.lane_history.specs.Links.{board_there}
-use Rattle.lane_history.specs.Runs.{IsMergeOfAsked}
+use Rattle.board_history.specs.Links.{board_there}
+use Rattle.board_history.specs.LinkRuns.{IsMergeOfAsked}
 use Rattle.session_run.specs.Links.{HasStood}
 
 -- ---- a link on which nothing but a greeting was sent

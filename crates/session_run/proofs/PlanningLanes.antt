@@ -6,7 +6,7 @@ use Rattle.std.specs.List.{AllByRecursion}
 use Rattle.std.proofs.lemmas.List.{drop_all, drop_more, length-drop, length-map, set_at, take-append-drop, take_all}
 use Rattle.std.proofs.lemmas.List.{take_more}
 use Rattle.ipb_base.specs.Numbers.{payload_of}
-use Rattle.world_core.specs.Telling.{Telling}
+use Rattle.links.specs.Telling.{Telling}
 use Rattle.world_model.specs.Board.{Board}
 use Rattle.board_bus.specs.Cells.{CellMap}
 use Rattle.hub_lane.specs.Lanes.{LaneState, board_of, opening_of}
@@ -16,7 +16,7 @@ use Rattle.script_plans.specs.Plan.{ClientBodies, planned_on}
 use Rattle.session_run.specs.Parts.{HasClients}
 use Rattle.session_run.specs.Plans.{ArePlansOnBoard, HasFewBodies}
 use Rattle.session_run.proofs.PartLists.{get_behind}
-use Rattle.lane_history.specs.Records.{IsPartlyPlanned}
+use Rattle.board_history.specs.Records.{IsPartlyPlanned}
 use Rattle.session_run.specs.Clients.{KeepsLane, bodies_of_plans}
 use Rattle.board_greeting.specs.Boards.{HasNoEntry, head_shown}
 use Rattle.session_run.specs.Lanes.{AllFour, AllThree, HasGoneOn, IsPlannedOn, plans_over}

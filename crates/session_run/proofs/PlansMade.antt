@@ -18,7 +18,7 @@ use Rattle.script_plans.specs.declared.greeting.Greeting.{Greeting}
 use Rattle.script_plans.specs.Plan.{ClientBodies, planned_on, plans_on}
 use Rattle.lane_record.specs.Dispatches.{all_plans_from, plans_from}
 use Rattle.board_history.proofs.Lists.{begins_at}
-use Rattle.lane_history.specs.Records.{IsPartlyPlanned}
+use Rattle.board_history.specs.Records.{IsPartlyPlanned}
 use Rattle.session_run.specs.Clients.{PlannedSome, bodies_of_plans, with_items}
 
 -- ---- what Plans are

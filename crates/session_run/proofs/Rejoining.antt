@@ -3,10 +3,10 @@ use Rattle.std.proofs.Common.{◌≡◌, ◌∙◌, ◌⊎◌, inl, inr, ℕ, su
 use Rattle.std.proofs.Common.{refl, sym, ap, subst, arith}
 use Rattle.std.specs.List.{AllByRecursion}
 use Rattle.ipb_base.specs.Numbers.{payload_of}
-use Rattle.world_core.specs.declared.link.Link.{Ghosts}
-use Rattle.world_core.specs.Telling.{Telling}
+use Rattle.links.specs.declared.link.Link.{Ghosts}
+use Rattle.links.specs.Telling.{Telling}
 use Rattle.world_model.specs.Settings.{Limits}
-use Rattle.board_node.specs.declared.spec.BoardSpec.{BoardSpec}
+use Rattle.board_specs.specs.declared.spec.BoardSpec.{BoardSpec}
 use Rattle.lane_record.specs.Coding.{Head}
 use Rattle.script_steps.specs.declared.operation.Step.{Step}
 use Rattle.hub_lane.specs.Lanes.{BoardStatus, LaneState}
@@ -15,8 +15,8 @@ use Rattle.hub_lane.specs.declared.greeting.Greeted.TheVariants.{Ready, Silent, 
 use Rattle.script_plans.specs.declared.greeting.Greeting.TheVariants as greeting
 use Rattle.script_plans.specs.declared.board_run.ClientPart.{ClientPart}
 use Rattle.script_plans.specs.Plan.{plans_on}
-use Rattle.lane_history.specs.Links.{LinkReport}
-use Rattle.lane_history.specs.Records.{IsPartlyPlanned}
+use Rattle.board_history.specs.Links.{LinkReport}
+use Rattle.board_history.specs.Records.{IsPartlyPlanned}
 use Rattle.board_greeting.specs.Boards.{AreReached, HasMemory, IsReached}
 use Rattle.board_greeting.specs.Reports.{shown_by}
 use Rattle.session_run.specs.Clients.{bodies_of_plans}

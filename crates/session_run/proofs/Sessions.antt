@@ -7,14 +7,14 @@ use Rattle.std.specs.List.{AllByRecursion}
 use Rattle.std.proofs.lemmas.List.{length-drop, length-map, length-take-le, map_push, take_more}
 use Rattle.world_model.specs.Settings.{Limits}
 use Rattle.ipb_outside.specs.Faults.{RisesExactlyIf}
-use Rattle.lossy_network.specs.declared.rack.RackFault.{RackFault}
-use Rattle.lossy_network.specs.declared.rack.RackFault.TheVariants as rack
-use Rattle.board_node.specs.declared.spec.BoardSpec.{BoardSpec}
+use Rattle.links.specs.declared.rack.RackFault.{RackFault}
+use Rattle.links.specs.declared.rack.RackFault.TheVariants as rack
+use Rattle.board_specs.specs.declared.spec.BoardSpec.{BoardSpec}
 use Rattle.script_steps.specs.declared.operation.Step.{Step}
 use Rattle.script_plans.specs.declared.board_run.BoardRun.{BoardRun}
 use Rattle.script_plans.specs.declared.board_run.ClientPart.{ClientPart}
-use Rattle.lane_history.specs.Links.{IsUntouched, LinkReport}
-use Rattle.lane_history.specs.Runs.{AreRunsOver, IsRunOver}
+use Rattle.board_history.specs.Links.{IsUntouched, LinkReport}
+use Rattle.board_history.specs.LinkRuns.{AreRunsOver, IsRunOver}
 use Rattle.board_greeting.specs.Boards.{AreFreshLinks, LeavesRoom, IsFreshLink}
 use Rattle.session_run.specs.Boards.{OnRun}
 use Rattle.session_run.specs.Places.{AreCameOf, IsCameOf}

@@ -1,7 +1,7 @@
 -- What is planned on a lane for the clients of a session, and their parts. Profile.
 use Rattle.std.specs.Prelude.{◌≡◌, ℕ, List, ◌++◌, length, map, sum, Option}
 use Rattle.ipb_base.specs.Lists.{IsPrefix}
-use Rattle.world_core.specs.Telling.{Telling}
+use Rattle.links.specs.Telling.{Telling}
 use Rattle.lane_record.specs.declared.item.Item.{Item}
 use Rattle.lane_record.specs.Dispatches.{outcomes_in_order, plans_from}
 use Rattle.hub_lane.specs.Lanes.{LaneState, board_of}

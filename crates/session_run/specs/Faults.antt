@@ -1,6 +1,6 @@
 -- Why a session has no runs, by what its rack answers, and which of these faults come of boards. Profile.
-use Rattle.lossy_network.specs.declared.rack.RackFault.{RackFault}
-use Rattle.lossy_network.specs.declared.rack.RackFault.TheVariants as rack
+use Rattle.links.specs.declared.rack.RackFault.{RackFault}
+use Rattle.links.specs.declared.rack.RackFault.TheVariants as rack
 use Rattle.session_run.specs.declared.session.RunFault.{RunFault}
 use Rattle.session_run.specs.declared.session.RunFault.TheVariants as run
 

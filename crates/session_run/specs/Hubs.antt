@@ -1,6 +1,6 @@
 -- What clients at a hub did to its lanes. What private functions promise one another; no public clause speaks of these.
 use Rattle.std.specs.Prelude.{◌≡◌, ◌⊎◌, ℕ, List, map, Option}
-use Rattle.world_core.specs.Telling.{Telling}
+use Rattle.links.specs.Telling.{Telling}
 use Rattle.turn_pass.specs.Pass.{first_knowledge}
 use Rattle.hub_lane.specs.Lanes.{LaneState}
 use Rattle.hub_multiplexer.specs.Ends.{AreEnded}

@@ -3,9 +3,9 @@
 use Rattle.std.specs.Prelude.{◌≡◌, ℕ, List, [], ◌∷◌, map, Option}
 use Rattle.std.specs.List.{AllByRecursion}
 use Rattle.ipb_base.specs.Numbers.{payload_of}
-use Rattle.world_core.specs.Telling.{Telling}
+use Rattle.links.specs.Telling.{Telling}
 use Rattle.world_model.specs.Settings.{Limits}
-use Rattle.board_node.specs.declared.spec.BoardSpec.{BoardSpec}
+use Rattle.board_specs.specs.declared.spec.BoardSpec.{BoardSpec}
 use Rattle.script_steps.specs.declared.operation.Step.{Step}
 use Rattle.hub_lane.specs.Lanes.{LaneState, opening_of}
 use Rattle.client_history.specs.Clients.{sealed_plans}
@@ -13,7 +13,7 @@ use Rattle.script_plans.specs.declared.greeting.Greeting.TheVariants.{Live}
 use Rattle.script_plans.specs.declared.board_run.ClientPart.{ClientPart}
 use Rattle.script_plans.specs.Plan.{ClientBodies, plans_on}
 use Rattle.board_history.specs.History.{dispatches_of}
-use Rattle.lane_history.specs.Records.{IsClientsRecord, IsPartlyPlanned}
+use Rattle.board_history.specs.Records.{IsClientsRecord, IsPartlyPlanned}
 use Rattle.session_run.specs.Plans.{HasFewBodies}
 use Rattle.board_greeting.specs.Boards.{IsKnownAs, head_shown}
 use Rattle.session_run.specs.Clients.{IsWholePart, bodies_of_plans, with_items}

@@ -3,13 +3,13 @@ use Rattle.std.specs.Prelude.{ℕ, ◌+◌, Bool, List, [], ◌∷◌, Option, I
 use Rattle.world_model.specs.Facts.{bodies_of}
 use Rattle.world_model.specs.Hub.{Hub}
 use Rattle.world_model.specs.Settings.{Limits}
-use Rattle.world_core.specs.Telling.{Telling}
-use Rattle.board_node.specs.declared.spec.BoardSpec.{BoardSpec}
+use Rattle.links.specs.Telling.{Telling}
+use Rattle.board_specs.specs.declared.spec.BoardSpec.{BoardSpec}
 use Rattle.lane_record.specs.declared.outcome.Outcome.{Outcome}
 use Rattle.script_steps.specs.declared.operation.Step.{Step}
 use Rattle.hub_lane.specs.Standing.{IsStanding}
-use Rattle.lane_history.specs.Links.{IsBoardOf, LinkReport, board_there}
-use Rattle.lane_history.specs.Runs.{IsMergeOfAsked}
+use Rattle.board_history.specs.Links.{IsBoardOf, LinkReport, board_there}
+use Rattle.board_history.specs.LinkRuns.{IsMergeOfAsked}
 pub use Rattle.board_greeting.specs.Links.{AreMadeFor, CanBeReached, Keeps, link_specs}
 
 -- How a hub stood to a link that tells this when the session let go of it: both are a state of a run of the world, also

@@ -4,7 +4,7 @@ use Rattle.std.specs.List.{slice_index_or}
 use Rattle.lane_record.specs.declared.outcome.Outcome.{Outcome}
 use Rattle.client_threads.specs.declared.result.ClientResult.{ClientResult}
 use Rattle.board_history.specs.Runs.{parts_with}
-use Rattle.lane_history.specs.Lates.{lates_of}
+use Rattle.board_history.specs.Lates.{lates_of}
 use Rattle.script_plans.specs.declared.board_run.ClientPart.{ClientPart}
 use Rattle.script_plans.specs.Plan.{ClientBodies}
 

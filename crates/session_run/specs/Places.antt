@@ -1,10 +1,10 @@
 -- What came of each board of a session. What private functions promise one another; no public clause speaks of these.
 use Rattle.std.specs.Prelude.{ℕ, ◌+◌, List, [], ◌∷◌, IfSome}
 use Rattle.world_model.specs.Settings.{Limits}
-use Rattle.board_node.specs.declared.spec.BoardSpec.{BoardSpec}
+use Rattle.board_specs.specs.declared.spec.BoardSpec.{BoardSpec}
 use Rattle.script_steps.specs.declared.operation.Step.{Step}
 use Rattle.script_plans.specs.declared.board_run.ClientPart.{ClientPart}
-use Rattle.lane_history.specs.Links.{LinkReport}
+use Rattle.board_history.specs.Links.{LinkReport}
 use Rattle.board_greeting.specs.Places.{IsIdleBoard}
 use Rattle.board_greeting.specs.declared.rejoined.Board.{Board}
 use Rattle.board_greeting.specs.declared.rejoined.Board.TheVariants as board

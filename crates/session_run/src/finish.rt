@@ -3,8 +3,8 @@
 ghost use Rattle.std.specs.Prelude.{◌≡◌, ◌<◌, ◌^◌, ◌++◌, ◌∷◌, [], true, length, IfOk, IfSome};
 ghost use Rattle.std.specs.List.{AllByRecursion};
 ghost use Rattle.script_steps.specs.Packing.{CanBePacked, HaveFewPieces};
-ghost use Rattle.lane_history.specs.Links.{LinkReport};
-ghost use Rattle.lane_history.specs.Runs.{AreRunsOver, IsRunOver, ShowsLates, ShowsScripts};
+ghost use Rattle.board_history.specs.Links.{LinkReport};
+ghost use Rattle.board_history.specs.LinkRuns.{AreRunsOver, IsRunOver, ShowsLates, ShowsScripts};
 ghost use Rattle.board_greeting.specs.Boards.{HasRoom, IsIdle};
 ghost use Rattle.board_greeting.specs.Reports.{shown_by};
 ghost use Rattle.session_run.specs.Boards.{IsNamed, OnRun};
@@ -15,17 +15,16 @@ ghost use Rattle.session_run.specs.Places.{AreCameOf, IsCameOf};
 use crate::late_answers::with_late_answers;
 use crate::laws::a_fresh_link_is_left;
 use board_greeting::{Board, Rejoined, close_lane};
-use board_node::BoardSpec;
+use board_history::records::{a_finished_lane_is_a_live_run, a_lane_sends_a_merge_at_any_moment};
+use board_specs::BoardSpec;
 use hub_lane::Lane;
 use ipb_base::{NoMemory, Text};
-use lane_history::records::{a_finished_lane_is_a_live_run, a_lane_sends_a_merge_at_any_moment};
 use lane_record::Outcomes;
-use lossy_network::Rack;
+use links::{Link, Rack};
 use reliable_engine::Settings;
 use script_plans::{BoardRun, ClientPart, ClientParts, Greeting, Lates, plan_on};
 use script_steps::Steps;
 use std::alloc::Global;
-use world_core::Link;
 
 /// The run of a board under its name, where it has parts.
 fn named(

@@ -11,11 +11,11 @@ use client_threads::{ClientPlan, ClientResult, Gate, run_clients};
 use hub_lane::Lane;
 use hub_multiplexer::Hub;
 use ipb_base::NoMemory;
+use links::Link;
 use std::alloc::Global;
 use std::marker::{Send, Sync};
 use std::sync::Wait;
 use std::thread::Threads;
-use world_core::Link;
 
 /// Runs clients who are planned on the lanes, each in a thread of its own, and hands the lanes back.
 pub(crate) fn run_at_hub<L: Link + Send + Drop, T: Threads + Wait + Sync, G: Gate>(

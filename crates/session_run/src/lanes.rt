@@ -14,6 +14,7 @@ use crate::board_plans::BoardPlans;
 use crate::hub::run_at_hub;
 use crate::parts::client_parts;
 use crate::planning::plan_clients;
+use board_history::building::a_record_is_partly_planned_on_its_way;
 use client_history::clients::{
     a_hub_left_at_any_moment_is_partly_planned, a_lane_comes_back_with_its_record,
     clients_of_a_hub_leave_a_clients_record,
@@ -22,14 +23,13 @@ use client_threads::{ClientPlan, ClientResult, Gate};
 use hub_lane::Lane;
 use hub_lane::laws::a_record_tells_its_lane;
 use ipb_base::NoMemory;
-use lane_history::building::a_record_is_partly_planned_on_its_way;
+use links::Link;
 use script_plans::ClientParts;
 use script_steps::Steps;
 use std::alloc::Global;
 use std::marker::{Send, Sync};
 use std::sync::Wait;
 use std::thread::Threads;
-use world_core::Link;
 
 /// Plans the clients on each lane, whose board has the position beside it.
 fn plan_lanes<L: Link>(

@@ -3,15 +3,15 @@
 ghost use Rattle.std.specs.Prelude.{◌≡◌, None, Some, map, is_some, IfOk, IfSome, MatchOption, OnOk};
 ghost use Rattle.std.specs.List.{list_any};
 ghost use Rattle.std.specs.Option.{IsSomeAnd};
-ghost use Rattle.lane_history.specs.Lates.{late_for, lates_of};
+ghost use Rattle.board_history.specs.Lates.{late_for, lates_of};
 ghost use Rattle.session_run.specs.Parts.{with_lates};
 
 use hub_lane::Lane;
 use ipb_base::{NoMemory, Words};
 use lane_record::Outcome;
+use links::Link;
 use script_plans::{ClientPart, ClientParts, Lates};
 use std::alloc::Global;
-use world_core::Link;
 
 /// What came late for a body of which this became: only one that was timed out has a late answer.
 fn late_answer<'a, L: Link>(lane: &'a Lane<L>, outcome: &Outcome) -> Option<&'a [u32]>
@@ -116,7 +116,7 @@ fn complete_parts<L: Link>(
     Ok(ClientParts::from_vec(parts))
 }
 
-/// The same where there are parts, and memory for what came late.
+/// Puts late answers into the parts of a client, where there is memory for them.
 pub(crate) fn with_late_answers<L: Link>(
     alloc: Global,
     lane: &Lane<L>,

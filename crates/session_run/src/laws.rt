@@ -3,16 +3,16 @@
 ghost use Rattle.std.specs.Prelude.{ℕ, List, IfSome};
 ghost use Rattle.world_model.specs.Board.{bodies_executed};
 ghost use Rattle.world_model.specs.Settings.{Limits};
-ghost use Rattle.board_node.specs.declared.spec.BoardSpec.{BoardSpec};
+ghost use Rattle.board_specs.specs.declared.spec.BoardSpec.{BoardSpec};
 ghost use Rattle.script_steps.specs.declared.operation.Step.{Step};
-ghost use Rattle.lane_history.specs.Links.{LinkReport, board_there};
-ghost use Rattle.lane_history.specs.Runs.{IsMergeOfAsked};
+ghost use Rattle.board_history.specs.Links.{LinkReport, board_there};
+ghost use Rattle.board_history.specs.LinkRuns.{IsMergeOfAsked};
 ghost use Rattle.board_greeting.specs.Boards.{IsFreshLink};
 ghost use Rattle.session_run.specs.Links.{IsLeft};
 
+use board_history::records::a_lane_sends_a_merge_at_any_moment;
 use hub_lane::laws::a_lane_over_a_link_that_tells_is_true;
-use lane_history::records::a_lane_sends_a_merge_at_any_moment;
-use world_core::laws::each_event_leads_to_a_state_of_a_run;
+use links::laws::each_event_leads_to_a_state_of_a_run;
 
 /// The board of a link that a session leaves, whatever came of it, executed a merge of bodies that the scripts ask of
 /// it, each client's in its order.

@@ -2,7 +2,7 @@
 //! thread of its own, whatever the links lose, repeat, delay or reorder.
 //!
 //! What each client asks of the lanes of a hub follows from what it has planned on each board (`client_plans`), and its
-//! part on each board from what became of that (`client_parts`). What a run shows is `AreRunsOver` of `lane_history`.
+//! part on each board from what became of that (`client_parts`). What a run shows is `AreRunsOver` of `board_history`.
 //! The definitions that contracts cite are in `specs/`.
 #![tactic(auto)]
 

@@ -9,21 +9,23 @@ ghost use Rattle.lane_record.specs.NextEntry.{the_seal};
 ghost use Rattle.script_plans.specs.declared.greeting.Greeting.TheVariants.{Live};
 ghost use Rattle.script_plans.specs.Plan.{plans_on};
 ghost use Rattle.lane_record.specs.Dispatches.{all_plans_from, plans_from};
-ghost use Rattle.lane_history.specs.Records.{IsPartlyPlanned};
+ghost use Rattle.board_history.specs.Records.{IsPartlyPlanned};
 ghost use Rattle.session_run.specs.Scripts.{CanBeRun};
 ghost use Rattle.session_run.specs.Plans.{HasFewBodies};
 ghost use Rattle.session_run.specs.Clients.{KeepsLane, PlannedSome, bodies_of_plans, with_items};
 ghost use Rattle.session_run.specs.Room.{HasRoomFor};
 
+use board_history::building::{
+    a_record_is_partly_planned_on_its_way, one_more_entry_stands_behind,
+};
 use hub_lane::{Lane, PlanRefusal};
 use ipb_base::{NoMemory, Words};
-use lane_history::building::{a_record_is_partly_planned_on_its_way, one_more_entry_stands_behind};
+use links::Link;
 use script_plans::laws::plans_are_short;
 use script_plans::{Greeting, Planned, plan_on};
 use script_steps::Steps;
 use std::alloc::Global;
 use transaction_codec::reply_room;
-use world_core::Link;
 
 /// Plans one body of a client. The lane has room for it.
 #[tactic(auto, using(crate::proofs::RoomLeft::not_full))]

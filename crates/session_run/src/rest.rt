@@ -25,7 +25,7 @@ impl Model for RestOutcomes {
 }
 
 impl RestOutcomes {
-    /// Those of all lanes.
+    /// The outcomes of a client on all lanes, of which none is taken yet.
     pub(crate) fn of(client: ClientResult) -> RestOutcomes
         ensures { result ≡ client.lanes }
     {
@@ -34,7 +34,7 @@ impl RestOutcomes {
         }
     }
 
-    /// Those on the next lane.
+    /// Takes the outcomes of the client on the next lane.
     pub(crate) fn next(&mut self) -> Outcomes
         requires { HasNext self.old }
         ensures { self.old ≡ result ∷ self.new }

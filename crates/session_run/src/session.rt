@@ -3,8 +3,8 @@
 ghost use Rattle.std.specs.Prelude.{◌≡◌, ◌^◌, ◌<◌, [], length, Err, IfOk, OnErr};
 ghost use Rattle.std.specs.List.{AllByRecursion};
 ghost use Rattle.ipb_outside.specs.Faults.{RisesExactlyIf};
-ghost use Rattle.lane_history.specs.Links.{IsUntouched};
-ghost use Rattle.lane_history.specs.Runs.{AreRunsOver};
+ghost use Rattle.board_history.specs.Links.{IsUntouched};
+ghost use Rattle.board_history.specs.LinkRuns.{AreRunsOver};
 ghost use Rattle.board_greeting.specs.Boards.{AreReached, HasMemory, HasRoom};
 ghost use Rattle.board_greeting.specs.Reports.{shown_by};
 ghost use Rattle.board_greeting.specs.Places.{IsSplitOf};
@@ -15,11 +15,11 @@ use crate::finish::finish_boards;
 use crate::lanes::run_lanes;
 use crate::laws::a_fresh_link_is_left;
 use board_greeting::{Rejoined, Split, greet_boards, keep_all, split_boards};
-use board_node::BoardSpec;
+use board_specs::BoardSpec;
 use client_threads::Gate;
 use hub_lane::Greeted;
 use ipb_base::NoMemory;
-use lossy_network::{Rack, RackFault};
+use links::{Rack, RackFault};
 use reliable_engine::Settings;
 use script_plans::{BoardRun, ClientParts};
 use script_steps::Steps;
@@ -33,7 +33,7 @@ use std::thread::Threads;
 pub enum RunFault {
     /// A link could not be made. The rack counted it.
     Rack,
-    /// Memory ran out.
+    /// Memory ran out while the session ran.
     NoMemory,
 }
 

@@ -11,7 +11,7 @@ use Rattle.ipb_base.specs.Numbers.{payload_of}
 use Rattle.turn_pass.specs.Pass.{Joined, Knowledge, Stands, TurnId, first_knowledge, kept_of}
 use Rattle.turn_pass.specs.Record.{Begins, Record}
 use Rattle.ipb_outside.specs.Pairs.{PairReport}
-use Rattle.world_core.specs.Telling.{Telling}
+use Rattle.links.specs.Telling.{Telling}
 use Rattle.world_model.specs.Settings.{Limits}
 use Rattle.lane_record.specs.declared.item.Item.{Item}
 use Rattle.lane_record.specs.Coding.{Head, item_from, record_of}

@@ -8,10 +8,10 @@ use Rattle.std.proofs.lemmas.Bool.{eq-eqb, eqb-true}
 use Rattle.std.proofs.lemmas.Option.{same_Some}
 use Rattle.ipb_outside.specs.Pairs.{PairReport}
 use Rattle.packet_codec.specs.declared.packet.Packet.{Packet}
-use Rattle.world_core.specs.declared.link.Link.{Ghosts}
+use Rattle.links.specs.declared.link.Link.{Ghosts}
 use Rattle.world_model.specs.Board.{Board, bodies_executed}
 use Rattle.world_model.specs.Settings.{Limits}
-use Rattle.board_node.specs.declared.spec.BoardSpec.{BoardSpec}
+use Rattle.board_specs.specs.declared.spec.BoardSpec.{BoardSpec}
 use Rattle.lane_record.specs.declared.item.Item.{Item}
 use Rattle.lane_record.specs.declared.outcome.Outcome.{Outcome}
 use Rattle.lane_record.specs.Claims.{claims}
@@ -19,9 +19,9 @@ use Rattle.board_history.specs.Merges.{AreSubsequences, IsMergeOfSome, IsOfClien
 use Rattle.board_history.specs.Merges.{bodies_owned}
 use Rattle.ipb_base.specs.Numbers.{payload_of}
 use Rattle.board_history.specs.Runs.{opens_with}
-use Rattle.lane_history.specs.Lanes.{IsSoundLane, IsTrueOf}
-use Rattle.lane_history.specs.Links.{IsUntouched, LinkReport, board_there}
-use Rattle.lane_history.proofs.Told.{some_then}
+use Rattle.board_history.specs.Lanes.{IsSoundLane, IsTrueOf}
+use Rattle.board_history.specs.Links.{IsUntouched, LinkReport, board_there}
+use Rattle.board_history.proofs.Told.{some_then}
 use Rattle.hub_framing.specs.Frames.{RequestFrame}
 use Rattle.hub_lane.specs.Greeting.{link_of}
 use Rattle.hub_lane.specs.Lanes.{LaneState}

@@ -3,7 +3,7 @@ use Rattle.std.proofs.Common.{◌≡◌, ◌∙◌, ℕ, List, [], ◌∷◌, �
 use Rattle.std.proofs.Common.{append_assoc, append-nil}
 use Rattle.std.specs.List.{AllByRecursion}
 use Rattle.std.proofs.lemmas.List.{nil_from_length}
-use Rattle.world_core.specs.declared.link.Link.{Ghosts}
+use Rattle.links.specs.declared.link.Link.{Ghosts}
 use Rattle.transcript.specs.declared.line.BoardLine.{BoardLine}
 use Rattle.board_greeting.specs.declared.rejoined.Board.{Board}
 use Rattle.session_serve.specs.Finish.{IsSound, line_in, lines_in, link_in}

@@ -8,14 +8,14 @@ use Rattle.ipb_base.proofs.AllLemmas.{AllByRecursion-append, back_of_all, front_
 use Rattle.turn_pass.specs.Record.{made_by}
 use Rattle.turn_pass.specs.Pass.{Joined, Knowledge, TurnId, first_knowledge, kept_of}
 use Rattle.ipb_outside.specs.Pairs.{PairReport}
-use Rattle.world_core.specs.Telling.{Telling}
+use Rattle.links.specs.Telling.{Telling}
 use Rattle.lane_record.specs.declared.item.Item.{Item}
 use Rattle.lane_record.specs.Coding.{item_from, as_recorded}
 use Rattle.lane_record.specs.Dispatches.{entries_by, numbered_action}
 use Rattle.lane_record.proofs.Coding.{read_item}
 use Rattle.board_history.specs.Merges.{IsSubsequence}
 use Rattle.board_history.proofs.Lists.{all_at}
-use Rattle.lane_history.specs.Records.{ArePlansOf, IsPartlyPlanned, bodies_planned}
+use Rattle.board_history.specs.Records.{ArePlansOf, IsPartlyPlanned, bodies_planned}
 use Rattle.client_history.proofs.Handed.{StandsIn, handed, made_recorded, numbers_of, of_contained}
 use Rattle.client_history.specs.Clients.{came_with}
 use Rattle.client_threads.specs.Clients.{TookIn}

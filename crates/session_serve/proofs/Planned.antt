@@ -10,7 +10,7 @@ use Rattle.lane_record.specs.Items.{plan_in}
 use Rattle.lane_record.specs.Dispatches.{Action, Asked, NumberedAction, Planned, Sealed, Taken, action_of}
 use Rattle.lane_record.specs.Dispatches.{numbered_action}
 use Rattle.lane_record.specs.Submissions.{Submission, submissions_from}
-use Rattle.lane_history.specs.Records.{planned_in}
+use Rattle.board_history.specs.Records.{planned_in}
 use Rattle.board_history.specs.Merges.{IsSubsequence}
 use Rattle.board_history.proofs.Merging.{sub_skip}
 use Rattle.hub_framing.specs.Frames.{RequestFrame}

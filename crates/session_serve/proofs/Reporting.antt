@@ -7,9 +7,9 @@ use Rattle.std.proofs.lemmas.Option.{none-some, same_Some}
 use Rattle.std.specs.List.{AllByRecursion, slice_get}
 use Rattle.ipb_base.specs.Numbers.{payload_of}
 use Rattle.ipb_outside.specs.Pairs.{PairReport}
-use Rattle.world_core.specs.declared.link.Link.{Ghosts}
+use Rattle.links.specs.declared.link.Link.{Ghosts}
 use Rattle.world_model.specs.Settings.{Limits}
-use Rattle.board_node.specs.declared.spec.BoardSpec.{BoardSpec}
+use Rattle.board_specs.specs.declared.spec.BoardSpec.{BoardSpec}
 use Rattle.lane_record.specs.Coding.{Head}
 use Rattle.lane_record.specs.Submissions.{Submission}
 use Rattle.hub_lane.specs.Greeting.{link_of}
@@ -26,9 +26,9 @@ use Rattle.transcript.specs.declared.line.BoardLine.{BoardLine}
 use Rattle.transcript.specs.declared.line.BoardLine.TheVariants as line
 use Rattle.transcript.specs.Lines.{board_line}
 use Rattle.board_history.specs.Runs.{opens_with}
-use Rattle.lane_history.specs.Links.{IsUntouched, LinkReport}
-use Rattle.lane_history.specs.Lanes.{IsSoundLane}
-use Rattle.lane_history.specs.Runs.{TellsPayload}
+use Rattle.board_history.specs.Links.{IsUntouched, LinkReport}
+use Rattle.board_history.specs.Lanes.{IsSoundLane}
+use Rattle.board_history.specs.LinkRuns.{TellsPayload}
 use Rattle.client_history.specs.Boards.{AreServedOver, IsServedOver, ServedBoard, run_of}
 use Rattle.client_history.specs.Planned.{KeepLimits}
 use Rattle.board_greeting.specs.Boards.{AreFreshLinks, AreReached, HasMemory, IsEndedLane, IsLaneTo}

@@ -1,14 +1,14 @@
 -- How the boards of a document stand to the connections that are served. Profile.
 use Rattle.std.specs.Prelude.{◌≡◌, ℕ, ◌+◌, List, [], ◌∷◌, map, Some}
 use Rattle.std.specs.List.{slice_get}
-use Rattle.board_node.specs.declared.spec.BoardSpec.{BoardSpec}
+use Rattle.board_specs.specs.declared.spec.BoardSpec.{BoardSpec}
 use Rattle.hub_lane.specs.declared.answers.BoardState.{BoardState}
 use Rattle.hub_lane.specs.declared.answers.BoardState.TheVariants as stands
 use Rattle.script_plans.specs.declared.greeting.Greeting.{Greeting}
 use Rattle.script_plans.specs.declared.greeting.Greeting.TheVariants.{Live, Silent, Down}
 use Rattle.transcript.specs.declared.line.BoardLine.{BoardLine}
 use Rattle.transcript.specs.Lines.{board_line}
-use Rattle.lane_history.specs.Links.{LinkReport, IsBoardOf, board_there}
+use Rattle.board_history.specs.Links.{LinkReport, IsBoardOf, board_there}
 use Rattle.client_history.specs.Boards.{ServedBoard, run_of}
 
 -- How boards stand by what their greetings came to: the lanes of the live ones are numbered in order, the first of them

@@ -6,7 +6,7 @@ use Rattle.packet_codec.specs.declared.packet.Packet.{Packet}
 use Rattle.ipb_outside.specs.Pairs.{PairReport}
 use Rattle.world_model.specs.Board.{Board, bodies_executed}
 use Rattle.board_history.specs.Merges.{IsMergeOfSome}
-use Rattle.lane_history.specs.Links.{LinkReport, board_there}
+use Rattle.board_history.specs.Links.{LinkReport, board_there}
 use Rattle.hub_framing.specs.Frames.{RequestFrame, IsFrame, frames_bytes}
 use Rattle.hub_session.specs.Answers.{control_packet}
 

@@ -1,6 +1,6 @@
 -- Why nothing was reported, by what a rack answers, and which of these faults come of boards and connections. Profile.
-use Rattle.lossy_network.specs.declared.rack.RackFault.{RackFault}
-use Rattle.lossy_network.specs.declared.rack.RackFault.TheVariants as rack
+use Rattle.links.specs.declared.rack.RackFault.{RackFault}
+use Rattle.links.specs.declared.rack.RackFault.TheVariants as rack
 use Rattle.session_serve.specs.declared.report.ServeFault.{ServeFault}
 use Rattle.session_serve.specs.declared.report.ServeFault.TheVariants as serve
 

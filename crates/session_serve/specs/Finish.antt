@@ -1,8 +1,8 @@
 -- The boards once their lanes came back. What private functions promise one another; no public clause speaks of these.
 use Rattle.std.specs.Prelude.{ℕ, List, [], ◌∷◌, length, count_by}
-use Rattle.world_core.specs.declared.link.Link.{Ghosts}
+use Rattle.links.specs.declared.link.Link.{Ghosts}
 use Rattle.world_model.specs.Settings.{Limits}
-use Rattle.board_node.specs.declared.spec.BoardSpec.{BoardSpec}
+use Rattle.board_specs.specs.declared.spec.BoardSpec.{BoardSpec}
 use Rattle.lane_record.specs.Bounds.{timeouts}
 use Rattle.hub_lane.specs.Calls.{is_lost_at_place, is_replied}
 use Rattle.hub_lane.specs.Lanes.{IsLane, LaneState}

@@ -8,7 +8,7 @@ use Rattle.ipb_outside.specs.declared.door.Door.{Ghosts as DoorGhosts}
 use Rattle.ipb_outside.specs.declared.sink.Sink.{Ghosts as SinkGhosts}
 use Rattle.ipb_outside.specs.declared.source.Source.{Ghosts as SourceGhosts}
 use Rattle.ipb_outside.specs.Pairs.{Came, PairReport, Went, pair_shown}
-use Rattle.world_core.specs.Telling.{Telling}
+use Rattle.links.specs.Telling.{Telling}
 use Rattle.lane_record.specs.Submissions.{Submission}
 use Rattle.hub_lane.specs.Lanes.{LaneState}
 use Rattle.hub_lane.specs.declared.answers.BoardState.{BoardState}

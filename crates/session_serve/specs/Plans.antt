@@ -5,7 +5,7 @@ use Rattle.std.specs.List.{AllZip}
 use Rattle.ipb_outside.specs.Pairs.{PairReport}
 use Rattle.board_history.specs.Merges.{IsSubsequence}
 use Rattle.lane_record.specs.declared.item.Item.{Item}
-use Rattle.lane_history.specs.Records.{IsPartlyPlanned}
+use Rattle.board_history.specs.Records.{IsPartlyPlanned}
 use Rattle.hub_framing.specs.Frames.{RequestFrame}
 use Rattle.hub_lane.specs.Lanes.{LaneState}
 use Rattle.hub_lane.specs.declared.answers.BoardState.{BoardState}

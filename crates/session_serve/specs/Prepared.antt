@@ -3,9 +3,9 @@
 use Rattle.std.specs.Prelude.{◌≡◌, ℕ, ◌+◌, ◌≤◌, List, [], length, map}
 use Rattle.std.specs.Vec.{vec_capacity}
 use Rattle.ipb_base.specs.Numbers.{payload_of}
-use Rattle.board_node.specs.declared.spec.BoardSpec.{BoardSpec}
+use Rattle.board_specs.specs.declared.spec.BoardSpec.{BoardSpec}
 use Rattle.world_model.specs.Settings.{Limits}
-use Rattle.lane_history.specs.Links.{LinkReport}
+use Rattle.board_history.specs.Links.{LinkReport}
 use Rattle.board_greeting.specs.Places.{IsSplitOf}
 use Rattle.board_greeting.specs.declared.split.Split.{Split}
 use Rattle.hub_lane.specs.declared.greeting.Greeted.{Greeted}

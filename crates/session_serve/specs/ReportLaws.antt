@@ -4,10 +4,10 @@ use Rattle.std.specs.Prelude.{◌≡◌, ℕ, Bool, List, [], map, length, count
 use Rattle.ipb_base.specs.Lists.{IsPrefix}
 use Rattle.turn_pass.specs.Pass.{Knowledge}
 use Rattle.turn_pass.specs.Record.{Record}
-use Rattle.world_core.specs.Telling.{Telling}
+use Rattle.links.specs.Telling.{Telling}
 use Rattle.world_model.specs.Hub.{Hub}
 use Rattle.world_model.specs.Settings.{Limits}
-use Rattle.board_node.specs.declared.spec.BoardSpec.{BoardSpec}
+use Rattle.board_specs.specs.declared.spec.BoardSpec.{BoardSpec}
 use Rattle.lane_record.specs.declared.outcome.Outcome.{Outcome}
 use Rattle.lane_record.specs.declared.item.Item.{Item}
 use Rattle.lane_record.specs.Bounds.{timeouts}
@@ -23,10 +23,10 @@ use Rattle.transcript.specs.declared.line.BoardLine.TheVariants as line
 use Rattle.transcript.specs.Lines.{board_line}
 use Rattle.board_history.specs.Merges.{IsMergeOfSome}
 use Rattle.board_history.specs.Runs.{opens_with}
-use Rattle.lane_history.specs.Lanes.{IsSoundLane, bodies_offered}
-use Rattle.lane_history.specs.Links.{IsBoardOf, LinkReport, board_there}
-use Rattle.lane_history.specs.Records.{IsPartlyPlanned, IsRecordOf}
-use Rattle.lane_history.specs.Runs.{TellsPayload}
+use Rattle.board_history.specs.Lanes.{IsSoundLane, bodies_offered}
+use Rattle.board_history.specs.Links.{IsBoardOf, LinkReport, board_there}
+use Rattle.board_history.specs.Records.{IsPartlyPlanned, IsRecordOf}
+use Rattle.board_history.specs.LinkRuns.{TellsPayload}
 use Rattle.client_history.specs.Clients.{came_with}
 use Rattle.client_history.specs.Boards.{IsServedOver, run_of}
 use Rattle.client_history.specs.Connections.{WereServedOn, submitted_bodies, dispatches_of}

@@ -1,11 +1,11 @@
 -- What serving connections at the boards of a document does. Profile.
 use Rattle.std.specs.Prelude.{◌≡◌, ◌≢◌, ℕ, List, map}
 use Rattle.ipb_outside.specs.Pairs.{PairReport}
-use Rattle.board_node.specs.declared.spec.BoardSpec.{BoardSpec}
+use Rattle.board_specs.specs.declared.spec.BoardSpec.{BoardSpec}
 use Rattle.world_model.specs.Settings.{Limits}
 use Rattle.script_plans.specs.declared.greeting.Greeting.{Greeting}
 use Rattle.transcript.specs.declared.line.BoardLine.{BoardLine}
-use Rattle.lane_history.specs.Links.{LinkReport}
+use Rattle.board_history.specs.Links.{LinkReport}
 use Rattle.hub_lane.specs.declared.answers.BoardState.{BoardState}
 use Rattle.hub_session.specs.declared.served.Served.{Served}
 use Rattle.hub_session.specs.declared.served.SessionEnd.TheVariants as ends

@@ -10,12 +10,12 @@ use crate::states::BoardStates;
 use hub_multiplexer::{Hub, Seat};
 use hub_session::{Served, serve_one};
 use ipb_outside::{Sink, Source};
+use links::Link;
 use std::alloc::Global;
 use std::marker::{Model, Send, Sync};
 use std::snapshot::Snapshot;
 use std::sync::Wait;
 use std::thread::{Promise, PromisedHandle, Scope, Threads};
-use world_core::Link;
 
 /// A connection as it came, and the seat under which it is served.
 #[derive(Drop)]
@@ -66,7 +66,7 @@ fn as_came<S: Source + Drop, O: Sink + Drop>(
     }
 }
 
-/// Serves a connection.
+/// Serves one connection under its seat, and gives its pair back.
 fn serve_owned<L: Link + Send, S: Source + Drop, O: Sink + Drop, T: Wait>(
     rt: &T,
     alloc: Global,

@@ -8,10 +8,9 @@ ghost use Rattle.session_serve.specs.Finish.{IsSound, line_in, lines_in, link_in
 
 use board_greeting::{Board, Rejoined, close_lane};
 use ipb_base::Text;
-use lossy_network::Rack;
+use links::{Link, Rack};
 use script_plans::Greeting;
 use transcript::BoardLine;
-use world_core::Link;
 
 /// The line of a board that is not live.
 fn idle_line(greeting: Greeting, name: Text) -> BoardLine

@@ -36,11 +36,11 @@ use hub_session::laws::each_body_was_decided_on_a_record_that_the_seat_saw;
 use hub_session::{Served, SessionEnd};
 use ipb_base::NoMemory;
 use ipb_outside::Door;
+use links::Link;
 use std::alloc::Global;
 use std::marker::{Send, Sync};
 use std::sync::Wait;
 use std::thread::Threads;
-use world_core::Link;
 
 /// Takes in the seats of connections that were served, and gives each connection back to the door, in order.
 fn give_back<L: Link + Send, D: Door>(

@@ -3,7 +3,7 @@
 ghost use Rattle.std.specs.Prelude.{◌≡◌, ℕ, List, []};
 ghost use Rattle.std.specs.List.{AllByRecursion};
 ghost use Rattle.hub_framing.specs.Frames.{RequestFrame};
-ghost use Rattle.lane_history.specs.Links.{IsUntouched, LinkReport};
+ghost use Rattle.board_history.specs.Links.{IsUntouched, LinkReport};
 ghost use Rattle.session_serve.specs.Executed.{HasExecutedOnly, bodies_for};
 
 /// A board for which no frame of any connection had a body executed nothing, where its link tells.

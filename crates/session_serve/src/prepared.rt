@@ -5,13 +5,13 @@ ghost use Rattle.session_serve.specs.Boards.{states_from};
 ghost use Rattle.session_serve.specs.Prepared.{IsPrepared, lane_after, state_at, told_by};
 
 use crate::states::BoardStates;
-use board_node::BoardSpec;
+use board_specs::BoardSpec;
 use hub_lane::Greeted;
 use hub_session::BoardState;
 use ipb_base::{NoMemory, Text};
+use links::Link;
 use std::alloc::Global;
 use transcript::BoardLine;
-use world_core::Link;
 
 /// The names of the boards, room for their lines, and how they stand.
 #[derive(Drop)]

@@ -2,7 +2,7 @@
 
 use hub_session::Served;
 use ipb_base::NoMemory;
-use lossy_network::RackFault;
+use links::RackFault;
 use transcript::BoardLine;
 
 /// What became of the connections, in the order of acceptance, and of the boards, in their order.
@@ -19,7 +19,7 @@ pub enum ServeFault {
     Rack,
     /// The door failed. It counted it.
     Door,
-    /// Memory ran out.
+    /// Memory ran out while connections were served.
     NoMemory,
 }
 

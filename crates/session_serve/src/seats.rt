@@ -10,10 +10,10 @@ ghost use Rattle.session_serve.specs.Seats.{AreOfClientsFrom, AreTakenIn, IsBack
 
 use hub_multiplexer::{Hub, Master, Seat};
 use ipb_base::NoMemory;
+use links::Link;
 use std::alloc::Global;
 use std::marker::Send;
 use std::vec::IntoIter;
-use world_core::Link;
 
 /// A seat for each connection, in order, of a master who made none yet. Where memory runs out there are seats for the
 /// first of them.

@@ -14,13 +14,13 @@ use crate::states::BoardStates;
 use crate::work::Work;
 use hub_multiplexer::{Hub, Seat};
 use ipb_outside::{Door, Sink, Source};
+use links::Link;
 use std::alloc::Global;
 use std::marker::{Send, Sync};
 use std::sync::Wait;
 use std::thread;
 use std::thread::{Scope, Threads};
 use std::vec::IntoIter;
-use world_core::Link;
 
 /// Connections that were served, the seats that are left, and whether the door let in all that were wanted.
 #[derive(Drop)]

@@ -5,7 +5,7 @@ ghost use Rattle.std.specs.List.{AllByRecursion};
 ghost use Rattle.ipb_outside.specs.Faults.{RisesExactlyIf};
 ghost use Rattle.ipb_outside.specs.Doors.{Listens};
 ghost use Rattle.ipb_outside.specs.Pairs.{GivesBack};
-ghost use Rattle.lane_history.specs.Links.{IsUntouched};
+ghost use Rattle.board_history.specs.Links.{IsUntouched};
 ghost use Rattle.board_greeting.specs.Boards.{AreReached, HasMemory, HasRoom};
 ghost use Rattle.board_greeting.specs.Places.{IsApart};
 ghost use Rattle.board_greeting.specs.Reports.{shown_by};
@@ -21,16 +21,15 @@ use crate::hub::serve_at_hub;
 use crate::prepared::{Prepared, prepare};
 use crate::report::{ServeFault, ServeReport};
 use board_greeting::{Rejoined, Split, greet_boards, keep_all, split_boards};
-use board_node::BoardSpec;
+use board_specs::BoardSpec;
 use hub_lane::Greeted;
 use ipb_outside::Door;
-use lossy_network::Rack;
+use links::{Link, Rack};
 use reliable_engine::Settings;
 use std::alloc::Global;
 use std::marker::Sync;
 use std::sync::Wait;
 use std::thread::Threads;
-use world_core::Link;
 
 /// Serves connections at boards that were taken apart, and gives each link back to the rack.
 fn serve_split<R: Rack, D: Door, T: Threads + Wait + Sync>(

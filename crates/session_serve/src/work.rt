@@ -4,9 +4,9 @@ use crate::connection::{Done, Running};
 use crate::states::BoardStates;
 use hub_multiplexer::{Hub, Seat};
 use ipb_outside::{Sink, Source};
+use links::Link;
 use std::marker::{Model, Send};
 use std::vec::IntoIter;
-use world_core::Link;
 
 /// The hub, how the boards stand, a seat for each connection, and room for those that run and for those that are done.
 /// Contracts see the turns of the hub, the states and the seats.

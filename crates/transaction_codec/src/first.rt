@@ -44,7 +44,7 @@ pub struct FirstReply<'a> {
 }
 
 impl FirstRequest<'_> {
-    /// The same request with its words in memory of its own.
+    /// A copy of the request, with its words in memory of its own. An error means that memory ran out.
     pub fn to_request(&self, alloc: Global) -> Result<Request, NoMemory>
         ensures { IfOk result (λ request. request ≡ request_of self.now) }
     {
@@ -56,7 +56,7 @@ impl FirstRequest<'_> {
 }
 
 impl FirstReply<'_> {
-    /// The same reply with its words in memory of its own.
+    /// A copy of the reply, with its words in memory of its own. An error means that memory ran out.
     pub fn to_reply(&self, alloc: Global) -> Result<Reply, NoMemory>
         ensures { IfOk result (λ reply. reply ≡ reply_of self.now) }
     {

@@ -47,7 +47,7 @@ pub enum OpRef<'a> {
 }
 
 impl OpRef<'_> {
-    /// The same operation with its words in memory of its own.
+    /// A copy of the operation, with its words in memory of its own. An error means that memory ran out.
     pub fn to_op(&self, alloc: Global) -> Result<Op, NoMemory>
         ensures { IfOk result (λ op. op ≡ op_of self.now) }
     {

@@ -41,7 +41,7 @@ impl Error for Why {}
 pub enum BadWords {
     /// The first faulty header, by its place in words from 0.
     At { place: u64, why: Why },
-    /// Memory ran out.
+    /// Memory ran out for what was read.
     NoMemory,
 }
 

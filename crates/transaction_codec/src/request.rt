@@ -41,7 +41,7 @@ pub enum Op {
 }
 
 impl Op {
-    /// The same operation, with its words where they stand.
+    /// The operation by reference: its words stay where they stand.
     pub fn as_op_ref(&self) -> OpRef<'_>
         ensures { op_of result ≡ self.now }
     {

@@ -1,8 +1,8 @@
 //! The type, bits 7-4 of a header. IPbus 2.0, transaction header. This profile has no others.
 
-/// Reads consecutive addresses.
+/// A read of consecutive addresses (IPbus 2.0, transaction types).
 pub const READ: u8 = 0;
-/// Writes consecutive addresses.
+/// A write of consecutive addresses (IPbus 2.0, transaction types).
 pub const WRITE: u8 = 1;
 /// Reads one address again and again.
 pub const READ_PORT: u8 = 2;

@@ -39,7 +39,7 @@ pub struct BodyEnd {
 }
 
 /// The answers to a body's transactions that these words tell; none where they are no reply to it.
-fn answers_in(alloc: Global, body: &[u32], words: &[u32]) -> Result<Option<Answers>, NoMemory>
+pub fn answers_in(alloc: Global, body: &[u32], words: &[u32]) -> Result<Option<Answers>, NoMemory>
     requires { SpellsRequests body.now }
     ensures { IfOk result (λ found. found ≡ answers body.now words.now) }
 {
@@ -52,7 +52,7 @@ fn answers_in(alloc: Global, body: &[u32], words: &[u32]) -> Result<Option<Answe
 }
 
 /// What is told of a body that was replied to with these answers, or with none.
-fn told_by(answers: Option<Answers>) -> Told
+pub fn told_by(answers: Option<Answers>) -> Told
     ensures { result ≡ spec.told_by answers }
 {
     match answers {

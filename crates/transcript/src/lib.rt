@@ -22,7 +22,7 @@ mod status;
 mod text;
 
 pub use boards::board_lines;
-pub use body_end::{BodyEnd, Told};
+pub use body_end::{BodyEnd, Told, answers_in, told_by};
 pub use ipb_base::{NoMemory, Text, Words};
 pub use lane_record::{Outcome, Outcomes};
 pub use line::{BoardLine, LateAnswer, LinePlaces, OpLine, OpResult};
@@ -30,4 +30,4 @@ pub use lines::{client_lines, lines_of_clients};
 pub use listing::Listing;
 pub use printing::{PrintedRuns, print_runs};
 pub use status::all_good;
-pub use text::{line_text, push_boards, push_result, push_word, transcript_text};
+pub use text::{line_text, push_boards, push_result, push_word, transcript_text, verb_text};

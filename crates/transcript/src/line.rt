@@ -97,9 +97,9 @@ pub struct OpLine {
     /// Its number among the operations of its client, from 1.
     pub number: u32,
     pub verb: Verb,
-    /// The board's name.
+    /// The name of the board, as the document has it.
     pub board: Text,
-    /// The register's name.
+    /// The name of the register, as the script has it.
     pub name: Text,
     pub result: OpResult,
     /// The places of its pieces that have one, in order.

@@ -32,7 +32,7 @@ fn ends_on(alloc: Global, run: &BoardRun, client: usize) -> Result<Vec<BodyEnd>,
     }
 }
 
-/// The same of every board.
+/// The ends of the pieces on every board, in board order.
 pub(crate) fn all_ends(
     alloc: Global,
     runs: &[BoardRun],

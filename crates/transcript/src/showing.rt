@@ -107,7 +107,7 @@ impl Shown {
         self.tell_pieces(ends, op, pieces)
     }
 
-    /// The same of a board, whatever its greeting told.
+    /// What a board's line shows, whatever its greeting told.
     pub(crate) fn tell(
         &mut self,
         run: &BoardRun,

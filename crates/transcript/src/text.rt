@@ -35,7 +35,7 @@ fn push_words(text: &mut String, words: &[u32]) -> Result<(), NoMemory>
 }
 
 /// The word of a script line.
-fn verb_text(verb: Verb) -> &'static str
+pub fn verb_text(verb: Verb) -> &'static str
     ensures { result.now ≡ spec.verb_text verb }
 {
     match verb {

@@ -2,7 +2,7 @@
 use Rattle.std.proofs.Common.{◌≡◌, ◌⊎◌, ℕ, zero, suc, ◌+◌, ◌<◌, List, [], ◌∷◌, ◌++◌, length, slice_get, Option, Some, None}
 use Rattle.std.proofs.Common.{inl, inr, refl, ap, subst, ◌∙◌, arith, length-append}
 use Rattle.std.specs.List.{AllZip}
-use Rattle.board_node.specs.declared.spec.BoardSpec.{BoardSpec}
+use Rattle.board_specs.specs.declared.spec.BoardSpec.{BoardSpec}
 use Rattle.script_steps.specs.declared.operation.Step.{Step}
 use Rattle.script_plans.specs.declared.greeting.Greeting.{Greeting}
 use Rattle.transcript_reader.specs.declared.shown.Unshown.{Unshown}

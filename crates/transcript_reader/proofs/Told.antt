@@ -1,7 +1,7 @@
 -- What the lines of boards tell, one board after another.
 use Rattle.std.proofs.Common.{◌≡◌, ℕ, zero, suc, ◌+◌, ◌<◌, ◌≤◌, List, [], ◌∷◌, ◌++◌, length, get_or, drop, slice_get, None}
 use Rattle.std.proofs.Common.{refl, sym, ap, ◌∙◌, arith, add-one, append_assoc, length-append, drop-cons}
-use Rattle.board_node.specs.declared.spec.BoardSpec.{BoardSpec}
+use Rattle.board_specs.specs.declared.spec.BoardSpec.{BoardSpec}
 use Rattle.script_steps.specs.declared.operation.Step.{Step}
 use Rattle.script_steps.specs.Rulings.{Asked, asked_operations}
 use Rattle.script_plans.specs.declared.greeting.Greeting.{Greeting}

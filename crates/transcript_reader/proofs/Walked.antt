@@ -5,7 +5,7 @@ use Rattle.std.proofs.Common.{length-append, take-suc, append-nil, Result, Ok, E
 use Rattle.std.specs.List.{AllZip}
 use Rattle.std.proofs.lemmas.List.{map-append, take-append-drop}
 use Rattle.std.proofs.lemmas.List.Elements.{filter_map-append}
-use Rattle.board_node.specs.declared.spec.BoardSpec.{BoardSpec}
+use Rattle.board_specs.specs.declared.spec.BoardSpec.{BoardSpec}
 use Rattle.script_steps.specs.declared.operation.Step.{Step}
 use Rattle.script_steps.specs.declared.operation.Step.TheVariants.{Do, Denied, Dispatch}
 use Rattle.script_steps.specs.Packing.{CanBePacked}

@@ -1,6 +1,6 @@
 -- The first line at which a text is no transcript of a session. Profile.
 use Rattle.std.specs.Prelude.{◌≡◌, ◌⊎◌, ℕ, ◌+◌, ◌<◌, List, length, slice_get, Some}
-use Rattle.board_node.specs.declared.spec.BoardSpec.{BoardSpec}
+use Rattle.board_specs.specs.declared.spec.BoardSpec.{BoardSpec}
 use Rattle.script_steps.specs.declared.operation.Step.{Step}
 use Rattle.transcript_reader.specs.declared.shown.Unshown.{Unshown}
 use Rattle.transcript_reader.specs.declared.shown.Unshown.TheVariants.{At, NoMemory}

@@ -9,7 +9,7 @@ use Rattle.transaction_codec.specs.declared.request.Op.TheVariants.{Read, ReadPo
 use Rattle.transaction_codec.specs.declared.info_code.TheConstants.{READ_ERROR, READ_TIMEOUT, WRITE_ERROR}
 use Rattle.transaction_codec.specs.declared.info_code.TheConstants.{WRITE_TIMEOUT}
 use Rattle.transaction_codec.specs.Reply.{IsBusFault}
-use Rattle.board_node.specs.declared.spec.BoardSpec.{BoardSpec}
+use Rattle.board_specs.specs.declared.spec.BoardSpec.{BoardSpec}
 use Rattle.script_steps.specs.declared.operation.Step.{Step}
 use Rattle.script_steps.specs.Rulings.{Asked, asked_operations}
 use Rattle.script_plans.specs.declared.greeting.Greeting.{Greeting}

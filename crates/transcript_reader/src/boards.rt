@@ -9,7 +9,7 @@ ghost use Rattle.transcript_reader.specs.Walks.{ReadsBoard, ReadsLive, board_fro
 use crate::front::{behind, same_bytes};
 use crate::greeting::{push_down, push_silent};
 use crate::number::read_number;
-use board_node::BoardSpec;
+use board_specs::BoardSpec;
 use ipb_base::{NoMemory, Text};
 use std::alloc::Global;
 use transcript::BoardLine;

@@ -39,7 +39,7 @@ fn shows_word(verb: Verb, mask: u32, shown: u32) -> bool
     }
 }
 
-/// The same of each of some words.
+/// Whether a verb can show each of some words.
 fn shows_words(verb: Verb, mask: u32, words: &[u32]) -> bool
     ensures { IsTrue result ↔ AllByRecursion (spec.ShowsWord verb mask) words.now }
 {

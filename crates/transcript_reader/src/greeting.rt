@@ -3,7 +3,8 @@
 ghost use Rattle.std.specs.Prelude.{◌≡◌, ◌<◌, ◌^◌, List, ◌∷◌, ◌++◌, IfOk, OnOk, length, string_bytes};
 ghost use Rattle.std.specs.List.{AllByRecursion};
 ghost use Rattle.board_history.specs.Runs as runs;
-ghost use Rattle.board_node.specs.declared.spec.BoardSpec.{BoardSpec as BoardSpecValue};
+ghost use Rattle.board_specs.specs.declared.spec.BoardSpec.{BoardSpec as BoardSpecValue};
+ghost use Rattle.script_plans.specs.Plan.{IsGreeting};
 ghost use Rattle.script_steps.specs.Rulings.{asked_operations};
 ghost use Rattle.transcript.specs.Text as texts;
 ghost use Rattle.transcript_reader.specs.Entries as spec;
@@ -11,19 +12,20 @@ ghost use Rattle.transcript_reader.specs.Entries.{IsHere, IsLinkHere, clients_fr
 ghost use Rattle.transcript_reader.specs.Walks.{HasRoom};
 
 use crate::lines::{first_line, skip_lines};
-use board_node::{BoardSpec, LinkSpec};
+use board_specs::{BoardSpec, LinkSpec};
 use ipb_base::NoMemory;
 use script_plans::Greeting;
 use script_steps::{Step, Steps};
 use std::alloc::Global;
 
 /// The bytes of the headers of IPv4 and UDP (RFC 791, RFC 768).
-const IP_UDP_BYTES: u32 = 28;
+pub(crate) const IP_UDP_BYTES: u32 = 28;
 
-/// What is told of a board that is neither silent nor down.
-fn greeting_of(link: &LinkSpec) -> Greeting
+/// What is told of a board of this process that is neither silent nor down.
+pub fn greeting_of(link: &LinkSpec) -> Greeting
     requires { IsLinkHere link.now }
     ensures greeting { result ≡ runs.greeting_of link.now }
+    ensures payload { IsGreeting result }
     ensures room { HasRoom result }
 {
     match link {

@@ -20,6 +20,7 @@ mod showing;
 mod shown;
 mod writing;
 
+pub use greeting::greeting_of;
 pub use ipb_base::NoMemory;
 pub use reading::read_transcript;
 pub use shown::{BoardLines, Shown, ShownClients, ShownOp, ShownOps, Unshown};

@@ -13,7 +13,7 @@ use crate::front::{behind, same_bytes};
 use crate::showing::read_showing;
 use crate::shown::ShownOp;
 use crate::writing::{push_asked, push_shown};
-use board_node::BoardSpec;
+use board_specs::BoardSpec;
 use ipb_base::NoMemory;
 use script_plans::Greeting;
 use script_steps::RegOp;

@@ -29,7 +29,7 @@ fn read_byte(text: &[u8]) -> Option<(u8, &[u8])>
     }
 }
 
-/// Reads a word.
+/// Reads one word of 32 bits at the front of a text, and what stands behind it.
 #[tactic(auto, unfolding(crate::specs::Reading::word_at))]
 fn read_word(text: &[u8]) -> Option<(u32, &[u8])>
     ensures { Finds (λ read. (read.0, read.1.now)) result (spec.word_at text.now) }

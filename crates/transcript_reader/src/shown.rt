@@ -53,7 +53,7 @@ impl ShownOps {
     }
 }
 
-/// The same of each client, client 1 first. Contracts see that list.
+/// What the lines of each client show, client 1 first. Contracts see that list.
 #[derive(Drop)]
 pub struct ShownClients {
     items: Vec<ShownOps>,

@@ -7,22 +7,8 @@ ghost use Rattle.transcript_reader.specs.Walks.{shows_text};
 
 use crate::shown::ShownOp;
 use ipb_base::NoMemory;
-use script_steps::{RegOp, Verb};
-use transcript::push_result;
-
-/// The word of a script line.
-fn verb_text(verb: Verb) -> &'static str
-    ensures { result.now ≡ spec.verb_text verb }
-{
-    match verb {
-        Verb::Read => "read",
-        Verb::Write => "write",
-        Verb::ReadBlock => "readblock",
-        Verb::WriteBlock => "writeblock",
-        Verb::RmwBits => "rmwbits",
-        Verb::RmwSum => "rmwsum",
-    }
-}
+use script_steps::RegOp;
+use transcript::{push_result, verb_text};
 
 /// Puts what stands before the result behind a text: number, verb and register.
 pub(crate) fn push_asked(

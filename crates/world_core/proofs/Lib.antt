@@ -1,10 +1,5 @@
-mod Airs
-mod Store
-pub mod Sends
+mod Flushes
 mod Hearing
 mod Moves
 mod OneMove
 mod Refusals
-mod States
-mod Receives
-mod Calls

@@ -13,7 +13,7 @@ use Rattle.world_model.specs.declared.moves.WorldMove.TheVariants.{Offer, Quiet,
 use Rattle.world_model.specs.Hub.{hear_quiet, is_waiting}
 use Rattle.world_model.specs.Air.{LIFETIME, goes_to, is_alive}
 use Rattle.world_model.specs.World.{World, board_hears, go_on, hub_hears, moves_on, run_moves, step, taken_datagram, when_taken}
-use Rattle.world_core.proofs.Airs.{goes_self, same_way}
+use Rattle.lossy_network.proofs.Airs.{goes_self, same_way}
 use Rattle.world_core.specs.Runs.{IsNotThere, IsThere, IsTooOld, IsTooOldThere, StopsAt}
 
 -- ---- the move at which a run stops

@@ -1,9 +1,2 @@
-pub mod Messages
 pub mod Steps
 pub mod Runs
-pub mod Telling
-pub mod Receives
-pub mod Handed
-pub mod States
-pub mod Airs
-pub mod Store

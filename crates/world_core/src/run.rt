@@ -11,15 +11,14 @@ ghost use Rattle.world_model.specs.Facts.{IsSendable};
 ghost use Rattle.world_model.specs.History.{IsMove};
 ghost use Rattle.world_model.specs.World.{flush, go_on, handed_out, step, taken_datagram};
 ghost use Rattle.world_core.specs.Runs.{IsShortMove};
-ghost use Rattle.world_core.specs.Messages.{IsWritable};
+ghost use Rattle.links.specs.Messages.{IsWritable};
 ghost use Rattle.world_core.specs.Steps.{board_told, end_of, HasSpellings, hub_told, put_into, world_of};
 
-use crate::air::{goes_to, is_alive};
-use crate::datagrams::Datagrams;
-use crate::message::{Message, read_for_hub};
-use crate::sending::{copy_words, write_sending};
 use board_node::Board;
 use ipb_base::{NoMemory, Words};
+use links::{Message, read_for_hub, write_sending};
+use lossy_network::air::{goes_to, is_alive};
+use lossy_network::datagrams::Datagrams;
 use reliable_engine::{Engine, Fate, Sending};
 use std::alloc::Global;
 use world_model::laws::sends::{only_an_offer_makes_more_bodies, sends_go_one_by_one};
@@ -154,7 +153,7 @@ impl Run {
         ensures counted { OnOk result (body_count self.new.hub ≤ body_count self.old.hub + 1) }
     {
         only_an_offer_makes_more_bodies();
-        let copied = copy_words(alloc, body)?;
+        let copied = Words::from_vec(Vec::from_slice(alloc, body)?);
         if self.hub.offer(tag, copied).is_err() {
             return Err(NoMemory);
         }

@@ -13,11 +13,11 @@ ghost use Rattle.world_model.specs.History.{IsLateAnswer, IsRun, IsTrueHistory};
 ghost use Rattle.world_core.specs.Runs.{IsNotThere, IsShortMove, IsTooOld, StopsAt};
 ghost use Rattle.world_core.specs.Steps.{HasSpellings, world_of};
 
-use crate::datagrams::Datagrams;
 use crate::laws::a_run_stops_at_the_first_move_that_is_not_allowed;
 use crate::run::Run;
 use board_node::Board;
 use ipb_base::{NoMemory, Words};
+use lossy_network::datagrams::Datagrams;
 use packet_codec::MAX_BODY_WORDS;
 use packet_ids::laws::identifiers_follow_each_other;
 use reliable_engine::{Engine, Fate, Settings};
@@ -46,7 +46,7 @@ impl Model for World {
 }
 
 impl World {
-    /// The board.
+    /// The board of the world.
     pub fn board(&self) -> &Board
         ensures { result.now ≡ self.now.board }
     {

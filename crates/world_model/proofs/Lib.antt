@@ -19,3 +19,7 @@ mod Bodies
 pub mod LateAnswers
 mod AnsweredLate
 mod Answered
+pub mod BoardLogs
+mod BoardSteps
+mod BoardTurns
+mod HeldReplies

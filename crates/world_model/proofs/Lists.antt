@@ -1,7 +1,8 @@
 -- Lists and what stands at their places.
 use Rattle.std.proofs.Common.{◌≡◌, ℕ, zero, suc, ◌+◌, ◌<◌, ◌≤◌, Bool, true, false, cond, List, [], ◌∷◌, ◌++◌}
 use Rattle.std.proofs.Common.{length, drop, map, Some, refl, sym, ap, ◌∙◌, subst, arith, length-append}
-use Rattle.std.proofs.Common.{add-one, append_assoc}
+use Rattle.std.proofs.Common.{add-one, append_assoc, ◌==◌, inl, inr}
+use Rattle.std.proofs.lemmas.Bool.Decides.{eqb_tells}
 use Rattle.std.specs.List.{AllByRecursion, slice_get}
 use Rattle.ipb_base.specs.Lists.{IsPrefix}
 use Rattle.world_model.specs.Places.{at_place}
@@ -9,6 +10,13 @@ use Rattle.world_model.specs.Places.{at_place}
 pub either : {A : Type 0} (P : A → Type 0) (b : Bool) (x y : A) → (b ≡ true → P x) → (b ≡ false → P y) → P (cond b x y)
 either P true x y f g = f refl
 either P false x y f g = g refl
+
+-- numbers that are not equal
+pub differ : (a b : ℕ) → (a ≡ b → ⊥) → (a == b) ≡ false
+differ a b other = elim (eqb_tells a b) [
+  | inl same ↦ absurd (other same.1)
+  | inr apart ↦ apart.0
+]
 
 pub get_front : {A : Type 0} (xs ys : List A) (k : ℕ) (x : A) → slice_get xs k ≡ Some x
     → slice_get (xs ++ ys) k ≡ Some x

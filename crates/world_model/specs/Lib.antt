@@ -3,6 +3,7 @@ pub mod Settings
 pub mod Places
 pub mod Messages
 pub mod Board
+pub mod Hearings
 pub mod Hub
 pub mod Sends
 pub mod Air

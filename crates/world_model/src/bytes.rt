@@ -32,7 +32,7 @@ impl Bytes {
         items
     }
 
-    /// The bytes.
+    /// The bytes as a slice, in order.
     pub fn as_slice(&self) -> &[u8]
         ensures { result.now ≡ self.now }
     {

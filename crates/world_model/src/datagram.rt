@@ -12,7 +12,7 @@ pub enum Direction {
 /// A datagram that was sent. It stays in the air for good: to lose it is not to hear it.
 #[derive(Drop)]
 pub struct Datagram {
-    /// Who hears it.
+    /// Who hears the datagram, hub or board.
     pub direction: Direction,
     /// What it carries: one packet, where the sender keeps to the protocol.
     pub bytes: Bytes,

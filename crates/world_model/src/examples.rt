@@ -20,7 +20,7 @@ pub fn a_control_packet_is_answered_in_its_order()
         ≡ Some (big_endian (0xf0010020 ∷ 0x00010020 ∷ 0xcdab0000 ∷ [])) }
 {}
 
-/// The same packet again is dropped.
+/// A packet that comes again is dropped, and executed once.
 #[tactic(auto, unfolding(crate::specs::Messages::to_board, crate::specs::Messages::to_hub, packet_codec::specs::Reading::packet_of, packet_codec::specs::Reading::start_of, transaction_codec::specs::Request::request_at))]
 pub fn a_repeated_packet_is_dropped()
     ensures { let first = hear (board_with 1500 16 1) (big_endian (0x200001f0 ∷ 0x2000010f ∷ 4 ∷ [])) in
@@ -118,7 +118,7 @@ pub fn a_reply_after_two_rounds_is_a_late_answer()
         }) }
 {}
 
-/// The same with one round: the second quiet receive gives up, and the reply comes after it.
+/// With one round the second quiet receive gives up, and a reply that comes after it is a late answer.
 #[tactic(auto, unfolding(crate::specs::Messages::to_board, crate::specs::Messages::to_hub, packet_codec::specs::Reading::packet_of, packet_codec::specs::Reading::start_of, transaction_codec::specs::Request::request_at))]
 pub fn a_reply_after_one_round_is_a_late_answer()
     ensures { after 16 1 (board_with 1500 16 1) (Offer 0 read_four ∷ Quiet ∷ Quiet ∷ BoardHears 0 ∷ HubHears 2 ∷ [])

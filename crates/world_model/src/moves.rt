@@ -23,7 +23,7 @@ pub enum WorldEnd {
     NotThere { at: usize },
     /// It was sent too many first sends ago to be heard.
     TooOld { at: usize },
-    /// Memory ran out.
+    /// Memory ran out while the moves were copied.
     NoMemory,
 }
 

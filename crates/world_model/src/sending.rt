@@ -3,7 +3,7 @@ use packet_ids::Id;
 /// What a hub sends next.
 #[derive(Clone, Copy, PartialEq, Eq)]
 pub enum Sending {
-    /// A status request.
+    /// A status request (IPbus 2.0, status packet).
     Status,
     /// A request to send the reply to this control packet again.
     Resend { id: Id },

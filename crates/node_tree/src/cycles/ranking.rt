@@ -26,7 +26,7 @@ struct Ranking<'a> {
     ranks: NameMap<u64>,
     /// How many tables were entered.
     entered: u64,
-    /// The next rank.
+    /// The rank that the next table gets.
     next: u64,
     /// Tables that were left with the number of a table that was not left yet.
     pending: Vec<&'a str>,

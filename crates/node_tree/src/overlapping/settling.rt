@@ -12,11 +12,11 @@ use std::alloc::Global;
 /// Which events are looked at.
 #[derive(Clone, Copy)]
 enum Test {
-    /// All of them.
+    /// All events, whatever they have.
     Each,
-    /// Those that have all addresses from the first to the one before the end.
+    /// Events that have all addresses from the first to the one before the end.
     Covers { first: u64, end: u64 },
-    /// Those whose masks have the bit, which is a power of 2.
+    /// Events whose masks have the bit, which is a power of 2.
     HasBit(u32),
 }
 
@@ -77,7 +77,7 @@ fn half_of(level: u32) -> u64
     1 << (level - 1)
 }
 
-/// The same for events that have one address, bit by bit.
+/// Settles events that have one address, bit by bit.
 fn settle_bits(events: &[Event], firsts: &mut [usize])
     requires places { All (λ event. event.place < length firsts.old) events.now }
     ensures { (first : ℕ) → Settles events.now first (first + 1) firsts.old firsts.new }

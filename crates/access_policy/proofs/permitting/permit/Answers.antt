@@ -12,11 +12,9 @@ loop-step-preserved c = grind (arith, common_steps)
 pub returns : goal.returns
 returns c =
     let policy = c.args.policy.now in
+    let boards = names_of c.args.session.now.boards in
     let steps = c.args.steps.now in
-    c.loop-step.invariant
-    ∙ ap (map (step_said c.in_ok-rules.rules.items))
+    c.loop-step.invariant.said
+    ∙ ap (map (step_said (map (candidates_from 1 policy c.args.client) boards)))
     (take_all c.loop-step.step-index steps (omega (arith, c.loop-step-test.false)))
-    ∙ ap (λ rules. map (step_said rules) steps)
-    (c.in_ok-rules.ensures
-    ∙ ap (λ boards. map (candidates_from 1 policy c.args.client) (names_of boards)) c.as_slice.ensures)
-    ∙ all_steps policy c.args.client (names_of c.args.session.now.boards) steps
+    ∙ all_steps policy c.args.client boards steps

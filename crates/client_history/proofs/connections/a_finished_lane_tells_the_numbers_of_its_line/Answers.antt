@@ -11,8 +11,8 @@ use Rattle.script_plans.specs.declared.greeting.Greeting.TheVariants.{Live}
 use Rattle.transcript.specs.declared.line.BoardLine.TheVariants as board_lines
 use Rattle.transcript.specs.Lines.{is_lost}
 use Rattle.board_history.specs.Order.{Placed, bodies_in, order}
-use Rattle.lane_history.specs.Records.{has_become}
-use Rattle.lane_history.proofs.Waits.{timeouts_counted}
+use Rattle.board_history.specs.Records.{has_become}
+use Rattle.board_history.proofs.Waits.{timeouts_counted}
 use Rattle.client_history.specs.Boards.{run_of}
 use Rattle.client_history.specs.Connections.{submitted_bodies, dispatches_of}
 use Rattle.client_history.proofs.Numbers.{lost_alike, replied_alike, same_count}

@@ -3,7 +3,7 @@ use Rattle.std.proofs.Common.{append-nil}
 use Rattle.lane_record.specs.declared.outcome.Outcome.{Outcome}
 use Rattle.lane_record.specs.declared.item.Item.{Item}
 use Rattle.lane_record.specs.Dispatches.{Action, Asked, NumberedAction, Taken, outcomes_in_order}
-use Rattle.lane_history.specs.Records.{DidDispatches}
+use Rattle.board_history.specs.Records.{DidDispatches}
 use Rattle.client_history.specs.Clients.{LeftByClients, sealed_plans}
 use Rattle.client_history.specs.ClientExamples.{client_1_alone, side_by_side, two_bodies, two_plans, two_results}
 use Rattle.client_history.proofs.examples.other_records_are_not_left_by_two_clients.Goals as goal

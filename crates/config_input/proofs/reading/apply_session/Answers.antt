@@ -4,7 +4,7 @@ use Rattle.config_store.specs.Kept.{indexed_boards}
 use Rattle.config_store.specs.Refusals.{applying_faults}
 use Rattle.config_input.specs.Deserved.{BreaksInWork, Tells, of_store}
 use Rattle.config_input.specs.Work.{applying, entries_in, state_faults}
-use Rattle.config_input.proofs.Planned.{asked_by, front_told, handed_on, one_each, own_told}
+use Rattle.config_input.proofs.Planned.{asked_by, behind_told, front_told, handed_on, one_each, own_told}
 use Rattle.config_input.proofs.reading.apply_session.Goals as goal
 
 pub apply_lines-requires : goal.apply_lines-requires
@@ -21,6 +21,18 @@ returns-in_err-state-clause-refused c =
     (front_told (applying value) session indexes (state_faults value)
     (applying_faults (indexed_boards session.boards indexes) (entries_in value)) c.in_err-state.field-0.0
     c.in_ok-indexes.ensures.boards refl c.in_err-state.ensures.refused)
+
+pub returns-in_err-lines-clause-refused : goal.returns-in_err-lines-clause-refused
+returns-in_err-lines-clause-refused c =
+    let value = option_map view c.args.value.now in
+    let session = c.args.session in
+    let indexes = c.in_ok-indexes.indexes.items in
+    handed_on (Tells (BreaksInWork (applying value) session)) c.from_residual-in_err-lines.result
+    (of_store c.in_err-lines.field-0.0) c.from_residual-in_err-lines.ensures.1
+    (behind_told (applying value) session indexes (state_faults value)
+    (applying_faults (indexed_boards session.boards indexes) (entries_in value)) c.in_err-lines.field-0.0
+    c.in_ok-indexes.ensures.boards refl c.in_ok-state.ensures.accepted
+    (rw c.in_ok-state.ensures.read at (rw c.deref.ensures.value at c.in_err-lines.ensures.refused)))
 
 pub planned-requires-clause-faultless : goal.planned-requires-clause-faultless
 planned-requires-clause-faultless c =

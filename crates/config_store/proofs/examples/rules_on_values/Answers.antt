@@ -11,10 +11,17 @@ unfolding lib.Count.count_trailing_zeros
 returns-clause-outside c = simp (small, small_get) refl
 
 pub returns-clause-above : goal.returns-clause-above
+unfolding lib.Count.count_trailing_zeros
 returns-clause-above c = simp (small, small_get) refl
 
 pub returns-clause-name : goal.returns-clause-name
+unfolding lib.Count.count_trailing_zeros
 returns-clause-name c = simp (small, small_get) refl
 
 pub returns-clause-other_board : goal.returns-clause-other_board
+unfolding lib.Count.count_trailing_zeros
 returns-clause-other_board c = simp (small, small_get) refl
+
+pub returns-clause-lowest : goal.returns-clause-lowest
+unfolding lib.Count.count_trailing_zeros
+returns-clause-lowest c = simp (small, small_get) refl

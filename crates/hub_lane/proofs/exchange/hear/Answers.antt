@@ -1,7 +1,7 @@
 use Rattle.world_model.specs.Messages.{to_hub}
-use Rattle.world_core.specs.Messages.{IsRead}
+use Rattle.links.specs.Messages.{IsRead}
 use Rattle.std.proofs.Common.{subst}
-use Rattle.world_core.specs.declared.message.Message.{Message}
+use Rattle.links.specs.declared.message.Message.{Message}
 use Rattle.hub_lane.proofs.Heard.{other_same}
 use Rattle.hub_lane.proofs.exchange.hear.Goals as goal
 

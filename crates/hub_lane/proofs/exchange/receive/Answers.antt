@@ -1,7 +1,7 @@
 use Rattle.std.proofs.Common.{◌∙◌, ℕ, List, Ok, sym, subst, ap}
 use Rattle.world_model.specs.Hub.{Hub, take_message}
-use Rattle.world_core.specs.declared.link.Received.{Received}
-use Rattle.world_core.specs.Telling.{IfTelling, Receives}
+use Rattle.links.specs.declared.link.Received.{Received}
+use Rattle.links.specs.Telling.{IfTelling, Receives}
 use Rattle.world_model.specs.Messages.{to_hub}
 use Rattle.hub_lane.specs.Hearing.{IsHeardAs}
 use Rattle.hub_lane.specs.declared.answers.Pumped.TheVariants.{Quiet}

@@ -1,8 +1,8 @@
 use Rattle.std.proofs.Common.{◌∙◌, ℕ, List, subst, refl, sym, arith}
 use Rattle.world_model.specs.Hub.{Hub}
 use Rattle.world_model.specs.Sends.{Next}
-use Rattle.world_core.specs.Telling.{IfTelling, IsSent}
-use Rattle.world_core.proofs.Sends.{next_is}
+use Rattle.links.specs.Telling.{IfTelling, IsSent}
+use Rattle.links.proofs.Sends.{next_is}
 use Rattle.hub_lane.proofs.Sends.{all_out, none_is, one_less, same_hub, sent_more}
 use Rattle.hub_lane.specs.Carrying.{HasPut}
 use Rattle.hub_lane.specs.PumpLaws.{SendLeaves}

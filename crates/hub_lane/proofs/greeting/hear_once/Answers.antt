@@ -1,6 +1,6 @@
 use Rattle.std.proofs.Common.{List, subst, ℕ}
 use Rattle.std.proofs.lemmas.Result.{IfOk-from_err}
-use Rattle.world_core.specs.Telling.{IfTelling}
+use Rattle.links.specs.Telling.{IfTelling}
 use Rattle.world_model.specs.Messages.{to_hub}
 use Rattle.hub_lane.specs.Greeting.{HasAskedNothing, IsSaid, StaysFresh}
 use Rattle.hub_lane.proofs.Listened.{got_end, quiet_end}

@@ -1,5 +1,5 @@
 use Rattle.std.proofs.Common.{Option, subst}
-use Rattle.world_core.specs.Telling.{Telling}
+use Rattle.links.specs.Telling.{Telling}
 use Rattle.hub_lane.specs.Lanes.{IsLane}
 use Rattle.hub_lane.proofs.Truth.{whole}
 use Rattle.hub_lane.proofs.laws.a_finished_lane_is_whole.Goals as goal

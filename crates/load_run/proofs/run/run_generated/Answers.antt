@@ -1,11 +1,11 @@
 use Rattle.std.proofs.Common.{◌≡◌, List, length, map, Err, refl, ap, subst}
 use Rattle.std.specs.List.{AllByRecursion}
 use Rattle.board_greeting.specs.Reports.{shown_by}
-use Rattle.board_node.specs.declared.spec.BoardSpec.{BoardSpec}
+use Rattle.board_specs.specs.declared.spec.BoardSpec.{BoardSpec}
 use Rattle.world_model.specs.Settings.{Limits}
 use Rattle.script_steps.specs.declared.operation.Step.{Step}
-use Rattle.lane_history.specs.Links.{IsUntouched}
-use Rattle.lane_history.specs.Runs.{AreRunsOver}
+use Rattle.board_history.specs.Links.{IsUntouched}
+use Rattle.board_history.specs.LinkRuns.{AreRunsOver}
 use Rattle.load_run.specs.Generated.{boards, steps}
 use Rattle.load_run.specs.Summary.{all_done, summary_of, summary_text}
 use Rattle.session_run.specs.Links.{AreLeft, AreMadeFor}

@@ -1,6 +1,6 @@
 use Rattle.std.proofs.Common.{List, map, refl, sym, subst, arith, ◌∙◌}
 use Rattle.board_greeting.specs.Reports.{shown_by}
-use Rattle.board_node.specs.declared.spec.BoardSpec.{BoardSpec}
+use Rattle.board_specs.specs.declared.spec.BoardSpec.{BoardSpec}
 use Rattle.world_model.specs.Settings.{Limits}
 use Rattle.script_steps.specs.declared.operation.Step.{Step}
 use Rattle.load_run.specs.Generated.{boards, settings, steps}

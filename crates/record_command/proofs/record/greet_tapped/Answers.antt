@@ -1,7 +1,7 @@
 use Rattle.std.proofs.Common.{◌∙◌, ap, subst, sym}
 use Rattle.board_greeting.proofs.Boards.{can_begin_here, is_reached}
 use Rattle.hub_lane.specs.Greeting.{IsUnused}
-use Rattle.link_tap.specs.Traffic.{Tapped}
+use Rattle.record_command.specs.Traffic.{Tapped}
 use Rattle.record_command.specs.Taps.{tap_ghosts}
 use Rattle.record_command.proofs.Tapped.{unused_for}
 use Rattle.record_command.proofs.record.greet_tapped.Goals as goal

@@ -5,8 +5,8 @@ use Rattle.board_greeting.specs.Boards.{AreReached, HasMemory, IsFreshLink}
 use Rattle.board_greeting.specs.Reports.{shown_by}
 use Rattle.hub_lane.specs.Greeting.{link_of}
 use Rattle.session_run.specs.Links.{AreLeft}
-use Rattle.lane_history.specs.Runs.{AreRunsOver}
-use Rattle.link_tap.specs.Traffic.{Tapped}
+use Rattle.board_history.specs.LinkRuns.{AreRunsOver}
+use Rattle.record_command.specs.Traffic.{Tapped}
 use Rattle.record_command.specs.Taps.{tap_ghosts}
 use Rattle.record_command.proofs.Tapped.{back_alone, kept_one, left_alone, pushed_alone, ran_alone, reached_alone}
 use Rattle.record_command.proofs.Tapped.{same_alone, stays_left}

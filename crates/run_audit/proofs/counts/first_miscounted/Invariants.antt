@@ -1,5 +1,5 @@
 use Rattle.std.proofs.Common.{List, map}
-use Rattle.board_node.specs.declared.spec.BoardSpec.{BoardSpec}
+use Rattle.board_specs.specs.declared.spec.BoardSpec.{BoardSpec}
 use Rattle.run_audit.specs.Steps.{AreOf, asking}
 use Rattle.run_audit.proofs.Distinct.{NoneMiscounted}
 use Rattle.run_audit.proofs.counts.first_miscounted.Given as goal

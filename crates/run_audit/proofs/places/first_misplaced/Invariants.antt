@@ -1,5 +1,5 @@
 use Rattle.std.proofs.Common.{List, map}
-use Rattle.board_node.specs.declared.spec.BoardSpec.{BoardSpec}
+use Rattle.board_specs.specs.declared.spec.BoardSpec.{BoardSpec}
 use Rattle.script_steps.specs.declared.operation.Step.{Step}
 use Rattle.run_audit.specs.Steps.{AreOf, IsFirstBroken, asking}
 use Rattle.run_audit.proofs.FirstBroken.{IsMisplacedBelow}

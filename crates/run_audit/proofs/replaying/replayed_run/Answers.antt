@@ -26,5 +26,5 @@ returns c =
     let parts = run_is c.args.board.now c.args.plans pieces c.in_ok-rows.rows.items c.in_ok-replies.replies.items
     c.in_ok-parts_of.field-0 rows replies made in
     let name : c.in_ok-copy_of.field-0 ≡ c.args.board.now.name = c.in_ok-copy_of.ensures ∙ c.as_str.ensures in
-    let told = c.greeting_of.ensures.told in
+    let told = c.greeting_of.ensures.greeting in
     same_run _ _ _ _ _ _ name told parts

@@ -1,5 +1,5 @@
 use Rattle.session_input.specs.Deserved.{BreaksInServe}
-use Rattle.server_summary.specs.Text.{all_closed}
+use Rattle.serve_command.specs.Text.{all_closed}
 use Rattle.command_terms.proofs.Documents.{long_refused, one_line}
 use Rattle.command_terms.proofs.Statuses.{told_is_done}
 use Rattle.serve_command.proofs.laws.the_terms_of_serve.Goals as goal

@@ -1,6 +1,6 @@
 use Rattle.std.proofs.Common.{length, map, Ok, Err, ap, refl, subst}
 use Rattle.std.specs.List.{AllByRecursion}
-use Rattle.lane_history.specs.Links.{IsUntouched}
+use Rattle.board_history.specs.Links.{IsUntouched}
 use Rattle.board_greeting.specs.Reports.{shown_by}
 use Rattle.board_greeting.specs.Links.{AreMadeFor}
 use Rattle.session_serve.specs.Boards.{AreLinksTo}

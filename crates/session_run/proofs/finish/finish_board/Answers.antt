@@ -1,8 +1,8 @@
 use Rattle.std.proofs.Common.{◌≡◌, subst, arith}
 use Rattle.std.proofs.lemmas.Grind.{common_steps}
 use Rattle.script_plans.specs.declared.board_run.BoardRun.{BoardRun}
-use Rattle.lane_history.specs.Links.{LinkReport}
-use Rattle.lane_history.specs.Runs.{IsRunOver, ShowsLates, ShowsScripts}
+use Rattle.board_history.specs.Links.{LinkReport}
+use Rattle.board_history.specs.LinkRuns.{IsRunOver, ShowsLates, ShowsScripts}
 use Rattle.board_greeting.specs.Reports.{shown_by}
 use Rattle.board_greeting.specs.Places.{IsIdleBoard}
 use Rattle.session_run.specs.Places.{IsCameOf}

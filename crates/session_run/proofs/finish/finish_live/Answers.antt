@@ -4,8 +4,8 @@ use Rattle.std.proofs.lemmas.Result.{IfOk-weaker}
 use Rattle.ipb_base.specs.Numbers.{payload_of}
 use Rattle.script_plans.specs.declared.board_run.BoardRun.{BoardRun}
 use Rattle.script_plans.specs.declared.greeting.Greeting.TheVariants.{Live}
-use Rattle.lane_history.specs.Runs.{IsRunOver}
-use Rattle.lane_history.proofs.Shown.{some_then}
+use Rattle.board_history.specs.LinkRuns.{IsRunOver}
+use Rattle.board_history.proofs.LaneShown.{some_then}
 use Rattle.hub_lane.specs.Standing.{IsStanding}
 use Rattle.board_greeting.specs.Reports.{shown_by}
 use Rattle.session_run.specs.Boards.{IsNamed}

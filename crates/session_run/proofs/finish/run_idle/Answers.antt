@@ -7,8 +7,8 @@ use Rattle.std.proofs.lemmas.List.{take_all}
 use Rattle.script_steps.specs.Packing.{CanBePacked, HaveFewPieces}
 use Rattle.script_plans.specs.Plan.{plans_on}
 use Rattle.script_plans.specs.declared.board_run.BoardRun.{BoardRun}
-use Rattle.lane_history.specs.Links.{LinkReport}
-use Rattle.lane_history.specs.Runs.{ShowsLates, ShowsScripts}
+use Rattle.board_history.specs.Links.{LinkReport}
+use Rattle.board_history.specs.LinkRuns.{ShowsLates, ShowsScripts}
 use Rattle.session_run.specs.Boards.{IsNamed}
 use Rattle.session_run.proofs.DispatchParts.{plan_in_part}
 use Rattle.session_run.proofs.Idle.{HasNothing, idle_lates, idle_shows}

@@ -1,7 +1,7 @@
 use Rattle.std.proofs.Common.{◌≡◌, false, take}
 use Rattle.std.specs.Prelude.{is_some}
 use Rattle.std.specs.List.{list_any}
-use Rattle.lane_history.specs.Lates.{late_for}
+use Rattle.board_history.specs.Lates.{late_for}
 use Rattle.session_run.proofs.late_answers.came_late.Given as goal
 
 -- nothing came late for the bodies so far

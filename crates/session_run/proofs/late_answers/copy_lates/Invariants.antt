@@ -1,5 +1,5 @@
 use Rattle.std.proofs.Common.{◌≡◌, map, take, ◌≤◌, vec_len, vec_capacity, length}
-use Rattle.lane_history.specs.Lates.{late_for}
+use Rattle.board_history.specs.Lates.{late_for}
 use Rattle.session_run.proofs.late_answers.copy_lates.Given as goal
 
 -- what came late for the bodies so far, and room for that of all

@@ -1,4 +1,4 @@
-use Rattle.lane_history.proofs.Shown.{some_then}
+use Rattle.board_history.proofs.LaneShown.{some_then}
 use Rattle.hub_lane.specs.Greeting.{CanBegin}
 use Rattle.session_run.specs.Links.{HasStood}
 use Rattle.session_run.proofs.Left.{fresh_stood}

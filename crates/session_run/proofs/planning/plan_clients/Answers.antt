@@ -7,7 +7,7 @@ use Rattle.lane_record.specs.declared.item.Item.{Item}
 use Rattle.lane_record.specs.Items.{is_sealed}
 use Rattle.lane_record.specs.NextEntry.{the_seal}
 use Rattle.lane_record.specs.Dispatches.{all_plans_from}
-use Rattle.lane_history.specs.Records.{IsPartlyPlanned}
+use Rattle.board_history.specs.Records.{IsPartlyPlanned}
 use Rattle.hub_lane.specs.Lanes.{board_of}
 use Rattle.script_steps.specs.Packing.{CanBePacked, HaveFewPieces}
 use Rattle.script_plans.specs.declared.greeting.Greeting.TheVariants.{Live}

@@ -2,7 +2,7 @@ use Rattle.std.proofs.Common.{◌∙◌, ◌++◌, Vec, Global, ap, length, map,
 use Rattle.std.proofs.lemmas.Grind.{common_steps}
 use Rattle.std.proofs.lemmas.Result.{IfOk-from_err, IfOk-weaker}
 use Rattle.script_plans.specs.declared.board_run.BoardRun.{BoardRun}
-use Rattle.lane_history.specs.Runs.{AreRunsOver}
+use Rattle.board_history.specs.LinkRuns.{AreRunsOver}
 use Rattle.board_greeting.specs.Reports.{shown_by}
 use Rattle.board_greeting.proofs.Boards.{made_still}
 use Rattle.session_run.specs.Links.{Keeps}

@@ -1,7 +1,7 @@
 use Rattle.std.proofs.Common.{◌≡◌, ℕ, ◌+◌, ◌++◌, [], List, ap, sym, ◌∙◌, drop, append-nil, arith}
 use Rattle.std.proofs.lemmas.Grind.{common_steps}
 use Rattle.std.proofs.lemmas.List.{drop_all}
-use Rattle.board_node.specs.declared.spec.BoardSpec.{BoardSpec}
+use Rattle.board_specs.specs.declared.spec.BoardSpec.{BoardSpec}
 use Rattle.transcript_reader.specs.Entries.{lines_of, told_from}
 use Rattle.transcript_reader.specs.Walks.{HasRoom}
 use Rattle.transcript_reader.proofs.Lists.{all_push}

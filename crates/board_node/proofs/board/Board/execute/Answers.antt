@@ -11,8 +11,8 @@ use Rattle.circular_buffer.specs.Buffer.{Buffer, buffer}
 use Rattle.std.specs.List.{AllByRecursion}
 use Rattle.world_model.specs.Board.{Board, expected_identifier, held_replies, is_too_long, numbered_count, present_bus}
 use Rattle.board_node.specs.View.{board_of, keeping, FitsMtu}
-use Rattle.board_node.proofs.Logs.{bus_grows, fits, logged_grows, numbered_most, numbered_one_more, one_if, one_most}
-use Rattle.board_node.proofs.Logs.{with_entry}
+use Rattle.world_model.proofs.BoardLogs.{numbered_most, numbered_one_more, with_entry}
+use Rattle.board_node.proofs.Logs.{bus_grows, fits, logged_grows, one_if, one_most}
 use Rattle.board_node.proofs.Rings.{holds_more, keeping_all}
 use Rattle.board_node.proofs.board.Board.execute.Goals as goal
 

@@ -1,7 +1,7 @@
 use Rattle.std.proofs.Common.{◌+◌, ◌∙◌, ℕ, ap, arith}
 use Rattle.packet_ids.specs.Identifier.{identifier_at}
 use Rattle.world_model.specs.Board.{expected_identifier}
-use Rattle.board_node.proofs.Logs.{numbered_most}
+use Rattle.world_model.proofs.BoardLogs.{numbered_most}
 use Rattle.board_node.proofs.board.Board.next.Goals as goal
 
 pub overflow_add-self-inside : goal.overflow_add-self-inside

@@ -1,5 +1,5 @@
 use Rattle.std.proofs.Common.{Option, subst}
-use Rattle.world_core.specs.Telling.{Telling}
+use Rattle.links.specs.Telling.{Telling}
 use Rattle.hub_lane.specs.Lanes.{IsLane}
 use Rattle.hub_lane.specs.Truth.{HasEachLate}
 use Rattle.hub_lane.proofs.Truth.{told_each}

@@ -1,7 +1,7 @@
 use Rattle.std.proofs.Common.{◌≡◌, ◌∙◌, ℕ, List, sym, ap, subst, refl, length, ◌++◌, ◌∷◌, [], Some, None, ◌≤◌}
 use Rattle.std.proofs.Common.{if◌then◌else◌, ◌||◌}
 use Rattle.std.specs.Prelude.{IfSome}
-use Rattle.world_core.specs.Telling.{IfTelling}
+use Rattle.links.specs.Telling.{IfTelling}
 use Rattle.world_model.specs.Hub.{Hub, offer}
 use Rattle.lane_record.specs.declared.outcome.Outcome.TheVariants.{LinkLost}
 use Rattle.world_model.specs.Facts.{IsSendable}

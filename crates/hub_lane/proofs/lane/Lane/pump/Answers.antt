@@ -6,7 +6,7 @@ use Rattle.lane_record.specs.declared.outcome.Outcome.{Outcome}
 use Rattle.lane_record.specs.Lates.{late_in}
 use Rattle.lane_record.specs.Offers.{all_lost}
 use Rattle.std.specs.Prelude.{IfSome}
-use Rattle.world_core.specs.Telling.{IfTelling}
+use Rattle.links.specs.Telling.{IfTelling}
 use Rattle.hub_lane.specs.Carrying.{Pumping}
 use Rattle.hub_lane.specs.declared.answers.Pumped.TheVariants.{LinkDown}
 use Rattle.hub_lane.specs.Lanes.{LaneState, opening_of}

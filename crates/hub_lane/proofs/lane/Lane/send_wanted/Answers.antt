@@ -4,7 +4,7 @@ use Rattle.lane_record.specs.Lates.{late_in}
 use Rattle.std.specs.Prelude.{IfSome}
 use Rattle.hub_lane.specs.Lanes.{LaneState, opening_of}
 use Rattle.hub_lane.specs.Links.{ReceivesNothing}
-use Rattle.world_core.specs.Telling.{IfTelling}
+use Rattle.links.specs.Telling.{IfTelling}
 use Rattle.hub_lane.specs.Rounds.{HasPaid, RoundAfter, Sends, round_of}
 use Rattle.hub_lane.proofs.Datagrams.{heard_down, heard_still}
 use Rattle.hub_lane.proofs.Listened.{listened_sent, lost_answers, same_answers, same_prefix}

@@ -1,5 +1,5 @@
 use Rattle.std.proofs.Common.{◌≤◌, ◌∙◌, sym, ap, subst, List, ℕ, length}
-use Rattle.world_core.specs.declared.link.TheConstants.{MAX_DATAGRAM}
+use Rattle.links.specs.declared.link.TheConstants.{MAX_DATAGRAM}
 use Rattle.lossy_network.specs.Network.{Network, front}
 use Rattle.lossy_network.specs.Inside.{IsShort, network_of, stands}
 use Rattle.lossy_network.proofs.Hearing.{all_at, hub_bytes_none}

@@ -2,7 +2,7 @@ use Rattle.std.proofs.Common.{◌≡◌, ◌≤◌, ◌+◌, ◌∙◌, subst, s
 use Rattle.std.specs.List.{slice_get}
 use Rattle.board_node.specs.Answers.{answer_bytes}
 use Rattle.world_model.specs.Board.{Board, hear}
-use Rattle.world_core.specs.declared.link.TheConstants.{MAX_DATAGRAM}
+use Rattle.links.specs.declared.link.TheConstants.{MAX_DATAGRAM}
 use Rattle.lossy_network.specs.Network.{Network, Taken, Taking, front}
 use Rattle.lossy_network.specs.Inside.{IsDrawn, network_of, traffic_of}
 use Rattle.lossy_network.proofs.Hearing.{air_grows, air_short, hub_bytes_none, when_none}

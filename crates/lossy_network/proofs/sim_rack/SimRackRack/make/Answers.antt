@@ -1,6 +1,6 @@
 use Rattle.std.proofs.Common.{◌≡◌, Err, subst, sym}
 use Rattle.ipb_outside.specs.Faults.{RisesExactlyIf}
-use Rattle.lossy_network.specs.declared.rack.RackFault.TheVariants.{Failed}
+use Rattle.links.specs.declared.rack.RackFault.TheVariants.{Failed}
 use Rattle.lossy_network.specs.Racks.{RackState}
 use Rattle.lossy_network.proofs.Makes.{faults_count}
 use Rattle.lossy_network.proofs.sim_rack.SimRackRack.make.Goals as goal

@@ -3,7 +3,8 @@ use Rattle.reliable_engine.specs.Answers.{body_count}
 use Rattle.world_model.specs.Sends.{pending}
 use Rattle.world_model.specs.World.{World, flush}
 use Rattle.world_core.specs.Steps.{HasSpellings, world_of}
-use Rattle.world_core.proofs.Sends.{all_flushed, put_flushed, put_smaller, sent_spelled, writable}
+use Rattle.world_core.proofs.Flushes.{all_flushed, put_flushed, put_smaller, sent_spelled}
+use Rattle.links.proofs.Sends.{writable}
 use Rattle.world_core.proofs.run.Run.flush.Goals as goal
 
 pub put-requires : goal.put-requires

@@ -5,12 +5,12 @@ use Rattle.reliable_engine.specs.Answers.{body_count}
 use Rattle.world_model.specs.Messages.{ToHub, StatusReply, Reply as ReplyTo}
 use Rattle.world_model.specs.Hub.{Hub, take_message}
 use Rattle.world_model.specs.Facts.{HasBodies}
-use Rattle.world_core.specs.declared.message.Message.{Message}
-use Rattle.world_core.specs.declared.message.Message.TheVariants.{Reply, Status, Other}
-use Rattle.world_core.specs.Messages.{IsRead}
-use Rattle.world_core.specs.declared.datagrams.DatagramRef.{DatagramRef}
+use Rattle.links.specs.declared.message.Message.{Message}
+use Rattle.links.specs.declared.message.Message.TheVariants.{Reply, Status, Other}
+use Rattle.links.specs.Messages.{IsRead}
+use Rattle.lossy_network.specs.declared.datagrams.DatagramRef.{DatagramRef}
 use Rattle.world_core.specs.Steps.{HasSpellings, world_of}
-use Rattle.world_core.specs.Store.{datagram_of, lent_datagram}
+use Rattle.lossy_network.specs.Store.{datagram_of, lent_datagram}
 use Rattle.world_core.proofs.Hearing.{message_told, other_told}
 use Rattle.world_core.proofs.run.Run.tell_hub.Goals as goal
 

@@ -1,9 +1,0 @@
-use Rattle.std.proofs.Common.{arith}
-use Rattle.std.proofs.lemmas.Grind.{elements}
-use Rattle.access_policy.proofs.permitting.op_decision.Goals as goal
-
-pub returns-in_default : goal.returns-in_default
-returns-in_default c = grind (arith, elements)
-
-pub returns : goal.returns
-returns c = grind (arith, elements)

@@ -1,0 +1,29 @@
+-- Links that do not tell, worked by hand: what their receives brought. Profile.
+use Rattle.std.specs.Prelude.{ℕ, List, [], ◌∷◌, ◌++◌, replicate, Option, Some, None}
+use Rattle.board_history.specs.Links.{LinkReport}
+
+-- the status of a board with an MTU of 1500 and 4 response buffers, which expects identifier 1
+abbrev pub status_datagram : List ℕ
+status_datagram =
+    (0x20 ∷ 0 ∷ 0 ∷ 0xf1 ∷ 0 ∷ 0 ∷ 5 ∷ 0xdc ∷ 0 ∷ 0 ∷ 0 ∷ 4 ∷ 0x20 ∷ 0 ∷ 1 ∷ 0xf0 ∷ []) ++ replicate 48 0
+
+-- the reply to the packet with identifier 1: one word, 7, was read
+abbrev pub reply_datagram : List ℕ
+reply_datagram = 0x20 ∷ 0 ∷ 1 ∷ 0xf0 ∷ 0x20 ∷ 0 ∷ 1 ∷ 0 ∷ 0 ∷ 0 ∷ 0 ∷ 7 ∷ []
+
+-- its words
+abbrev pub seven_read : List ℕ
+seven_read = 0x20000100 ∷ 7 ∷ []
+
+-- a link that received this
+abbrev pub that_received : List (Option (List ℕ)) → LinkReport
+that_received receives =
+    record { faults = 0; quiets = 1; gots = 2; held = 0; receives = receives; telling = None }
+
+-- first nothing, then the status, and then the reply
+abbrev pub greeted_and_replied : LinkReport
+greeted_and_replied = that_received (None ∷ Some status_datagram ∷ Some reply_datagram ∷ [])
+
+-- the reply before the status
+abbrev pub replied_and_greeted : LinkReport
+replied_and_greeted = that_received (None ∷ Some reply_datagram ∷ Some status_datagram ∷ [])

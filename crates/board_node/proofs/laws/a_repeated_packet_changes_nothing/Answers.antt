@@ -1,6 +1,0 @@
-use Rattle.board_node.proofs.Turns.{repeated}
-use Rattle.board_node.proofs.laws.a_repeated_packet_changes_nothing.Goals as goal
-
-pub returns : goal.returns
-returns c = λ board datagram between order id body first said not heard few.
-    repeated board datagram between order id body first.from_one said not heard few

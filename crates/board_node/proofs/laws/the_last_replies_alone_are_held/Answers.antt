@@ -1,8 +1,0 @@
-use Rattle.board_node.proofs.Held.{among_last, not_held}
-use Rattle.board_node.proofs.laws.the_last_replies_alone_are_held.Goals as goal
-
-pub returns-clause-held : goal.returns-clause-held
-returns-clause-held c = among_last
-
-pub returns-clause-not_held : goal.returns-clause-not_held
-returns-clause-not_held c = not_held

@@ -1,8 +1,0 @@
-pub mod Joint
-pub mod Walks
-pub mod Shown
-pub mod Sends
-pub mod Spelled
-pub mod OneMore
-pub mod Runs
-pub mod Lanes

@@ -1,5 +1,0 @@
-use Rattle.lane_history.proofs.Steps.{finished}
-use Rattle.lane_history.proofs.records.a_clients_record_is_finished.Goals as goal
-
-pub returns : goal.returns
-returns c = finished

@@ -1,5 +1,0 @@
-use Rattle.lane_history.proofs.Live.{only_lost}
-use Rattle.lane_history.proofs.records.bodies_are_lost_with_a_failed_link.Goals as goal
-
-pub returns : goal.returns
-returns c = only_lost

@@ -1,5 +1,0 @@
-use Rattle.lane_history.proofs.Live.{all_tell}
-use Rattle.lane_history.proofs.records.timed_out_bodies_tell_the_rounds.Goals as goal
-
-pub returns : goal.returns
-returns c = all_tell

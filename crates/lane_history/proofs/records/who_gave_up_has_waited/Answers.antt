@@ -1,5 +1,0 @@
-use Rattle.lane_history.proofs.Waits.{has_waited}
-use Rattle.lane_history.proofs.records.who_gave_up_has_waited.Goals as goal
-
-pub returns : goal.returns
-returns c = has_waited

@@ -1,0 +1,6 @@
+pub mod Births
+pub mod Sends
+mod Reading
+mod States
+mod Receives
+mod Calls

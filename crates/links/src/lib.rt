@@ -1,0 +1,30 @@
+//! What a hub knows of a network, whatever it is: the link to one board, the rack that makes links and keeps them, what
+//! a datagram says to a hub and how its sends are spelled, and what waits beside a link.
+//!
+//! Nothing here is a link: those that the program has are in crates above, over a simulated network and over UDP. The
+//! laws say what a hub over a link that tells comes to: each thing that they do leads to a state of a run of
+//! `world_model`.
+#![tactic(auto)]
+
+mod found;
+pub mod laws;
+mod link;
+mod message;
+mod rack;
+mod receive_log;
+mod sending;
+mod spec_log;
+mod waiter;
+
+pub use board_specs::{BoardSpec, LinkSpec};
+pub use found::{Found, what_was_found_is_read_back};
+pub use ipb_base::{NoMemory, Words};
+pub use link::{LIFETIME, Link, LinkFault, MAX_DATAGRAM, Received};
+pub use message::{Message, read_for_hub};
+pub use rack::{Rack, RackFault};
+pub use receive_log::ReceiveLog;
+pub use reliable_engine::{Engine, Sending};
+pub use sending::{append_sending, write_sending};
+pub use spec_log::SpecLog;
+pub use status_packet::Status;
+pub use waiter::{MOST_FROM_ELSEWHERE, Sighting, Waiter};

@@ -1,0 +1,119 @@
+//! What a hub knows of a network: a link to one board.
+
+ghost use Rattle.std.specs.Prelude.{◌≡◌, ◌≢◌, ◌≤◌, ℕ, List, Option, length, OnOk, OnErr, Err, IfSome};
+ghost use Rattle.ipb_base.specs.Faults.{Rose};
+ghost use Rattle.links.specs.Telling.{gots_after, IfTelling, IsCarried, IsSent, quiets_after, Receives, Telling};
+ghost use Rattle.links.specs.Receives.{receives_after};
+
+use crate::waiter::Waiter;
+use ipb_base::NoMemory;
+use std::alloc::Global;
+
+/// The most further first sends to the board after which a datagram may still be heard (profile).
+pub const LIFETIME: u64 = 32_768;
+
+/// The most bytes of a datagram: as many as the greatest MTU (profile).
+pub const MAX_DATAGRAM: usize = 9000;
+
+/// Why a link did not do what it was asked.
+#[derive(Clone, Copy, PartialEq, Eq)]
+pub enum LinkFault {
+    /// The network failed. The link counted it.
+    Failed,
+    /// Memory ran out for the datagram.
+    NoMemory,
+}
+
+impl From<NoMemory> for LinkFault {
+    ghost use Rattle.std.specs.Prelude.{◌≡◌};
+    ghost use Rattle.links.specs.declared.link.LinkFault.TheVariants.{NoMemory as no_memory};
+
+    ghost from_gives = { λ _ fault. fault ≡ no_memory };
+
+    fn from(_error: NoMemory) -> LinkFault {
+        LinkFault::NoMemory
+    }
+}
+
+/// What a receive came to.
+#[derive(Clone, Copy, PartialEq, Eq)]
+pub enum Received {
+    /// A datagram is in the buffer.
+    Got,
+    /// None came in the time that the link waits.
+    Quiet,
+}
+
+/// A link to one board (profile). It may lose datagrams, repeat them, delay them and change their order.
+///
+/// Contracts see four counts, none of which falls: its faults, the receives that were quiet and those that got a
+/// datagram, and the datagrams that it lost, delayed or dropped for age. A count stands still at 2^64 - 1. They see what
+/// each receive came to, of which the program need not keep a byte. A link may tell what it carries, as a simulated one
+/// does: then contracts see its board and all datagrams ever sent too, and a fault is counted only in a call that fails.
+/// Whether it tells never changes.
+pub trait Link {
+    /// What it tells, where it tells: its board and its air, what is still to be heard, and what was handed out. A
+    /// first send is a control packet with the identifier of the place after the last first send, and places are
+    /// counted from the board's first identifier.
+    ghost telling: { Self → Option Telling };
+
+    /// How often the network failed.
+    ghost faults: { Self → ℕ };
+
+    /// How many receives were quiet.
+    ghost quiets: { Self → ℕ };
+
+    /// How many receives got a datagram.
+    ghost gots: { Self → ℕ };
+
+    /// How many datagrams were lost, delayed or dropped for age.
+    ghost held: { Self → ℕ };
+
+    /// What the receives came to that did not fail, in order: the bytes of a datagram, or none.
+    ghost receives: { Self → List (Option (List ℕ)) };
+
+    /// Sends a datagram to the board. A refused one changes nothing that the link tells.
+    fn send(&mut self, bytes: &[u8]) -> Result<(), LinkFault>
+        requires { length bytes.now ≤ MAX_DATAGRAM }
+        ensures sent { OnOk result (IfTelling (telling self.old) (telling self.new)
+            (IsSent bytes.now (held self.old) (held self.new))) }
+        ensures refused { OnErr result (telling self.new ≡ telling self.old) }
+        ensures failed { result ≡ Err LinkFault.Failed → Rose (faults self.old) (faults self.new) }
+        ensures unfaulted { IfSome (telling self.old) (λ _.
+            result ≢ Err LinkFault.Failed → faults self.new ≡ faults self.old) }
+        ensures faults { faults self.old ≤ faults self.new }
+        ensures quiets { quiets self.new ≡ quiets self.old }
+        ensures gots { gots self.new ≡ gots self.old }
+        ensures receives { receives self.new ≡ receives self.old }
+        ensures held { held self.old ≤ held self.new };
+
+    /// Waits for a datagram from the board, and puts it into `into` in place of what stood there. `into` is empty where
+    /// none came.
+    fn receive(&mut self, into: &mut Vec<u8>) -> Result<Received, LinkFault>
+        ensures datagram { IsCarried result into.new.items }
+        ensures received { IfTelling (telling self.old) (telling self.new)
+            (Receives result into.new.items (held self.old) (held self.new)) }
+        ensures failed { result ≡ Err LinkFault.Failed → Rose (faults self.old) (faults self.new) }
+        ensures unfaulted { IfSome (telling self.old) (λ _.
+            result ≢ Err LinkFault.Failed → faults self.new ≡ faults self.old) }
+        ensures faults { faults self.old ≤ faults self.new }
+        ensures quiets { quiets self.new ≡ quiets_after result (quiets self.old) }
+        ensures quiets_rise { quiets self.old ≤ quiets self.new }
+        ensures gots { gots self.new ≡ gots_after result (gots self.old) }
+        ensures gots_rise { gots self.old ≤ gots self.new }
+        ensures receives { receives self.new ≡ receives_after result into.new.items (receives self.old) }
+        ensures held { held self.old ≤ held self.new };
+
+    /// What waits for the next datagram beside the link. `None` where there is nothing to wait for, or no room for it.
+    /// Nothing that contracts see of the link changes.
+    fn waiter(&mut self, _alloc: Global) -> Option<Waiter>
+        ensures telling { telling self.new ≡ telling self.old }
+        ensures faults { faults self.new ≡ faults self.old }
+        ensures quiets { quiets self.new ≡ quiets self.old }
+        ensures gots { gots self.new ≡ gots self.old }
+        ensures receives { receives self.new ≡ receives self.old }
+        ensures held { held self.new ≡ held self.old }
+    {
+        None
+    }
+}

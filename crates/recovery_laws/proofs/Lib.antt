@@ -1,7 +1,0 @@
-mod Answers
-mod Hearing
-pub mod Heard
-mod Receiving
-mod Sending
-mod Lowest
-pub mod Rounds

@@ -1,0 +1,5 @@
+pub mod Numbers
+pub mod Places
+pub mod States
+pub mod Errors
+pub mod Heard

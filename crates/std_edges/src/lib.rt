@@ -1,0 +1,54 @@
+//! The real outside: UDP links to boards and what a rack knows of them, TCP connections and a port that lets them in, and
+//! standard input and output.
+//!
+//! Each is a thin layer over the calls of std, proved against its trait. What the outside carried is told by none of
+//! them: contracts see counts, which stand still at the end of 64 bits. Links and doors may say on standard error what
+//! befalls them; no contract speaks of that.
+#![tactic(auto)]
+
+mod board_locks;
+mod bound;
+mod console;
+mod copying;
+mod counting;
+mod door_notes;
+mod errors;
+mod heard;
+mod kept_sink;
+mod kept_source;
+pub mod laws;
+mod link_notes;
+mod meter;
+mod pace;
+mod places;
+mod progress;
+mod rack_notes;
+mod reply_codes;
+mod silence;
+mod std_streams;
+mod steps;
+mod tally;
+mod tcp;
+mod tcp_door;
+mod udp_link;
+
+pub use console::Console;
+pub use errors::{SendOutcome, is_passing};
+pub use ipb_base::NoMemory;
+pub use ipb_outside::{Door, Failed, Sink, Source};
+pub use kept_sink::KeptSink;
+pub use kept_source::KeptSource;
+pub use link_notes::Voice;
+pub use links::{Link, LinkFault, Rack, RackFault, Received};
+pub use meter::{Counts, LongWait, Meter, Row, Span, rest_at};
+pub use pace::{Line, Pace, SECONDS_BETWEEN};
+pub use progress::{Progress, Watch};
+pub use rack_notes::RackNotes;
+pub use reply_codes::{OVERFULL, ReplyCodes};
+pub use silence::{SILENT_AFTER, Silence};
+pub use std_streams::{Printed, StdinSource, StdoutSink};
+pub use steps::{OUT_OF_STEP_AFTER, Steps, Told};
+pub use tally::{DEAF_AFTER, Deaf, Taken, Tally};
+pub use tcp::{EndWriting, TcpSink, TcpSource};
+pub use tcp_door::TcpDoor;
+pub use udp_link::UdpLink;

@@ -1,0 +1,332 @@
+//! A link to a board over UDP.
+
+ghost use Rattle.std.specs.Prelude.{◌≡◌, ◌≤◌, ℕ, [], length, IfOk, IfSome, OnOk, OnErr, None};
+ghost use Rattle.ipb_base.specs.Faults.{one_more};
+ghost use Rattle.links.specs.declared.link.TheConstants.{MAX_DATAGRAM};
+ghost use Rattle.links.specs.Receives.{receives_after};
+ghost use Rattle.std_edges.specs.Heard.{datagram_in, told_of, with_heard_counted};
+ghost use Rattle.std_edges.specs.States.{new_udp};
+
+use crate::bound::{BoundSocket, socket_that_waits};
+use crate::counting::incremented;
+use crate::errors::{SendOutcome, sent_as};
+use crate::heard::{Heard, copy_heard, hear_board};
+use crate::link_notes::{LinkNotes, Voice};
+use crate::places::place_of_board;
+use ipb_base::NoMemory;
+use ipb_outside::Failed;
+use links::{Link, LinkFault, MAX_DATAGRAM, ReceiveLog, Received, Sighting, Waiter};
+use std::alloc::Global;
+use std::io;
+use std::marker::Model;
+use std::net::{Net, SocketAddr};
+use std::sync::Arc;
+
+/// A link to a board at an IPv4 address and a UDP port. It does not tell what it carries, and knows of no datagram that
+/// was lost. Contracts see a `UdpState`.
+///
+/// The socket is bound to no peer, so that a board that is not there is quiet and makes no error.
+#[derive(Drop)]
+pub struct UdpLink {
+    socket: BoundSocket,
+    board: SocketAddr,
+    // room for one datagram, from the first receive on; so it is filled once
+    buffer: Vec<u8>,
+    // what the waiter found, where one was made
+    sighting: Option<Arc<Sighting, Global>>,
+    faults: u64,
+    quiets: u64,
+    gots: u64,
+    receives: ReceiveLog,
+    notes: LinkNotes,
+}
+
+impl Model for UdpLink {
+    ghost use Rattle.std.specs.Net.Socket.{socket_port};
+    ghost use Rattle.std_edges.specs.Places.{octets_of};
+    ghost use Rattle.std_edges.specs.States.{UdpState};
+
+    ghost Value = { UdpState };
+
+    ghost view = { λ link. record {
+      address = octets_of link.board;
+      port = socket_port link.board;
+      wait = link.socket.wait;
+      faults = link.faults;
+      quiets = link.quiets;
+      gots = link.gots;
+      receives = link.receives;
+    } };
+}
+
+impl UdpLink {
+    /// A link to the board at this address, the most significant number first, and this port. One receive waits for
+    /// `wait` milliseconds, and for 1 where that is 0. `Failed` where the machine refuses the socket.
+    pub fn new<R: Net + AllocGlobal>(
+        rt: &R,
+        address: [u8; 4],
+        port: u16,
+        wait: u32,
+    ) -> Result<UdpLink, Failed>
+        ensures { IfOk result (λ link. link ≡ new_udp address port wait) }
+    {
+        UdpLink::with_notes(rt, address, port, wait, None)
+    }
+
+    /// A link of which a voice, where it is given, says on standard error what the board told at its greeting, its first
+    /// error, that the board does not answer, that it answers again, and that it is out of step.
+    pub fn with_notes<R: Net + AllocGlobal>(
+        rt: &R,
+        address: [u8; 4],
+        port: u16,
+        wait: u32,
+        voice: Option<Voice>,
+    ) -> Result<UdpLink, Failed>
+        ensures { IfOk result (λ link. link ≡ new_udp address port wait) }
+    {
+        let board = place_of_board(address, port);
+        let mut notes = LinkNotes::new(voice);
+        match socket_that_waits(rt, wait) {
+            Ok(socket) => Ok(UdpLink {
+                socket,
+                board,
+                buffer: Vec::new(rt.alloc()),
+                sighting: None,
+                faults: 0,
+                quiets: 0,
+                gots: 0,
+                receives: ReceiveLog::new(rt.alloc()),
+                notes,
+            }),
+            Err(error) => {
+                notes.failed(error);
+                notes.down();
+                Err(Failed)
+            }
+        }
+    }
+
+    // Whether the waiter waited as long as a receive does, and found nothing, and nothing was sent since.
+    fn is_silent(&self) -> bool {
+        match &self.sighting {
+            Some(sighting) => sighting.take_silence(),
+            None => false,
+        }
+    }
+
+    // Counts a receive that was quiet.
+    fn count_quiet(&mut self) -> Received
+        ensures quiet { result ≡ Received.Quiet }
+        ensures counted { self.new ≡ record self.old { quiets = one_more self.old.quiets } }
+        ensures later { self.old.quiets ≤ self.new.quiets }
+    {
+        self.quiets = incremented(self.quiets);
+        self.notes.quiet();
+        Received::Quiet
+    }
+
+    // Counts an error.
+    fn count_fault(&mut self) -> LinkFault
+        ensures fault { result ≡ LinkFault.Failed }
+        ensures counted { self.new ≡ record self.old { faults = one_more self.old.faults } }
+        ensures later { self.old.faults ≤ self.new.faults }
+    {
+        self.faults = incremented(self.faults);
+        LinkFault::Failed
+    }
+
+    // Counts a receive that got a datagram.
+    fn count_got(&mut self) -> Received
+        ensures got { result ≡ Received.Got }
+        ensures counted { self.new ≡ record self.old { gots = one_more self.old.gots } }
+        ensures later { self.old.gots ≤ self.new.gots }
+    {
+        self.gots = incremented(self.gots);
+        Received::Got
+    }
+
+    // Counts what was heard, and answers what a receive does.
+    fn count_heard(&mut self, heard: Heard) -> Result<Received, LinkFault>
+        ensures told { result ≡ told_of heard }
+        ensures counted { self.new ≡ with_heard_counted heard self.old }
+        ensures faults { self.old.faults ≤ self.new.faults }
+        ensures quiets { self.old.quiets ≤ self.new.quiets }
+        ensures gots { self.old.gots ≤ self.new.gots }
+        ensures receives { self.new.receives ≡ self.old.receives }
+    {
+        match heard {
+            Heard::Board(_) => Ok(self.count_got()),
+            Heard::Elsewhere | Heard::Nothing => Ok(self.count_quiet()),
+            Heard::Fault(error) => {
+                self.notes.down();
+                Err(self.count_error(error))
+            }
+        }
+    }
+
+    /// The link is given back: says what was not said yet.
+    pub fn finish(&mut self)
+        ensures { self.new ≡ self.old }
+    {
+        self.notes.finish();
+    }
+
+    // Counts an error of the machine, and says it where it is the first.
+    fn count_error(&mut self, error: io::Error) -> LinkFault
+        ensures fault { result ≡ LinkFault.Failed }
+        ensures counted { self.new ≡ record self.old { faults = one_more self.old.faults } }
+        ensures later { self.old.faults ≤ self.new.faults }
+    {
+        self.notes.failed(error);
+        self.count_fault()
+    }
+}
+
+impl Link for UdpLink {
+    ghost telling = { λ _. None };
+
+    ghost faults = { λ link. link.faults };
+
+    ghost quiets = { λ link. link.quiets };
+
+    ghost gots = { λ link. link.gots };
+
+    ghost held = { λ _. 0 };
+
+    ghost receives = { λ link. link.receives };
+
+    /// One datagram to the board. An error, of any kind, is counted, and so is a datagram of which a part alone went.
+    /// After an error that passes (`is_passing`) the datagram counts as sent: it is lost, as on the network.
+    fn send(&mut self, bytes: &[u8]) -> Result<(), LinkFault> {
+        let sent = self.socket.socket().send_to(bytes, self.board);
+        self.notes.sent(bytes);
+        // behind the send, so that a wait that begins between them does not take it for an earlier one
+        if let Some(sighting) = &self.sighting {
+            sighting.count_send();
+        }
+        let came_to = sent_as(&sent, bytes.len());
+        if came_to == SendOutcome::Sent {
+            return Ok(());
+        }
+        let fault = match sent {
+            Ok(_) => self.count_fault(),
+            Err(error) => self.count_error(error),
+        };
+        match came_to {
+            SendOutcome::Sent | SendOutcome::Lost => Ok(()),
+            SendOutcome::Failed => {
+                self.notes.down();
+                Err(fault)
+            }
+        }
+    }
+
+    /// The next datagram from the board's address and port, and its first 9000 bytes where it is longer. Quiet where
+    /// none came in the time that the link waits, which begins again at each datagram from elsewhere, where a signal
+    /// interrupts it and at an error that passes, and after 64 of those. Quiet at once where the waiter found that none
+    /// came in that time. An error, of any kind, is counted, those that pass once for the receive.
+    fn receive(&mut self, into: &mut Vec<u8>) -> Result<Received, LinkFault> {
+        into.clear();
+        self.receives.reserve()?;
+        if self.is_silent() {
+            self.receives.add_quiet()?;
+            return Ok(self.count_quiet());
+        }
+        // all memory is taken before a datagram is
+        make_rooms(&mut self.buffer, into)?;
+        let mut passed = None;
+        let buffer = self.buffer.as_mut_slice();
+        let heard = hear_board(self.socket.socket(), self.board, buffer, &mut passed);
+        count_passed(passed, &mut self.faults, &mut self.notes);
+        keep_heard(&heard, &self.buffer, into, &mut self.receives)?;
+        note_heard(&heard, into, &mut self.notes);
+        self.count_heard(heard)
+    }
+
+    /// It waits at another handle of the same socket. `None` too where the machine has no handle or memory for it.
+    fn waiter(&mut self, alloc: Global) -> Option<Waiter> {
+        let Ok(socket) = self.socket.socket().try_clone() else {
+            return None;
+        };
+        match Waiter::new(alloc, socket, self.board) {
+            Ok((waiter, sighting)) => {
+                self.sighting = Some(sighting);
+                Some(waiter)
+            }
+            Err(_error) => None,
+        }
+    }
+}
+
+// Counts an error that passed, where there was one, and says it where it is the first.
+fn count_passed(passed: Option<io::Error>, faults: &mut u64, notes: &mut LinkNotes)
+    ensures counted { IfSome passed (λ _. faults.new ≡ one_more faults.old) }
+    ensures later { faults.old ≤ faults.new }
+{
+    if let Some(error) = passed {
+        notes.failed(error);
+        *faults = incremented(*faults);
+    }
+}
+
+// Notes a datagram of the board, where one was heard.
+fn note_heard(heard: &Heard, datagram: &[u8], notes: &mut LinkNotes) {
+    if let Heard::Board(_) = heard {
+        notes.got(datagram);
+    }
+}
+
+// Copies what was heard into an empty vector, and adds it to what the receives came to. Want of memory does neither.
+fn keep_heard(
+    heard: &Heard,
+    buffer: &[u8],
+    into: &mut Vec<u8>,
+    receives: &mut ReceiveLog,
+) -> Result<(), NoMemory>
+    requires within { (count : ℕ) → heard.now ≡ Heard.Board count → count ≤ length buffer.now }
+    requires empty { into.old.items ≡ [] }
+    ensures copied { OnOk result (into.new.items ≡ datagram_in heard.now buffer.now) }
+    ensures added { OnOk result (receives.new ≡ receives_after (told_of heard.now) into.new.items receives.old) }
+    ensures emptied { OnErr result (into.new.items ≡ []) }
+    ensures unchanged { OnErr result (receives.new ≡ receives.old) }
+{
+    copy_heard(heard, buffer, into)?;
+    let logged = log_heard(heard, receives, into);
+    if logged.is_err() {
+        into.clear();
+    }
+    logged
+}
+
+// Adds what was heard, and copied, to what the receives came to. Want of memory adds nothing.
+fn log_heard(heard: &Heard, receives: &mut ReceiveLog, copied: &Vec<u8>) -> Result<(), NoMemory>
+    ensures added { OnOk result (receives.new ≡ receives_after (told_of heard.now) copied.now.items receives.old) }
+    ensures unchanged { OnErr result (receives.new ≡ receives.old) }
+{
+    match heard {
+        Heard::Board(_) => receives.add_got(copied),
+        Heard::Elsewhere | Heard::Nothing => receives.add_quiet(),
+        Heard::Fault(_) => Ok(()),
+    }
+}
+
+// Room for one datagram, the longest that there may be. It is made once.
+fn make_room(buffer: &mut Vec<u8>) -> Result<(), NoMemory>
+    ensures room { OnOk result (length buffer.new.items ≡ MAX_DATAGRAM) }
+{
+    if buffer.len() != MAX_DATAGRAM {
+        buffer.clear();
+        buffer.resize(MAX_DATAGRAM, 0)?;
+    }
+    Ok(())
+}
+
+// Room for one datagram in the buffer, and to copy it to.
+fn make_rooms(buffer: &mut Vec<u8>, into: &mut Vec<u8>) -> Result<(), NoMemory>
+    ensures room { OnOk result (length buffer.new.items ≡ MAX_DATAGRAM) }
+    ensures kept { into.new.items ≡ into.old.items }
+{
+    make_room(buffer)?;
+    into.reserve(MAX_DATAGRAM)?;
+    Ok(())
+}

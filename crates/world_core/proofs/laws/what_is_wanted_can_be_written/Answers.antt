@@ -1,5 +1,0 @@
-use Rattle.world_core.proofs.Sends.{writable}
-use Rattle.world_core.proofs.laws.what_is_wanted_can_be_written.Goals as goal
-
-pub returns : goal.returns
-returns c = writable
