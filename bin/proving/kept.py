@@ -176,8 +176,8 @@ def tell_program(total: str, kit: str) -> None:
     built = sources.sum_of_file(BUILT)
     write(PROVENANCE, f"proved by bin/prove\nkit sha256 {kit}\nprogram sha256 {built}\nsources sha256 {total}\n")
     write(PROVED, f"{names}\n{total}\n{built}\n{kit}\n")
-    for name in ("unproved", "unproved_of", "unproved_of.paths", "unproved_of.seen"):
-        (OUT / name).unlink(missing_ok=True)
+    for old in OUT.glob("unproved*"):
+        old.unlink(missing_ok=True)
 
 
 def is_proved(total: str, kit: str | None = None) -> bool:

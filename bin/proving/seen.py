@@ -1,7 +1,8 @@
 """A hint that spares `bin/ipbus` reading the sources: what each file looked like when contents were last compared.
 
-Two files beside the stamp hold it. One has the paths of the sources, of the folders that they stand in, of the program
-and of the stamp. The other is what `find` prints of these paths: number and time of change. A file that is changed
+Files beside the stamp hold it. Two have the paths of the sources, of the folders that they stand in, of the program and
+of the stamp, half of them each, so that a start can look at both halves side by side. The other two are what `find`
+prints of these paths: number and time of change. A file that is changed
 later has another time of change, which nobody can set back. So has a folder in which a file is added or removed, and a
 source that is not there is named, so that it has a line once it is. The hint is kept only where all these times were
 older than its making, so that no change can have the time that it lists.
@@ -20,8 +21,9 @@ from proving.sources import TOP
 
 # as in bin/ipbus
 FORM = "%i %C@\\n"
-# the names of both files begin with that of the stamp
+# the names of these files begin with that of the stamp, and end with the number of the half
 PATHS, SEEN = ".paths", ".seen"
+HALVES = (1, 2)
 
 
 @dataclasses.dataclass
@@ -31,9 +33,23 @@ class Note:
     holds: bool = False
 
 
-def beside(stamp: pathlib.Path, ending: str) -> pathlib.Path:
+def beside(stamp: pathlib.Path, ending: str, half: int) -> pathlib.Path:
     """A file of the hint."""
-    return stamp.with_name(f"{stamp.name}{ending}")
+    return stamp.with_name(f"{stamp.name}{ending}.{half}")
+
+
+def halves(paths: list[str]) -> list[list[str]]:
+    """The paths, in two parts."""
+    middle = len(paths) // 2
+    return [paths[:middle], paths[middle:]]
+
+
+def keep(stamp: pathlib.Path, parts: list[list[str]], listed: list[str]) -> None:
+    """Keeps what `find` says of both halves beside a stamp, if it can be kept."""
+    with contextlib.suppress(OSError):
+        for half, part, lines in zip(HALVES, parts, listed, strict=True):
+            kept.write(beside(stamp, PATHS, half), zeros_between(part))
+            kept.write(beside(stamp, SEEN, half), lines)
 
 
 def paths_of(stamp: pathlib.Path, program: pathlib.Path) -> list[str]:
@@ -85,11 +101,10 @@ def note_seen(stamp: pathlib.Path, program: pathlib.Path) -> Iterator[Note]:
         # who may not write here keeps no hint
         yield note
         return
-    paths = paths_of(stamp, program)
-    listed = listing(paths)
+    parts = halves(paths_of(stamp, program))
+    listed = [listing(part) for part in parts]
     yield note
     # a `find` that does not know these words prints nothing, and that is no hint
-    if note.holds and is_whole(listed, paths) and is_older(listed, began) and listing(paths) == listed:
-        with contextlib.suppress(OSError):
-            kept.write(beside(stamp, PATHS), zeros_between(paths))
-            kept.write(beside(stamp, SEEN), listed)
+    are_hints = all(is_whole(lines, part) and is_older(lines, began) for lines, part in zip(listed, parts, strict=True))
+    if note.holds and are_hints and [listing(part) for part in parts] == listed:
+        keep(stamp, parts, listed)

@@ -8,7 +8,8 @@ import subprocess
 from proving_cases.edits import LOW, MAIN
 from proving_cases.small import LONGEST, NOT_PROVED, Ended, Small, command, holds
 
-TOLD = ("paths", "seen")
+HALVES = (1, 2)
+TOLD = [f"{ending}.{half}" for ending in ("paths", "seen") for half in HALVES]
 
 
 def bare(small: Small, tools: str = "sh find cmp readlink") -> Ended:
@@ -54,7 +55,8 @@ def a_start_without_kit_and_python(small: Small) -> None:
 def each_file_touched(small: Small) -> None:
     """Each file and folder that is looked at is touched, and its old dates are put back."""
     small.is_proved()
-    paths = [path for path in hint(small, "paths").read_text().split("\0") if path and small.file(path).exists()]
+    told = "".join(hint(small, f"paths.{half}").read_text() for half in HALVES)
+    paths = [path for path in told.split("\0") if path and small.file(path).exists()]
     holds({LOW, "HANDLES", "crates/middle/src", "crates/ipbus/out/ipbus"} <= set(paths), f"{paths}")
     for path in paths:
         dates = small.file(path).stat()
@@ -101,10 +103,15 @@ def a_hint_that_is_cut(small: Small) -> None:
     small.is_proved()
     told = {ending: hint(small, ending).read_bytes() for ending in TOLD}
     small.edit(MAIN, "// a program", "// the program")
-    for paths, seen in ((b"", b""), (b"\0", b""), (b"", told["seen"]), (told["paths"].replace(MAIN.encode() + b"\0", b""), told["seen"])):
-        hint(small, "paths").write_bytes(paths)
-        hint(small, "seen").write_bytes(seen)
-        small.is_not_proved()
+    for half in HALVES:
+        whole = told[f"paths.{half}"], told[f"seen.{half}"]
+        less = whole[0].replace(MAIN.encode() + b"\0", b"")
+        for paths, seen in ((b"", b""), (b"\0", b""), (b"", whole[1]), (less, whole[1])):
+            hint(small, f"paths.{half}").write_bytes(paths)
+            hint(small, f"seen.{half}").write_bytes(seen)
+            small.is_not_proved()
+        hint(small, f"paths.{half}").write_bytes(whole[0])
+        hint(small, f"seen.{half}").write_bytes(whole[1])
     for ending in TOLD:
         hint(small, ending).unlink()
     small.is_not_proved()
@@ -120,7 +127,7 @@ def a_find_of_few_words(small: Small) -> None:
     for ending in TOLD:
         hint(small, ending).unlink(missing_ok=True)
     small.is_proved()
-    holds(not hint(small, "seen").exists(), "no hint should be kept that says nothing")
+    holds(not hint(small, "seen.1").exists(), "no hint should be kept that says nothing")
     small.edit(MAIN, "// a program", "// the program")
     small.is_not_proved()
 
@@ -149,6 +156,14 @@ def compiled_once(small: Small) -> None:
     stamp = small.file("crates/ipbus/out/unproved_of")
     is_kept = command([small.file("bin/prove"), "--same", stamp], small.top).status == 0
     holds(not is_kept, "what was compiled from other sources should not be kept")
+
+
+def compiled_while_nobody_looks(small: Small) -> None:
+    """What the compiler linked is there, also where it was through before anyone looked."""
+    small.edit("bin/proving/unproved.py", "LOOK, TELL = 0.02", "LOOK, TELL = 30")
+    small.edit(MAIN, "{number}", "1{number}")
+    ran = command([small.file("bin/ipbus"), "run"], small.top)
+    holds(ran.status == 0 and ran.out == "114\n" and "compiled first" in ran.said, f"{ran}")
 
 
 def started(small: Small) -> subprocess.Popen:

@@ -13,7 +13,7 @@ from net.sessions import boards_of, on_network
 
 # what goes to the front of the line and removes what stands there
 CLEAR = b"\r\x1b[K"
-ROW = re.compile(rb"\r\x1b\[Kipbus: (\d+) of (\d+) packets((?:, [^\r\n,]+)*)(?=\r|$)")
+ROW = re.compile(rb"\r\x1b\[Kipbus: (\d+) of (\d+) operations((?:, [^\r\n,]+)*)(?=\r|$)")
 LONG_WAIT = re.compile(
     r"ipbus: client 1 waited \d+ s in its first 3 dispatches for a board that does not answer; "
     r"the (\d+) others take about (?:\d+ min )?\d+ s at this pace\n"
@@ -40,7 +40,7 @@ class Shown:
 
     @property
     def rows(self) -> list[tuple[int, int, str]]:
-        """Each line that was rewritten: packets done, all packets, and what stands behind them."""
+        """Each line that was rewritten: operations done, all operations, and what stands behind them."""
         return [(int(done), int(all_), rest.decode()) for done, all_, rest in ROW.findall(self.screen)]
 
 
@@ -68,24 +68,25 @@ def on_terminal(peers: Peers, words: list[str], document: bytes) -> Shown:
         os.close(main)
 
 
-def reads(count: int) -> list[str]:
-    """Lines of one client that reads a register, each in a dispatch of its own."""
-    return ["read b0:id", "dispatch"] * count
+def reads(count: int, each: int = 1) -> list[str]:
+    """Lines of one client with so many dispatches, of so many reads of a register each."""
+    return [*["read b0:id"] * each, "dispatch"] * count
 
 
 def tells_how_far_a_run_is(peers: Peers) -> None:
     """A slow run rewrites a line once a second, from the second second on. It is removed at the end."""
     (board,) = boards_of(1, late=LATE)
     peers.start_board(board)
-    shown = on_terminal(peers, ["run"], on_network([board], [reads(DISPATCHES)], wait=1000))
+    shown = on_terminal(peers, ["run"], on_network([board], [reads(DISPATCHES, each=2)], wait=1000))
     require(shown.status == 0, f"{shown}")
+    operations = 2 * DISPATCHES
     early = b"".join(piece for seconds, piece in shown.pieces if seconds < QUIET_SECONDS)
     require(early == greeting(board).encode(), f"at first it says {early!r}")
     rows = shown.rows
     require(len(rows) >= 2, f"it is not rewritten: {shown.screen!r}")
-    require(all(all_ == DISPATCHES for _, all_, _ in rows), f"{rows}")
+    require(all(all_ == operations for _, all_, _ in rows), f"{rows}")
     counts = [done for done, _, _ in rows]
-    require(counts == sorted(counts) and 0 < counts[0] < counts[-1] <= DISPATCHES, f"{rows}")
+    require(counts == sorted(counts) and 0 < counts[0] < counts[-1] <= operations, f"{rows}")
     require(all(re.fullmatch(r", about \d+ s left", rest) for _, _, rest in rows), f"{rows}")
     rest = ROW.sub(b"", shown.screen)
     require(rest == greeting(board).encode() + CLEAR, f"beside the line it says {rest!r}")

@@ -8,10 +8,11 @@ use std::alloc::Global;
 use std::marker::Model;
 
 /// How many bodies to ask of which lane: pairs of a lane's number, from 0, and a number of bodies, by rising lane. One
-/// pair takes no memory. Contracts see that list.
+/// pair takes no memory. Contracts see that list, and not for how many operations of a script they are asked.
 #[derive(Drop)]
 pub struct Asks {
     items: SmallVec<(u32, u32), 1>,
+    operations: u32,
 }
 
 impl Model for Asks {
@@ -23,12 +24,13 @@ impl Model for Asks {
 }
 
 impl Asks {
-    /// A list with no pairs. It takes no memory.
-    pub fn new(alloc: Global) -> Asks
+    /// A list with no pairs, for so many operations. It takes no memory.
+    pub fn new(alloc: Global, operations: u32) -> Asks
         ensures { result ≡ [] }
     {
         Asks {
             items: SmallVec::new(alloc),
+            operations,
         }
     }
 
@@ -47,8 +49,13 @@ impl Asks {
         self.items.as_slice()
     }
 
+    /// For how many operations of its script a client asks them.
+    pub(crate) fn operations(&self) -> u32 {
+        self.operations
+    }
+
     /// How many bodies it asks on all lanes, and no more than 64 bits can say.
-    fn bodies(&self) -> u64 {
+    pub(crate) fn bodies(&self) -> u64 {
         let mut all = 0u64;
         for ask in self.as_slice() {
             all = all.saturating_add(u64::from(ask.1));
@@ -118,6 +125,15 @@ impl ClientPlan {
         let mut all = 0u64;
         for dispatch in self.dispatches.as_slice() {
             all = all.saturating_add(dispatch.asks.bodies());
+        }
+        all
+    }
+
+    /// For how many operations of its script it asks them, and no more than 64 bits can say.
+    pub(crate) fn operations(&self) -> u64 {
+        let mut all = 0u64;
+        for dispatch in self.dispatches.as_slice() {
+            all = all.saturating_add(u64::from(dispatch.asks.operations()));
         }
         all
     }

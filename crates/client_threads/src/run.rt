@@ -158,9 +158,12 @@ fn do_dispatch<R: Wait, L: Link + Send, G: Gate>(
         lanes.old lanes.new seat.old.knows seat.new.knows) }
     ensures no_plan { AddNoPlans seat.old.knows seat.new.knows }
 {
-    ask_all(context, seat, dispatch.asks.as_slice())?;
-    context.gate.between(client);
-    take_all(context, client, seat, dispatch.asks.as_slice(), lanes)?;
+    let asks = &dispatch.asks;
+    ask_all(context, seat, asks.as_slice())?;
+    context
+        .gate
+        .between(client, asks.bodies(), asks.operations());
+    take_all(context, client, seat, asks.as_slice(), lanes)?;
     context.gate.answered(client);
     Ok(())
 }

@@ -24,7 +24,7 @@ use std::thread::Threads;
 /// Tells the gate what each client is to ask.
 fn tell_plans<G: Gate>(gate: &G, plans: &[ClientPlan]) {
     for plan in plans {
-        gate.planned(plan.client, plan.asking(), plan.bodies());
+        gate.planned(plan.client, plan.asking(), plan.bodies(), plan.operations());
     }
 }
 

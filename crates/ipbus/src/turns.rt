@@ -10,15 +10,15 @@ pub(crate) struct Turns<'a> {
 }
 
 impl Gate for Turns<'_> {
-    fn planned(&self, client: u32, dispatches: u64, bodies: u64) {
+    fn planned(&self, client: u32, dispatches: u64, bodies: u64, operations: u64) {
         if let Some(progress) = self.progress {
-            progress.planned(client, dispatches, bodies);
+            progress.planned(client, dispatches, bodies, operations);
         }
     }
 
-    fn between(&self, client: u32) {
+    fn between(&self, client: u32, bodies: u64, operations: u32) {
         if let Some(progress) = self.progress {
-            progress.asked(client);
+            progress.asked(client, bodies, operations);
         }
     }
 

@@ -2,7 +2,7 @@
 //! says so, and after which dispatches a client is told that it waits.
 
 use std::test::Fail;
-use std_edges::{Counts, Deaf, LongWait, Meter, Row, Span, Taken, Tally, rest_at};
+use std_edges::{Counts, Deaf, LongWait, Meter, Row, Share, Span, Taken, Tally, rest_at};
 
 /// Left, done, the milliseconds of what is done, and those of the rest.
 const RESTS: [(u64, u64, u64, Option<u64>); 6] = [
@@ -28,35 +28,29 @@ fn the_pace_is_that_of_late(rt: HostRuntime) -> Result<(), Fail> {
     let mut meter = Meter::new(0, 0);
     let mut rest = None;
     for second in 1..=30u64 {
-        let counts = Counts {
+        let share = Share {
             done: 99 + second,
             all: 200,
-            silent: 0,
         };
-        rest = meter.rest(second * 1000, counts);
+        rest = meter.rest(second * 1000, share);
     }
     // 71 packets are left
     assert!(rt; rest == Some(71_000));
     let mut fresh = Meter::new(5000, 7);
-    let none = Counts {
-        done: 7,
-        all: 9,
-        silent: 1,
-    };
-    assert!(rt; fresh.rest(60_000, none) == None);
+    assert!(rt; fresh.rest(60_000, Share { done: 7, all: 9 }) == None);
     Ok(())
 }
 
-/// Counts and the milliseconds left, and what a line says.
+/// Operations done and in all, silent boards, the milliseconds left, and what a line says.
 const ROWS: [((u64, u64, u32), Option<u64>, &str); 4] = [
-    ((0, 9, 0), None, "0 of 9 packets"),
-    ((3, 9, 1), None, "3 of 9 packets, 1 board does not answer"),
+    ((0, 9, 0), None, "0 of 9 operations"),
+    ((3, 9, 1), None, "3 of 9 operations, 1 board does not answer"),
     (
         (120, 1000, 2),
         Some(870_000),
-        "120 of 1000 packets, 2 boards do not answer, about 14 min 30 s left",
+        "120 of 1000 operations, 2 boards do not answer, about 14 min 30 s left",
     ),
-    ((9, 9, 0), Some(0), "9 of 9 packets, about 0 s left"),
+    ((9, 9, 0), Some(0), "9 of 9 operations, about 0 s left"),
 ];
 
 /// Milliseconds, as a sentence says them.
@@ -74,8 +68,11 @@ fn lines_say_how_far_a_run_is(rt: HostRuntime) -> Result<(), Fail> {
     for ((done, all, silent), rest, line) in ROWS.as_slice() {
         let row = Row {
             counts: Counts {
-                done: *done,
-                all: *all,
+                operations: Share {
+                    done: *done,
+                    all: *all,
+                },
+                packets: Share { done: 0, all: 1 },
                 silent: *silent,
             },
             rest: *rest,
@@ -151,7 +148,7 @@ const TURNS: [(&[[Taken; 2]], Option<u32>); 5] = [
 /// After which dispatch of client 2 it is told that it waits, and that it is told so rightly.
 fn told_after(tally: &Tally, dispatches: &[[Taken; 2]]) -> Option<u32> {
     let all = dispatches.len() as u64;
-    tally.planned(2, all, all.saturating_mul(2));
+    tally.planned(2, all, all.saturating_mul(2), 0);
     let mut number = 0u32;
     for taken in dispatches {
         number = number.saturating_add(1);
@@ -189,19 +186,46 @@ fn counts_are_those_of_all_clients(rt: HostRuntime) -> Result<(), Fail> {
     let Some(tally) = Tally::new(rt.alloc(), 2) else {
         return Err(Fail::new("no memory"));
     };
-    tally.planned(1, 1, 2);
-    tally.planned(2, 1, 1);
+    tally.planned(1, 1, 2, 5);
+    tally.planned(2, 1, 1, 4);
+    tally.asked(1, 2, 5);
     tally.took(1, 0, Taken::Timeout);
     tally.took(1, 70, Taken::Timeout);
     tally.took(2, 3, Taken::Timeout);
+    // client 2 told of no dispatch under way
     let counts = Counts {
-        done: 3,
-        all: 3,
+        operations: Share { done: 5, all: 9 },
+        packets: Share { done: 3, all: 3 },
         silent: 2,
     };
     assert!(rt; tally.counts() == counts);
     tally.took(2, 0, Taken::Reply);
     assert!(rt; tally.counts().silent == 1);
     assert!(rt; tally.warns_first() && !tally.warns_first());
+    Ok(())
+}
+
+/// Packets taken of a dispatch of three with ten operations, and how many of these are done.
+const PARTS: [(u64, u64); 4] = [(0, 0), (1, 3), (2, 6), (3, 10)];
+
+#[test]
+fn operations_are_done_as_their_packets(rt: HostRuntime) -> Result<(), Fail> {
+    let Some(tally) = Tally::new(rt.alloc(), 1) else {
+        return Err(Fail::new("no memory"));
+    };
+    tally.planned(1, 2, 4, 12);
+    tally.asked(1, 3, 10);
+    for (taken, done) in PARTS.as_slice() {
+        if *taken > 0 {
+            tally.took(1, 0, Taken::Reply);
+        }
+        assert!(rt; tally.counts().operations == (Share { done: *done, all: 12 }));
+    }
+    let _ = tally.answered(1);
+    assert!(rt; tally.counts().operations.done == 10);
+    // nothing is asked of a board for the last two
+    tally.asked(1, 0, 2);
+    let _ = tally.answered(1);
+    assert!(rt; tally.counts().operations.done == 12);
     Ok(())
 }

@@ -59,6 +59,7 @@ struct MakesThemMeet<R: Wait + Sync + Drop> {
     second_answered: AtomicU64,
     waits_in_vain: AtomicU64,
     planned: AtomicU64,
+    under_way: AtomicU64,
     replied: AtomicU64,
 }
 
@@ -95,16 +96,22 @@ fn is_text_of_both(text: &[u8]) -> bool {
     text == FIRST_BEFORE_SECOND.as_bytes() || text == SECOND_BEFORE_FIRST.as_bytes()
 }
 
-/// What `planned` counts for each dispatch of a client.
+/// What `planned` counts for each dispatch of a client, and for each operation.
 const A_DISPATCH: u64 = 100;
+const AN_OPERATION: u64 = 10_000;
 
 impl<R: Wait + Sync + Drop> Gate for MakesThemMeet<R> {
-    fn planned(&self, _client: u32, dispatches: u64, bodies: u64) {
+    fn planned(&self, _client: u32, dispatches: u64, bodies: u64, operations: u64) {
         let planned = dispatches.wrapping_mul(A_DISPATCH).wrapping_add(bodies);
+        let planned = planned.wrapping_add(operations.wrapping_mul(AN_OPERATION));
         self.planned.fetch_add(planned, Ordering::SeqCst);
     }
 
-    fn between(&self, client: u32) {
+    fn between(&self, client: u32, bodies: u64, operations: u32) {
+        self.under_way.fetch_add(
+            bodies.wrapping_add(u64::from(operations).wrapping_mul(AN_OPERATION)),
+            Ordering::SeqCst,
+        );
         let _ = self.calls.push(&self.rt, client);
         let is_met = if client == 1 {
             self.first_asked.fetch_add(1, Ordering::SeqCst);
@@ -160,14 +167,16 @@ fn clients_run_at_once(rt: HostRuntime) -> Result<(), Fail> {
         second_answered: AtomicU64::new(0),
         waits_in_vain: AtomicU64::new(0),
         planned: AtomicU64::new(0),
+        under_way: AtomicU64::new(0),
         replied: AtomicU64::new(0),
     };
     let (status, out) = gated(&rt, rt.alloc(), &gate)?;
     assert!(rt; status == DONE && gate.waits_in_vain.load(Ordering::SeqCst) == 0);
     assert!(rt; is_text_of_both(out.bytes()));
     assert!(rt; gate.saw_each_call());
-    // two clients with two dispatches of one packet each
-    assert!(rt; gate.planned.load(Ordering::SeqCst) == 4 * A_DISPATCH + 4);
+    // two clients with two dispatches of one packet each, for one operation
+    assert!(rt; gate.planned.load(Ordering::SeqCst) == 4 * AN_OPERATION + 4 * A_DISPATCH + 4);
+    assert!(rt; gate.under_way.load(Ordering::SeqCst) == 4 * AN_OPERATION + 4);
     assert!(rt; gate.replied.load(Ordering::SeqCst) == 4);
     Ok(())
 }

@@ -13,6 +13,7 @@ use ipb_base::NoMemory;
 use script_plans::Planned;
 use script_steps::{Step, Steps};
 use std::alloc::Global;
+use std::slice::Iter;
 
 /// How many bodies a client, from 0, has in a dispatch on a board.
 fn count_at(planned: &[Planned], client: usize, dispatch: usize) -> usize
@@ -40,12 +41,13 @@ fn dispatch_over(
     boards: &[BoardPlans],
     client: usize,
     dispatch: usize,
+    operations: u32,
 ) -> Result<Dispatch, NoMemory>
     requires few_boards { length boards.now < 2 ^ 32 }
     requires few_bodies { AllByRecursion (AllByRecursion HasFewBodies) boards.now }
     ensures { IfOk result (λ made. made ≡ spec.dispatch_over boards.now client dispatch) }
 {
-    let mut asks = Asks::new(alloc);
+    let mut asks = Asks::new(alloc, operations);
     for (lane, board) in boards.iter().enumerate() {
         let count = count_at(board.as_slice(), client, dispatch);
         add_pair(&mut asks, lane as u32, count as u32)?;
@@ -53,11 +55,25 @@ fn dispatch_over(
     Ok(Dispatch { asks })
 }
 
-/// What a client, from 0, asks of all lanes in so many dispatches.
+/// How many operations are left before the next dispatch, and no more than 32 bits can say. It goes past them.
+fn operations_ahead(steps: &mut Iter<'_, Step>) -> u32 {
+    let mut count = 0u32;
+    for step in steps {
+        match step {
+            Step::Do(_) => count = count.saturating_add(1),
+            Step::Denied { .. } => {}
+            Step::Dispatch => return count,
+        }
+    }
+    count
+}
+
+/// What a client, from 0, asks of all lanes for these steps, in so many dispatches.
 fn plan_over(
     alloc: Global,
     boards: &[BoardPlans],
     client: usize,
+    steps: &[Step],
     many: usize,
 ) -> Result<ClientPlan, NoMemory>
     requires few_boards { length boards.now < 2 ^ 32 }
@@ -66,8 +82,10 @@ fn plan_over(
     ensures { IfOk result (λ plan. plan ≡ spec.plan_over boards.now client many) }
 {
     let mut all = Vec::with_capacity(alloc, many)?;
+    let mut steps = steps.iter();
     for dispatch in 0..many {
-        all.push_reserved(dispatch_over(alloc, boards, client, dispatch)?);
+        let operations = operations_ahead(&mut steps);
+        all.push_reserved(dispatch_over(alloc, boards, client, dispatch, operations)?);
     }
     Ok(ClientPlan {
         client: client as u32 + 1,
@@ -114,7 +132,7 @@ pub fn client_plans(
     let mut plans = Vec::with_capacity(alloc, scripts.len())?;
     for (client, steps) in scripts.iter().enumerate() {
         let many = dispatch_count(steps.as_slice());
-        plans.push_reserved(plan_over(alloc, boards, client, many)?);
+        plans.push_reserved(plan_over(alloc, boards, client, steps.as_slice(), many)?);
     }
     Ok(plans)
 }

@@ -40,7 +40,7 @@ pub use kept_sink::KeptSink;
 pub use kept_source::KeptSource;
 pub use link_notes::Voice;
 pub use links::{Link, LinkFault, Rack, RackFault, Received};
-pub use meter::{Counts, LongWait, Meter, Row, Span, rest_at};
+pub use meter::{Counts, LongWait, Meter, Row, Share, Span, rest_at};
 pub use pace::{Line, Pace, SECONDS_BETWEEN};
 pub use progress::{Progress, Watch};
 pub use rack_notes::RackNotes;

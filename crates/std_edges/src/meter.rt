@@ -7,11 +7,19 @@ use std::fmt;
 /// The pace is that of the last 8 seconds at least, in milliseconds (profile).
 const PACE_OVER: u64 = 8000;
 
-/// How far a run is: how many packets are done of all, and how many boards did not answer the last one.
+/// How many things are done of all.
 #[derive(Clone, Copy, PartialEq, Eq)]
-pub struct Counts {
+pub struct Share {
     pub done: u64,
     pub all: u64,
+}
+
+/// How far a run is: how many operations and packets are done, and how many boards did not answer the last packet. Of
+/// the operations of a dispatch that is under way as large a part is done as of its packets.
+#[derive(Clone, Copy, PartialEq, Eq)]
+pub struct Counts {
+    pub operations: Share,
+    pub packets: Share,
     pub silent: u32,
 }
 
@@ -54,16 +62,16 @@ impl Meter {
     }
 
     /// The milliseconds that the rest takes at the pace of late. `None` where nothing was done of late.
-    pub fn rest(&mut self, time: u64, counts: Counts) -> Option<u64> {
-        if time.saturating_sub(self.newer.time) >= PACE_OVER && counts.done > self.newer.done {
+    pub fn rest(&mut self, time: u64, share: Share) -> Option<u64> {
+        if time.saturating_sub(self.newer.time) >= PACE_OVER && share.done > self.newer.done {
             self.older = self.newer;
             self.newer = Mark {
                 time,
-                done: counts.done,
+                done: share.done,
             };
         }
-        let left = counts.all.saturating_sub(counts.done);
-        let done = counts.done.saturating_sub(self.older.done);
+        let left = share.all.saturating_sub(share.done);
+        let done = share.done.saturating_sub(self.older.done);
         rest_at(left, done, time.saturating_sub(self.older.time))
     }
 }
@@ -77,8 +85,9 @@ pub struct Row {
 
 impl fmt::Display for Row {
     fn fmt<W: fmt::Write>(&self, f: &mut fmt::Formatter<W>) -> fmt::Result {
-        let Counts { done, all, silent } = self.counts;
-        write!(f, "{done} of {all} packets")?;
+        let Share { done, all } = self.counts.operations;
+        write!(f, "{done} of {all} operations")?;
+        let silent = self.counts.silent;
         match silent {
             0 => {}
             1 => f.write_str(", 1 board does not answer")?,

@@ -65,13 +65,16 @@ impl Progress {
         }
     }
 
-    /// A client has so many dispatches with so many packets.
-    pub fn planned(&self, client: u32, dispatches: u64, packets: u64) {
-        self.run.tally.planned(client, dispatches, packets);
+    /// A client has so many dispatches with so many packets, for so many operations.
+    pub fn planned(&self, client: u32, dispatches: u64, packets: u64, operations: u64) {
+        self.run
+            .tally
+            .planned(client, dispatches, packets, operations);
     }
 
-    /// A client has asked for the packets of a dispatch.
-    pub fn asked(&self, client: u32) {
+    /// A client has asked for so many packets of a dispatch, for so many operations.
+    pub fn asked(&self, client: u32, packets: u64, operations: u32) {
+        self.run.tally.asked(client, packets, operations);
         if self.run.tally.is_fresh(client)
             && let Some(now) = self.console.milliseconds()
         {
@@ -141,17 +144,17 @@ impl Watch {
         let Some(now) = self.console.milliseconds() else {
             return;
         };
-        if counts.all == 0 || !self.console.has_network() {
+        if counts.packets.all == 0 || !self.console.has_network() {
             return;
         }
         match meter {
             Some(meter) => {
-                let rest = meter.rest(now, counts);
+                let rest = meter.rest(now, counts.packets);
                 self.console.show_row(Row { counts, rest });
             }
             None => {
                 self.console.open_row();
-                *meter = Some(Meter::new(now, counts.done));
+                *meter = Some(Meter::new(now, counts.packets.done));
             }
         }
     }

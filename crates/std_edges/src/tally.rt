@@ -1,6 +1,6 @@
 //! What the clients of a run asked for and took, as many threads count it.
 
-use crate::meter::Counts;
+use crate::meter::{Counts, Share};
 use std::alloc::Global;
 use std::sync::atomic::{AtomicU32, AtomicU64, Ordering};
 
@@ -26,7 +26,11 @@ struct Turns {
     // when it was first done with asking, in milliseconds
     began: AtomicU64,
     done: AtomicU64,
-    // how many packets of this dispatch were taken
+    // how many operations the dispatches had that it is done with
+    operations: AtomicU64,
+    // how many operations and packets this dispatch has, and how many packets were taken
+    operations_now: AtomicU64,
+    packets_now: AtomicU64,
     taken: AtomicU64,
     // a bit for each lane that timed out in this dispatch
     timed_out: AtomicU64,
@@ -40,10 +44,33 @@ impl Turns {
             dispatches: AtomicU64::new(0),
             began: AtomicU64::new(0),
             done: AtomicU64::new(0),
+            operations: AtomicU64::new(0),
+            operations_now: AtomicU64::new(0),
+            packets_now: AtomicU64::new(0),
             taken: AtomicU64::new(0),
             timed_out: AtomicU64::new(0),
             deaf: AtomicU64::new(u64::MAX),
         }
+    }
+
+    // How many operations are done: of a dispatch that is under way as large a part as of its packets.
+    fn operations_done(&self) -> u64 {
+        let all = self.operations_now.load(Ordering::SeqCst);
+        let part = match all.checked_mul(self.taken.load(Ordering::SeqCst)) {
+            Some(product) => product
+                .checked_div(self.packets_now.load(Ordering::SeqCst))
+                .unwrap_or(0),
+            None => 0,
+        };
+        self.operations
+            .load(Ordering::SeqCst)
+            .saturating_add(part.min(all))
+    }
+
+    // The dispatch that was under way is done.
+    fn end_dispatch(&self) {
+        let operations = self.operations_now.swap(0, Ordering::SeqCst);
+        self.operations.fetch_add(operations, Ordering::SeqCst);
     }
 
     // A packet was taken, on the lane of this bit.
@@ -67,8 +94,9 @@ pub struct Deaf {
 /// The counts of a run. Threads share it by reference.
 #[derive(Drop)]
 pub struct Tally {
-    all: AtomicU64,
-    done: AtomicU64,
+    operations: AtomicU64,
+    packets: AtomicU64,
+    packets_done: AtomicU64,
     // a bit for each lane that timed out at the last packet that was taken
     silent: AtomicU64,
     has_warned: AtomicU32,
@@ -83,8 +111,9 @@ impl Tally {
             clients.push(Turns::new()).ok()?;
         }
         Some(Tally {
-            all: AtomicU64::new(0),
-            done: AtomicU64::new(0),
+            operations: AtomicU64::new(0),
+            packets: AtomicU64::new(0),
+            packets_done: AtomicU64::new(0),
             silent: AtomicU64::new(0),
             has_warned: AtomicU32::new(0),
             clients,
@@ -96,9 +125,10 @@ impl Tally {
         self.clients.get(client.checked_sub(1)?)
     }
 
-    /// A client, from 1, has so many dispatches with so many packets.
-    pub fn planned(&self, client: u32, dispatches: u64, packets: u64) {
-        self.all.fetch_add(packets, Ordering::SeqCst);
+    /// A client, from 1, has so many dispatches with so many packets, for so many operations.
+    pub fn planned(&self, client: u32, dispatches: u64, packets: u64, operations: u64) {
+        self.operations.fetch_add(operations, Ordering::SeqCst);
+        self.packets.fetch_add(packets, Ordering::SeqCst);
         if let Some(turns) = self.turns(client) {
             turns.dispatches.store(dispatches, Ordering::SeqCst);
         }
@@ -123,7 +153,7 @@ impl Tally {
 
     /// A client took what became of a packet on this lane.
     pub fn took(&self, client: u32, lane: usize, taken: Taken) {
-        self.done.fetch_add(1, Ordering::SeqCst);
+        self.packets_done.fetch_add(1, Ordering::SeqCst);
         let bit = bit_of(lane);
         if let Some(turns) = self.turns(client) {
             turns.take(bit, taken);
@@ -139,10 +169,21 @@ impl Tally {
         }
     }
 
+    /// A client has asked so many packets of a dispatch, for so many operations.
+    pub fn asked(&self, client: u32, packets: u64, operations: u32) {
+        if let Some(turns) = self.turns(client) {
+            turns.packets_now.store(packets, Ordering::SeqCst);
+            turns
+                .operations_now
+                .store(u64::from(operations), Ordering::SeqCst);
+        }
+    }
+
     /// A client is done with a dispatch: says whether its first ones all timed out on a board, and others are left. One
-    /// in which nothing was asked counts for nothing.
+    /// in which nothing was asked counts for nothing there.
     pub fn answered(&self, client: u32) -> Option<Deaf> {
         let turns = self.turns(client)?;
+        turns.end_dispatch();
         if turns.taken.swap(0, Ordering::SeqCst) == 0 {
             return None;
         }
@@ -165,11 +206,26 @@ impl Tally {
         self.has_warned.swap(1, Ordering::SeqCst) == 0
     }
 
+    // How many operations of all clients are done.
+    fn operations_done(&self) -> u64 {
+        let mut done = 0u64;
+        for turns in self.clients.iter() {
+            done = done.saturating_add(turns.operations_done());
+        }
+        done
+    }
+
     /// How far the run is.
     pub fn counts(&self) -> Counts {
         Counts {
-            done: self.done.load(Ordering::SeqCst),
-            all: self.all.load(Ordering::SeqCst),
+            operations: Share {
+                done: self.operations_done(),
+                all: self.operations.load(Ordering::SeqCst),
+            },
+            packets: Share {
+                done: self.packets_done.load(Ordering::SeqCst),
+                all: self.packets.load(Ordering::SeqCst),
+            },
             silent: self.silent.load(Ordering::SeqCst).count_ones(),
         }
     }
