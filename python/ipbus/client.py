@@ -19,12 +19,16 @@ USAGE = """ipbus-client --document DOCUMENT HOST:PORT LINE ..
        ipbus-client [--wait] [HOST:]PORT BOARD LINE ..
        ipbus-client peek ADDRESS:PORT WHERE [COUNT]
        ipbus-client poke ADDRESS:PORT WHERE WORD ..
-       ipbus-client watch HOST:PORT DOCUMENT BOARD:REGISTER .. [--every SECONDS] [--count N]"""
+       ipbus-client watch HOST:PORT DOCUMENT BOARD:REGISTER .. [--every SECONDS] [--count N] [--mtu BYTES]"""
 
 
 def _parser(usage: str, description: str) -> argparse.ArgumentParser:
     formatter = argparse.RawDescriptionHelpFormatter
     return argparse.ArgumentParser(prog="ipbus-client", usage=usage, description=description, formatter_class=formatter)
+
+
+def _add_mtu(parser: argparse.ArgumentParser) -> None:
+    parser.add_argument("--mtu", type=word_of, default=MTU, help="of boards on UDP ports, in bytes; 1500 by default")
 
 
 def _peek(words: list[str]) -> bool:
@@ -49,15 +53,16 @@ def _poke(words: list[str]) -> bool:
 
 
 def _watch(words: list[str]) -> bool:
-    usage = "ipbus-client watch HOST:PORT DOCUMENT BOARD:REGISTER .. [--every SECONDS] [--count N]"
+    usage = "ipbus-client watch HOST:PORT DOCUMENT BOARD:REGISTER .. [--every SECONDS] [--count N] [--mtu BYTES]"
     parser = _parser(usage, "Prints registers once a second, until a control-C.")
     parser.add_argument("hub", type=end_of, help="where the hub serves")
     parser.add_argument("document", help="the session document that it serves")
     parser.add_argument("register", nargs="+", help="as b0:rate")
     parser.add_argument("--every", type=seconds_of, default=1.0, help="seconds from one line to the next; 1 by default")
     parser.add_argument("--count", type=word_of, help="how often; until a control-C if it is left out")
+    _add_mtu(parser)
     told = parser.parse_args(words)
-    with Hub(told.document, *told.hub, connect=False) as hub:
+    with Hub(told.document, *told.hub, mtu=told.mtu, connect=False) as hub:
         watch(hub, told.register, told.every, told.count)
     return True
 
@@ -82,7 +87,7 @@ def _by_numbers(told: argparse.Namespace) -> bool:
 def _lines(words: list[str]) -> bool:
     parser = _parser(USAGE, f"Asks a hub that serves, by names or by numbers.\n\n{HELP}")
     parser.add_argument("--document", help="the session document that is served: lines have its names")
-    parser.add_argument("--mtu", type=word_of, default=MTU, help="of boards on UDP ports, in bytes; 1500 by default")
+    _add_mtu(parser)
     parser.add_argument("--wait", action="store_true", help="by numbers: wait for the hub to listen")
     parser.add_argument("word", nargs="+", help="lines as 'read b0:id', or as 'read 4', 'write 8 1 2', 'rmwsum 8 1'")
     told = parser.parse_args(words)

@@ -63,7 +63,7 @@ class UnknownBoard(Refused):
 class UnknownName(Refused):
     """The board's table has no register of this name."""
 
-    advice = "`board.nodes()` lists the names, and so does `ipbus check TABLE`"
+    advice = "`ipbus check TABLE` lists the names, and so do `nodes()` of a board and `getNodes()` of a uhal device"
 
 
 class NoPermission(Refused):
