@@ -3,3 +3,4 @@ pub mod Places
 pub mod States
 pub mod Errors
 pub mod Heard
+pub mod Pace

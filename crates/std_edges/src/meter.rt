@@ -1,6 +1,7 @@
 //! How far a run is, and how long the rest of it takes, as a line says it.
 
-ghost use Rattle.std.specs.Prelude.{◌≡◌, ◌≤◌, ◌*◌, ◌/◌, ◌^◌, ◌⊎◌, IfNone, IfSome};
+ghost use Rattle.std.specs.Prelude.{◌≡◌};
+ghost use Rattle.std_edges.specs.Pace.{rest_of};
 
 use std::fmt;
 
@@ -25,8 +26,7 @@ pub struct Counts {
 
 /// How long `left` things take where `done` of them took so long. `None` where none is done, and past 64 bits.
 pub fn rest_at(left: u64, done: u64, took: u64) -> Option<u64>
-    ensures rest { IfSome result (λ rest. rest ≡ left * took / done) }
-    ensures none { IfNone result ((done ≡ 0) ⊎ (2 ^ 64 ≤ left * took)) }
+    ensures { result ≡ rest_of left done took }
 {
     if done == 0 {
         return None;
