@@ -10,7 +10,9 @@ use Rattle.links.specs.declared.link.Link.{Ghosts}
 use Rattle.links.specs.declared.link.LinkFault.{LinkFault}
 use Rattle.links.specs.declared.link.Received.{Received}
 use Rattle.links.specs.declared.link.Received.TheVariants.{Got, Quiet as received_quiet}
-use Rattle.links.specs.Receives.{receives_after}
+use Rattle.links.specs.Receives.{receives_after, receives_in}
+use Rattle.links.specs.Traffic.{received_after}
+use Rattle.links.proofs.Passing.{one_received}
 use Rattle.links.specs.Telling.{IfTelling, IsQuiet, Receives, Telling}
 use Rattle.lane_record.specs.declared.item.Item.{Item}
 use Rattle.hub_lane.specs.declared.answers.Pumped.TheVariants.{Quiet}
@@ -62,15 +64,16 @@ grows (Err fault) bytes old new is = same_prefix is
 
 pub received_keeps : {L : Type 0} (seen : Ghosts L) → SameBoard → (result : Result Received LinkFault)
     (bytes : List ℕ) (old new : L) → seen.faults old ≤ seen.faults new → seen.quiets old ≤ seen.quiets new
-    → seen.gots old ≤ seen.gots new → seen.receives new ≡ receives_after result bytes (seen.receives old)
+    → seen.gots old ≤ seen.gots new → seen.traffic new ≡ received_after result bytes (seen.traffic old)
     → seen.held old ≤ seen.held new
     → IfTelling (seen.telling old) (seen.telling new) (Receives result bytes (seen.held old) (seen.held new))
     → KeepsCounting seen old new
-received_keeps seen law result bytes old new faults quiets gots receives held call = record {
+received_keeps seen law result bytes old new faults quiets gots traffic held call = record {
   faults = faults;
   quiets = quiets;
   gots = gots;
-  receives = grows result bytes (seen.receives old) (seen.receives new) receives;
+  receives = grows result bytes (receives_in (seen.traffic old)) (receives_in (seen.traffic new))
+      (one_received result bytes (seen.traffic old) traffic);
   held = held;
   board = received_board law result bytes (seen.held old) (seen.held new) (seen.telling old) (seen.telling new) call;
 }
@@ -164,10 +167,10 @@ same_entries {L} {inside} {old} {items} view same = ap (λ (xs : List Item). rec
 
 pub pumps_as : {L : Type 0} {inside old : LaneState L} → inside ≡ old → (seen : Ghosts L) (new : LaneState L)
     (telling : Option Telling) (now : List (Option (List ℕ))) (came_to : Pumped)
-    → PumpsAs inside telling (seen.receives inside.link) now new came_to
-    → PumpsAs old telling (seen.receives old.link) now new came_to
+    → PumpsAs inside telling (receives_in (seen.traffic inside.link)) now new came_to
+    → PumpsAs old telling (receives_in (seen.traffic old.link)) now new came_to
 pumps_as {L} view seen new telling now came_to =
-    subst (λ (v : LaneState L). PumpsAs v telling (seen.receives v.link) now new came_to) view
+    subst (λ (v : LaneState L). PumpsAs v telling (receives_in (seen.traffic v.link)) now new came_to) view
 
 -- a call that began with a lane of this view
 module _ {L : Type 0} {inside old new : LaneState L} (view : inside ≡ old) where

@@ -143,21 +143,21 @@ pub returns-in_err-receive-clause-counts : goal.returns-in_err-receive-clause-co
 returns-in_err-receive-clause-counts g c = received_keeps g.L.Link c.a_link_forgets_nothing.ensures.board
     c.receive.result
     c.receive.new.into.items c.args.link.now c.receive.new.self c.receive.ensures.faults c.receive.ensures.quiets_rise
-    c.receive.ensures.gots_rise c.receive.ensures.receives c.receive.ensures.held c.receive.ensures.received
+    c.receive.ensures.gots_rise c.receive.ensures.traffic c.receive.ensures.held c.receive.ensures.received
 
 pub returns-in_err-hear-in-Got-clause-counts : goal.returns-in_err-hear-in-Got-clause-counts
 returns-in_err-hear-in-Got-clause-counts g c = received_keeps g.L.Link c.a_link_forgets_nothing.ensures.board
     c.receive.result
     c.receive.new.into.items c.args.link.now c.receive.new.self c.receive.ensures.faults c.receive.ensures.quiets_rise
-    c.receive.ensures.gots_rise c.receive.ensures.receives c.receive.ensures.held c.receive.ensures.received
+    c.receive.ensures.gots_rise c.receive.ensures.traffic c.receive.ensures.held c.receive.ensures.received
 
 pub returns-in_ok-hear-in-Got-clause-counts : goal.returns-in_ok-hear-in-Got-clause-counts
 returns-in_ok-hear-in-Got-clause-counts g c = received_keeps g.L.Link c.a_link_forgets_nothing.ensures.board
     c.receive.result
     c.receive.new.into.items c.args.link.now c.receive.new.self c.receive.ensures.faults c.receive.ensures.quiets_rise
-    c.receive.ensures.gots_rise c.receive.ensures.receives c.receive.ensures.held c.receive.ensures.received
+    c.receive.ensures.gots_rise c.receive.ensures.traffic c.receive.ensures.held c.receive.ensures.received
 
 pub returns-in-Quiet-clause-counts : goal.returns-in-Quiet-clause-counts
 returns-in-Quiet-clause-counts g c = received_keeps g.L.Link c.a_link_forgets_nothing.ensures.board c.receive.result
     c.receive.new.into.items c.args.link.now c.receive.new.self c.receive.ensures.faults c.receive.ensures.quiets_rise
-    c.receive.ensures.gots_rise c.receive.ensures.receives c.receive.ensures.held c.receive.ensures.received
+    c.receive.ensures.gots_rise c.receive.ensures.traffic c.receive.ensures.held c.receive.ensures.received
