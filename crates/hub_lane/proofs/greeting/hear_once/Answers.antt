@@ -1,4 +1,4 @@
-use Rattle.std.proofs.Common.{List, subst, ℕ}
+use Rattle.std.proofs.Common.{List, Ok, subst, ℕ}
 use Rattle.std.proofs.lemmas.Result.{IfOk-from_err}
 use Rattle.links.specs.Receives.{receives_in}
 use Rattle.links.specs.Telling.{IfTelling}
@@ -63,13 +63,13 @@ returns-in-Quiet-clause-handed g c =
 pub returns-in-Quiet-clause-receives : goal.returns-in-Quiet-clause-receives
 returns-in-Quiet-clause-receives g c =
     quiet_end c.receive.new.into.items (receives_in (g.L.Link.traffic c.args.link.now)) c.in-Quiet.is c.requires.untold
-    (one_received _ c.receive.new.into.items (g.L.Link.traffic c.args.link.now) c.in_ok-receive.ensures.traffic)
+    (one_received (Ok c.in_ok-receive.field-0) c.receive.new.into.items (g.L.Link.traffic c.args.link.now) c.in_ok-receive.ensures.traffic)
 
 pub returns-in-Got-clause-receives : goal.returns-in-Got-clause-receives
 returns-in-Got-clause-receives g c =
     got_end c.receive.new.into.items c.tell.result (receives_in (g.L.Link.traffic c.args.link.now)) c.in-Got.is c.requires.untold
     (subst (λ (bytes : List ℕ). IsSaid (to_hub bytes) c.tell.result) c.deref.ensures.value c.tell.ensures.said)
-    (one_received _ c.receive.new.into.items (g.L.Link.traffic c.args.link.now) c.in_ok-receive.ensures.traffic)
+    (one_received (Ok c.in_ok-receive.field-0) c.receive.new.into.items (g.L.Link.traffic c.args.link.now) c.in_ok-receive.ensures.traffic)
 
 pub returns-in_err-receive-clause-asked : goal.returns-in_err-receive-clause-asked
 returns-in_err-receive-clause-asked g c =
