@@ -16,7 +16,7 @@ use Rattle.board_specs.specs.declared.spec.LinkSpec.TheVariants.{Sim, Udp}
 use Rattle.world_model.specs.Board.{Board, bodies_executed}
 use Rattle.world_model.specs.Settings.{AreLimits, Limits}
 use Rattle.links.specs.declared.link.Link.{Ghosts}
-use Rattle.links.specs.Receives.{first_status}
+use Rattle.links.specs.Receives.{first_status, receives_in}
 use Rattle.links.specs.Telling.{IfTelling, Telling}
 use Rattle.board_specs.specs.OpeningWords.{LinkNamesWords}
 use Rattle.links.specs.Racks.{telling_for}
@@ -101,8 +101,8 @@ module _ {L : Type 0} (seen : Ghosts L) (settings : Limits) where
       × (64 * settings.rounds ≤ 64 * seen.quiets after + seen.gots after))
       → IfSilent board (λ after rounds. IfSome (seen.telling after)
       (λ _. (settings.rounds ≤ seen.quiets after) × (settings.rounds ≤ seen.held after)))
-      → IfSilent board (λ after rounds. first_status (seen.receives after) ≡ None)
-      → IfDown board (λ after. first_status (seen.receives after) ≡ None)
+      → IfSilent board (λ after rounds. first_status (receives_in (seen.traffic after)) ≡ None)
+      → IfDown board (λ after. first_status (receives_in (seen.traffic after)) ≡ None)
       → IfDown board (λ after. Rose (seen.faults link) (seen.faults after))
       → IsUntouched (shown_by seen (link_of board))
       → IsGreetedAs settings board (shown_by seen (link_of board))
@@ -130,8 +130,8 @@ module _ {L : Type 0} (seen : Ghosts L) (settings : Limits) where
       × (64 * settings.rounds ≤ 64 * seen.quiets after + seen.gots after))
       → IfSilent board (λ after rounds. IfSome (seen.telling after)
       (λ _. (settings.rounds ≤ seen.quiets after) × (settings.rounds ≤ seen.held after)))
-      → IfSilent board (λ after rounds. first_status (seen.receives after) ≡ None)
-      → IfDown board (λ after. first_status (seen.receives after) ≡ None)
+      → IfSilent board (λ after rounds. first_status (receives_in (seen.traffic after)) ≡ None)
+      → IfDown board (λ after. first_status (receives_in (seen.traffic after)) ≡ None)
       → IfDown board (λ after. Rose (seen.faults link) (seen.faults after))
       → IsReached settings spec board (shown_by seen (link_of board))
   is_reached spec link board made fresh ready told silent quiet untold none down =

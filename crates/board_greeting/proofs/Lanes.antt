@@ -8,6 +8,7 @@ use Rattle.board_bus.specs.Cells.{CellMap}
 use Rattle.board_bus.specs.Ranges.{opening_bus}
 use Rattle.world_model.specs.Board.{Board}
 use Rattle.world_model.specs.Hub.{Hub}
+use Rattle.links.specs.Receives.{receives_in}
 use Rattle.links.specs.Telling.{Telling}
 use Rattle.world_model.specs.Settings.{Limits}
 use Rattle.board_specs.specs.declared.spec.BoardSpec.{BoardSpec}
@@ -122,7 +123,7 @@ SoundLaw = (settings : Limits) (status : BoardStatus) (hub : Hub) (items : List 
     (link : LinkReport) (opening : CellMap)
     → IsLane settings status hub items outcomes lates give_ups down spent link.telling link.faults link.quiets
     → IfSome link.telling (λ _. HasReached (settings.rounds * give_ups) link.held) → HasHeard outcomes link.gots
-    → HasListened status hub outcomes lates give_ups link.receives → IfSome link.telling (OpenedWith opening)
+    → HasListened status hub outcomes lates give_ups (receives_in link.traffic) → IfSome link.telling (OpenedWith opening)
     → IsSoundLane settings opening (payload_of status.mtu) link items outcomes lates give_ups
 
 pub at_end : {L : Type 0} → SoundLaw → (settings : Limits) (spec : BoardSpec) (lane : LaneState L)
@@ -131,7 +132,7 @@ pub at_end : {L : Type 0} → SoundLaw → (settings : Limits) (spec : BoardSpec
     link.telling link.faults link.quiets
     → IfSome link.telling (λ _. HasReached (lane.settings.rounds * lane.give_ups) link.held)
     → HasHeard lane.outcomes link.gots
-    → HasListened lane.status lane.hub lane.outcomes lane.lates lane.give_ups link.receives
+    → HasListened lane.status lane.hub lane.outcomes lane.lates lane.give_ups (receives_in link.traffic)
     → IsEndedLane settings spec lane link
 at_end {L} law settings spec lane link to is paid heard listened =
     let here = board_known lane.status spec.link link.telling to.board' is.told in

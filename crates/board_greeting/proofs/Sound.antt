@@ -14,7 +14,7 @@ use Rattle.world_model.specs.Places.{at_place}
 use Rattle.world_model.specs.Facts.{bodies_of}
 use Rattle.world_model.specs.Hub.{Hub}
 use Rattle.world_model.specs.Settings.{Limits}
-use Rattle.links.specs.Receives.{IsReplyAmong, first_status, quiets_in, since_status}
+use Rattle.links.specs.Receives.{IsReplyAmong, first_status, quiets_in, receives_in, since_status}
 use Rattle.links.specs.Telling.{Telling}
 use Rattle.lane_record.specs.declared.outcome.Outcome.{Outcome}
 use Rattle.lane_record.specs.declared.outcome.Outcome.TheVariants.{Replied, TimedOut, Unsent, LinkLost}
@@ -146,8 +146,8 @@ replies_counted (o ∷ os) = count_cons (has_become is_replied) o os
 
 -- what is among the receives behind the status is what the link brought
 brought : (link : LinkReport) (status : BoardStatus) (place : ℕ) (words : List ℕ)
-    → first_status link.receives ≡ Some (told_by status)
-    → IsReplyAmong status.next place words (since_status link.receives) → HasBroughtReply link place words
+    → first_status (receives_in link.traffic) ≡ Some (told_by status)
+    → IsReplyAmong status.next place words (since_status (receives_in link.traffic)) → HasBroughtReply link place words
 brought link status place words told among = record {
   mtu = status.mtu;
   buffers = status.buffers;
@@ -163,7 +163,7 @@ pub sound_lane : TrueLaw → EachLateLaw → (settings : Limits) (status : Board
     (link : LinkReport) (opening : CellMap)
     → IsLane settings status hub items outcomes lates give_ups down spent link.telling link.faults link.quiets
     → IfSome link.telling (λ _. HasReached (settings.rounds * give_ups) link.held) → HasHeard outcomes link.gots
-    → HasListened status hub outcomes lates give_ups link.receives → IfSome link.telling (OpenedWith opening)
+    → HasListened status hub outcomes lates give_ups (receives_in link.traffic) → IfSome link.telling (OpenedWith opening)
     → IsSoundLane settings opening (payload_of status.mtu) link items outcomes lates give_ups
 sound_lane law each settings status hub items outcomes lates give_ups down spent link opening is paid heard listened
     opened = record {
@@ -178,8 +178,8 @@ sound_lane law each settings status hub items outcomes lates give_ups down spent
           is.kept;
       waited = waited_all settings.rounds give_ups hub.status_requests link.quiets
           (subst (λ (r : ℕ). HasWaited r give_ups hub.status_requests link.quiets) is.knows.rounds is.waited);
-      waited_since = waited_behind settings.rounds give_ups hub.status_requests (since_status link.receives)
-          (subst (λ (r : ℕ). HasWaitedIn r give_ups hub.status_requests (since_status link.receives)) is.knows.rounds
+      waited_since = waited_behind settings.rounds give_ups hub.status_requests (since_status (receives_in link.traffic))
+          (subst (λ (r : ℕ). HasWaitedIn r give_ups hub.status_requests (since_status (receives_in link.traffic))) is.knows.rounds
           listened.waited);
       heard = subst (λ (n : ℕ). HasReached (n + 1) link.gots) (sym (replies_counted outcomes)) heard;
       words = λ k place words there. brought link status place words listened.greeting

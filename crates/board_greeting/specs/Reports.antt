@@ -5,14 +5,14 @@ use Rattle.links.specs.Telling.{Telling}
 use Rattle.links.specs.declared.link.Link.{Ghosts}
 use Rattle.board_history.specs.Links.{LinkReport}
 
--- what a link shows, by what contracts see of it: its four counts, what its receives came to, and what it tells
+-- what a link shows, by what contracts see of it: its four counts, its traffic, and what it tells
 abbrev pub shown_by : {L : Type 0} → Ghosts L → L → LinkReport
 shown_by seen link = record {
   faults = seen.faults link;
   quiets = seen.quiets link;
   gots = seen.gots link;
   held = seen.held link;
-  receives = seen.receives link;
+  traffic = seen.traffic link;
   telling = seen.telling link;
 }
 

@@ -27,7 +27,7 @@ pub fn a_lane_is_a_sound_one()
         → IsLane settings status hub items outcomes lates give_ups down spent link.telling link.faults link.quiets
         → IfSome link.telling (λ _. HasReached (settings.rounds * give_ups) link.held)
         → HasHeard outcomes link.gots
-        → HasListened status hub outcomes lates give_ups link.receives
+        → HasListened status hub outcomes lates give_ups (receives_in link.traffic)
         → IfSome link.telling (OpenedWith opening)
         → IsSoundLane settings opening (payload_of status.mtu) link items outcomes lates give_ups }
 {

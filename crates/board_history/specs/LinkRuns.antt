@@ -10,7 +10,7 @@ use Rattle.board_specs.specs.declared.spec.LinkSpec.{LinkSpec}
 use Rattle.board_specs.specs.declared.spec.LinkSpec.TheVariants.{Sim, Udp}
 use Rattle.world_model.specs.Board.{Board, bodies_executed}
 use Rattle.world_model.specs.Settings.{Limits}
-use Rattle.links.specs.Receives.{first_status}
+use Rattle.links.specs.Receives.{first_status, receives_in}
 use Rattle.lane_record.specs.declared.outcome.Outcome.{Outcome}
 use Rattle.lane_record.specs.Outcomes.{TellsRounds, is_replied}
 use Rattle.script_steps.specs.declared.operation.Step.{Step}
@@ -128,7 +128,7 @@ pub record ShowsLates (run : BoardRun) (link : LinkReport) : Type 0 where
 -- or 64 datagrams of no use. Over a link that tells each ended with a quiet receive, datagrams were held in each, and
 -- the board executed nothing.
 pub record IsSilentRun (settings : Limits) (link : LinkReport) : Type 0 where
-  pub untold : first_status link.receives ≡ None
+  pub untold : first_status (receives_in link.traffic) ≡ None
   pub waited : most_others * settings.rounds ≤ most_others * link.quiets + link.gots
   pub quiet : IfSome link.telling (λ _. settings.rounds ≤ link.quiets)
   pub held : IfSome link.telling (λ _. settings.rounds ≤ link.held)
@@ -137,7 +137,7 @@ pub record IsSilentRun (settings : Limits) (link : LinkReport) : Type 0 where
 -- A board is down only where its link failed at the greeting, before a datagram told its status, and it executed nothing
 -- then.
 pub record IsDownRun (link : LinkReport) : Type 0 where
-  pub untold : first_status link.receives ≡ None
+  pub untold : first_status (receives_in link.traffic) ≡ None
   pub failed : HasFailed link
   pub untouched : IsUntouched link
 

@@ -2,6 +2,7 @@
 use Rattle.std.specs.Prelude.{◌≡◌, ℕ, ◌≤◌, true, List, [], Option, Some, None, IfSome}
 use Rattle.board_bus.specs.Ranges.{opening_bus}
 use Rattle.world_model.specs.Board.{Board, bodies_executed}
+use Rattle.reliable_engine.specs.Traffic.{Passed}
 use Rattle.links.specs.Telling.{Telling}
 use Rattle.board_specs.specs.declared.spec.LinkSpec.{LinkSpec}
 use Rattle.board_specs.specs.declared.spec.LinkSpec.TheVariants.{Sim, Udp}
@@ -10,15 +11,14 @@ use Rattle.lane_record.specs.declared.outcome.Outcome.{Outcome}
 use Rattle.lane_record.specs.Outcomes.{is_lost}
 
 -- Counts since the link was made, each of 64 bits: how often the network failed, how many receives were quiet and how
--- many got a datagram, and how many datagrams were lost, delayed or dropped; what each receive came to that did not
--- fail, in order, the bytes of a datagram or none; and what the link tells of its board and of the datagrams that it
--- carried, where it tells.
+-- many got a datagram, and how many datagrams were lost, delayed or dropped; what passed over it, in the order of the
+-- calls that did not fail; and what the link tells of its board and of the datagrams that it carried, where it tells.
 pub record LinkReport : Type 0 where
   pub faults : ℕ
   pub quiets : ℕ
   pub gots : ℕ
   pub held : ℕ
-  pub receives : List (Option (List ℕ))
+  pub traffic : List Passed
   pub telling : Option Telling
 
 -- the board of a link that tells

@@ -2,7 +2,7 @@
 use Rattle.std.specs.Prelude.{◌≡◌, ℕ, List, Option, Some, None}
 use Rattle.ipb_base.specs.Numbers.{payload_of}
 use Rattle.world_model.specs.Messages.{StatusReply}
-use Rattle.links.specs.Receives.{IsReplyAmong, first_status, quiets_in, since_status}
+use Rattle.links.specs.Receives.{IsReplyAmong, first_status, quiets_in, receives_in, since_status}
 use Rattle.lane_record.specs.declared.outcome.Outcome.{Outcome}
 use Rattle.lane_record.specs.declared.outcome.Outcome.TheVariants.{Replied, TimedOut, Unsent, LinkLost}
 use Rattle.board_history.specs.Links.{LinkReport}
@@ -12,12 +12,12 @@ pub record HasToldPayload (link : LinkReport) (payload : ℕ) : Type 0 where
   pub mtu : ℕ
   pub buffers : ℕ
   pub first : ℕ
-  pub status : first_status link.receives ≡ Some (StatusReply mtu buffers first)
+  pub status : first_status (receives_in link.traffic) ≡ Some (StatusReply mtu buffers first)
   pub packets : payload ≡ payload_of mtu
 
 -- how many receives behind the status were quiet: those of the greeting are left out
 abbrev pub quiets_since_status : LinkReport → ℕ
-quiets_since_status link = quiets_in (since_status link.receives)
+quiets_since_status link = quiets_in (since_status (receives_in link.traffic))
 
 -- A datagram behind the status brought the reply to the packet of this place: a control packet with its identifier,
 -- counted from the one that the status tells, whose body is these words.
@@ -25,8 +25,8 @@ pub record HasBroughtReply (link : LinkReport) (place : ℕ) (words : List ℕ) 
   pub mtu : ℕ
   pub buffers : ℕ
   pub first : ℕ
-  pub status : first_status link.receives ≡ Some (StatusReply mtu buffers first)
-  pub among : IsReplyAmong first place words (since_status link.receives)
+  pub status : first_status (receives_in link.traffic) ≡ Some (StatusReply mtu buffers first)
+  pub among : IsReplyAmong first place words (since_status (receives_in link.traffic))
 
 -- the link brought the words of a body that was replied to
 abbrev pub IsReplyBrought : LinkReport → Outcome → Type 0

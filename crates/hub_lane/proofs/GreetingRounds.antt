@@ -8,7 +8,7 @@ use Rattle.world_model.specs.Links.{Told, birth_of}
 use Rattle.world_model.specs.Settings.{Limits}
 use Rattle.links.specs.declared.link.Link.{Ghosts}
 use Rattle.links.specs.declared.link.LinkFault.{LinkFault}
-use Rattle.links.specs.Receives.{first_status}
+use Rattle.links.specs.Receives.{first_status, receives_in}
 use Rattle.links.specs.Telling.{IfTelling, IsSent, Telling}
 use Rattle.hub_lane.specs.Heard.{EndWith}
 use Rattle.hub_lane.specs.Greeting.{CanBegin, CountsRound, EndsAskingWith, EndsGreetingWith, EndsRound}
@@ -149,7 +149,7 @@ pub record IsAsking {L : Type 0} (seen : Ghosts L) (settings : Limits) (rounds :
   pub few_quiets : seen.quiets now ≤ rounds
   pub few_gots : seen.gots now ≤ 64 * rounds
   pub counted : 64 * rounds ≤ 64 * seen.quiets now + seen.gots now
-  pub untold : first_status (seen.receives now) ≡ None
+  pub untold : first_status (receives_in (seen.traffic now)) ≡ None
   pub fault : seen.faults old ≤ seen.faults now
 
 none_paid : (quiets held : ℕ) (a : Option Telling) → IfSome a (HasPaid 0 quiets held)
@@ -171,7 +171,7 @@ asking_first {seen} {settings} {link} unused begins =
       few_quiets = omega (arith, no_quiets);
       few_gots = omega (arith, no_gots);
       counted = omega arith;
-      untold = ap first_status unused.none_received;
+      untold = ap first_status (ap receives_in unused.no_traffic);
       fault = omega arith;
     }
 
@@ -348,7 +348,7 @@ greeting_found seen settings {status} old new e is =
 
 pub found_heard : {L : Type 0} {seen : Ghosts L} {found : Option Status} {status : Status} {old new : L}
     → found ≡ Some status → EndsRound seen found old new
-    → (1 ≤ seen.gots new) × EndWith (Some status) (seen.receives new)
+    → (1 ≤ seen.gots new) × EndWith (Some status) (receives_in (seen.traffic new))
 found_heard {seen} {old} {new} e is =
     let ends = subst (λ (x : Option Status). EndsRound seen x old new) e is in
     let more = ends.heard in

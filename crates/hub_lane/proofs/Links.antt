@@ -6,19 +6,23 @@ use Rattle.board_bus.specs.Cells.{CellMap}
 use Rattle.ipb_base.specs.Faults.{Rose}
 use Rattle.ipb_base.specs.Lists.{IsPrefix}
 use Rattle.world_model.specs.Board.{Board}
+use Rattle.world_model.specs.Hub.{Hub}
+use Rattle.world_model.specs.Messages.{to_hub}
 use Rattle.links.specs.declared.link.Link.{Ghosts}
 use Rattle.links.specs.declared.link.LinkFault.{LinkFault}
 use Rattle.links.specs.declared.link.Received.{Received}
 use Rattle.links.specs.declared.link.Received.TheVariants.{Got, Quiet as received_quiet}
-use Rattle.links.specs.Receives.{receives_after}
-use Rattle.links.specs.Telling.{IfTelling, IsQuiet, Receives, Telling}
+use Rattle.links.specs.Receives.{receives_after, receives_in}
+use Rattle.links.specs.Traffic.{received_after}
+use Rattle.links.proofs.Passing.{one_received}
+use Rattle.links.specs.Telling.{IfTelling, IsQuiet, Receives, Telling, gots_after, quiets_after}
 use Rattle.lane_record.specs.declared.item.Item.{Item}
-use Rattle.hub_lane.specs.declared.answers.Pumped.TheVariants.{Quiet}
+use Rattle.hub_lane.specs.declared.answers.Pumped.TheVariants.{Reply, Status, Stray, Quiet, Idle, LinkDown}
 use Rattle.hub_lane.specs.declared.answers.Pumped.{Pumped}
 use Rattle.hub_lane.specs.Calls.{IsSameRecord, IsSpent, PumpsAs}
-use Rattle.hub_lane.specs.Hearing.{WasReceived}
+use Rattle.hub_lane.specs.Hearing.{IsHeardAs, WasReceived}
 use Rattle.hub_lane.specs.Lanes.{LaneState, board_of, opening_of}
-use Rattle.hub_lane.specs.Links.{IsDownByFault, KeepsCounting, ReceivesNothing}
+use Rattle.hub_lane.specs.Links.{IsDownByFault, KeepsCounting, ReceivesNothing, ReceivesOnce}
 use Rattle.hub_lane.proofs.Linked.{received_board}
 use Rattle.hub_lane.proofs.Listened.{same_prefix}
 use Rattle.hub_lane.proofs.Standing.{SameBoard}
@@ -62,18 +66,59 @@ grows (Err fault) bytes old new is = same_prefix is
 
 pub received_keeps : {L : Type 0} (seen : Ghosts L) → SameBoard → (result : Result Received LinkFault)
     (bytes : List ℕ) (old new : L) → seen.faults old ≤ seen.faults new → seen.quiets old ≤ seen.quiets new
-    → seen.gots old ≤ seen.gots new → seen.receives new ≡ receives_after result bytes (seen.receives old)
+    → seen.gots old ≤ seen.gots new → seen.traffic new ≡ received_after result bytes (seen.traffic old)
     → seen.held old ≤ seen.held new
     → IfTelling (seen.telling old) (seen.telling new) (Receives result bytes (seen.held old) (seen.held new))
     → KeepsCounting seen old new
-received_keeps seen law result bytes old new faults quiets gots receives held call = record {
+received_keeps seen law result bytes old new faults quiets gots traffic held call = record {
   faults = faults;
   quiets = quiets;
   gots = gots;
-  receives = grows result bytes (seen.receives old) (seen.receives new) receives;
+  receives = grows result bytes (receives_in (seen.traffic old)) (receives_in (seen.traffic new))
+      (one_received result bytes (seen.traffic old) traffic);
   held = held;
   board = received_board law result bytes (seen.held old) (seen.held new) (seen.telling old) (seen.telling new) call;
 }
+
+-- a receive came to this
+abbrev pub CameTo : {L : Type 0} → Ghosts L → Result Received LinkFault → List ℕ → L → L → Type 0
+CameTo seen result bytes old new = (seen.quiets new ≡ quiets_after result (seen.quiets old))
+    × (seen.gots new ≡ gots_after result (seen.gots old))
+    × (seen.traffic new ≡ received_after result bytes (seen.traffic old))
+
+got_as : {L : Type 0} (seen : Ghosts L) (pumped : Pumped) (bytes : List ℕ) (hub : Hub) (old new : L)
+    → IsHeardAs hub (to_hub bytes) pumped → CameTo seen (Ok Got) bytes old new → ReceivesOnce seen pumped bytes old new
+got_as seen (Reply place) bytes hub old new heard came = record {
+  counts = record { quiets = came.0; gots = came.1 };
+  receives = one_received (Ok Got) bytes (seen.traffic old) came.2;
+}
+got_as seen Status bytes hub old new heard came = record {
+  counts = record { quiets = came.0; gots = came.1 };
+  receives = one_received (Ok Got) bytes (seen.traffic old) came.2;
+}
+got_as seen Stray bytes hub old new heard came = record {
+  counts = record { quiets = came.0; gots = came.1 };
+  receives = one_received (Ok Got) bytes (seen.traffic old) came.2;
+}
+got_as seen Quiet bytes hub old new heard came = absurd heard
+got_as seen Idle bytes hub old new heard came = absurd heard
+got_as seen LinkDown bytes hub old new heard came = absurd heard
+
+pub got_once : {L : Type 0} (seen : Ghosts L) (pumped : Pumped) (bytes : List ℕ) (hub : Hub) (old new : L)
+    (received : Received) → received ≡ Got → IsHeardAs hub (to_hub bytes) pumped
+    → CameTo seen (Ok received) bytes old new → ReceivesOnce seen pumped bytes old new
+got_once seen pumped bytes hub old new received e heard came =
+    got_as seen pumped bytes hub old new heard
+    (subst (λ (r : Received). CameTo seen (Ok r) bytes old new) e came)
+
+pub quiet_once : {L : Type 0} (seen : Ghosts L) (bytes : List ℕ) (old new : L) (received : Received)
+    → received ≡ received_quiet → CameTo seen (Ok received) bytes old new → ReceivesOnce seen Quiet bytes old new
+quiet_once seen bytes old new received e came =
+    let is = subst (λ (r : Received). CameTo seen (Ok r) bytes old new) e came in
+    record {
+      counts = record { quiets = is.0; gots = is.1 };
+      receives = one_received (Ok received_quiet) bytes (seen.traffic old) is.2;
+    }
 
 pub was_quiet : (bytes : List ℕ) (held now : ℕ) (old new : Option Telling) → IfTelling old new (IsQuiet held now)
     → IfSome new (WasReceived Quiet bytes)
@@ -164,10 +209,10 @@ same_entries {L} {inside} {old} {items} view same = ap (λ (xs : List Item). rec
 
 pub pumps_as : {L : Type 0} {inside old : LaneState L} → inside ≡ old → (seen : Ghosts L) (new : LaneState L)
     (telling : Option Telling) (now : List (Option (List ℕ))) (came_to : Pumped)
-    → PumpsAs inside telling (seen.receives inside.link) now new came_to
-    → PumpsAs old telling (seen.receives old.link) now new came_to
+    → PumpsAs inside telling (receives_in (seen.traffic inside.link)) now new came_to
+    → PumpsAs old telling (receives_in (seen.traffic old.link)) now new came_to
 pumps_as {L} view seen new telling now came_to =
-    subst (λ (v : LaneState L). PumpsAs v telling (seen.receives v.link) now new came_to) view
+    subst (λ (v : LaneState L). PumpsAs v telling (receives_in (seen.traffic v.link)) now new came_to) view
 
 -- a call that began with a lane of this view
 module _ {L : Type 0} {inside old new : LaneState L} (view : inside ≡ old) where

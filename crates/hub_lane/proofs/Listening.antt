@@ -6,7 +6,7 @@ use Rattle.ipb_base.specs.Faults.{Rose}
 use Rattle.status_packet.specs.declared.status.Status.{Status}
 use Rattle.world_model.specs.Settings.{Limits}
 use Rattle.links.specs.declared.link.Link.{Ghosts}
-use Rattle.links.specs.Receives.{first_status}
+use Rattle.links.specs.Receives.{first_status, receives_in}
 use Rattle.links.specs.Telling.{IfTelling, Telling}
 use Rattle.hub_lane.specs.Heard.{EndWith}
 use Rattle.hub_lane.specs.declared.greeting.Answer.{Answer}
@@ -39,7 +39,7 @@ pub record IsListening {L : Type 0} (seen : Ghosts L) (other : ℕ) (old now : L
   pub first : IfSome (seen.telling old) (λ _. (other ≡ 0) × (seen.held now ≡ seen.held old))
   pub quiet : seen.quiets now ≡ seen.quiets old
   pub got : seen.gots now ≡ seen.gots old + other
-  pub untold : first_status (seen.receives now) ≡ None
+  pub untold : first_status (receives_in (seen.traffic now)) ≡ None
   pub fault : seen.faults old ≤ seen.faults now
   pub hold : seen.held old ≤ seen.held now
 
@@ -51,7 +51,7 @@ none_first : (held : ℕ) (a : Option Telling) → IfSome a (λ _. ◌≡◌ {A 
 none_first held None = tt
 none_first held (Some t) = (refl, refl)
 
-pub listening_first : {L : Type 0} {seen : Ghosts L} {link : L} → first_status (seen.receives link) ≡ None
+pub listening_first : {L : Type 0} {seen : Ghosts L} {link : L} → first_status (receives_in (seen.traffic link)) ≡ None
     → IsListening seen 0 link link
 listening_first {seen} {link} untold = record {
   same = same_first (seen.telling link);
@@ -161,7 +161,7 @@ module _ {L : Type 0} {seen : Ghosts L} {other : ℕ} {old now : L} (so_far : Is
   none_asked = same_asked (seen.telling old) (seen.telling now) so_far.same
 
   -- another one came
-  other_came : (settings : Limits) {new : L} → seen.gots now ≤ 2 ^ 20 → first_status (seen.receives new) ≡ None
+  other_came : (settings : Limits) {new : L} → seen.gots now ≤ 2 ^ 20 → first_status (receives_in (seen.traffic new)) ≡ None
       → IfTelling (seen.telling now) (seen.telling new)
       (IsHeardFrom settings (seen.held now) (seen.held new) answer.Other)
       → CountsAnswer seen answer.Other now new → seen.faults now ≤ seen.faults new → seen.held now ≤ seen.held new
@@ -184,7 +184,7 @@ module _ {L : Type 0} {seen : Ghosts L} {other : ℕ} {old now : L} (so_far : Is
       }
 
   pub others_came : (settings : Limits) {heard : Answer} {new : L} → heard ≡ answer.Other
-      → seen.gots old ≤ 64 * 255 → other < 64 → EndWith (status_in heard) (seen.receives new)
+      → seen.gots old ≤ 64 * 255 → other < 64 → EndWith (status_in heard) (receives_in (seen.traffic new))
       → IfTelling (seen.telling now) (seen.telling new) (IsHeardFrom settings (seen.held now) (seen.held new) heard)
       → CountsAnswer seen heard now new → seen.faults now ≤ seen.faults new → seen.held now ≤ seen.held new
       → IsListening seen (other + 1) old new
@@ -251,13 +251,13 @@ module _ {L : Type 0} {seen : Ghosts L} {other : ℕ} {old now : L} (so_far : Is
       (IsHeardFrom settings (seen.held now) (seen.held new) x)) e is)
 
   pub ends_told : {heard : Answer} {status : Status} {new : L} → heard ≡ answer.Told status
-      → seen.gots old ≤ 64 * 255 → other < 64 → EndWith (status_in heard) (seen.receives new)
+      → seen.gots old ≤ 64 * 255 → other < 64 → EndWith (status_in heard) (receives_in (seen.traffic new))
       → CountsAnswer seen heard now new → EndsRound seen (Some status) old new
   ends_told {new} e few more ends counts =
       let gots = subst (λ (a : Answer). seen.gots new ≡ gots_of_answer a (seen.gots now)) e counts.gots in
       let got = so_far.got in
       record {
-        receives = subst (λ (a : Answer). EndWith (status_in a) (seen.receives new)) e ends;
+        receives = subst (λ (a : Answer). EndWith (status_in a) (receives_in (seen.traffic new))) e ends;
         heard = omega (arith, gots, got, few, more);
         counted = tt;
         handed = tt;
@@ -282,7 +282,7 @@ module _ {L : Type 0} {seen : Ghosts L} {other : ℕ} {old now : L} (so_far : Is
       (IsHeardFrom settings (seen.held now) (seen.held new) x)) e is)
 
   pub ends_quiet : {heard : Answer} {new : L} → heard ≡ answer.Nothing → seen.quiets old ≤ 255
-      → EndWith (status_in heard) (seen.receives new) → CountsAnswer seen heard now new
+      → EndWith (status_in heard) (receives_in (seen.traffic new)) → CountsAnswer seen heard now new
       → IfNothing heard (IfTelling (seen.telling now) (seen.telling new) HandedOutNone)
       → EndsRound seen None old new
   ends_quiet {new} e few ends counts handed =
@@ -290,7 +290,7 @@ module _ {L : Type 0} {seen : Ghosts L} {other : ℕ} {old now : L} (so_far : Is
       let more = more_quiet e few counts in
       let got = so_far.got in
       record {
-        receives = subst (λ (a : Answer). EndWith (status_in a) (seen.receives new)) e ends;
+        receives = subst (λ (a : Answer). EndWith (status_in a) (receives_in (seen.traffic new))) e ends;
         heard = tt;
         counted = omega (arith, gots, got, more);
         handed = same_later HandedOutNone new

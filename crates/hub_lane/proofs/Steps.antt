@@ -8,6 +8,7 @@ use Rattle.world_model.specs.declared.offered.Offered.{Offered}
 use Rattle.world_model.specs.declared.offered.OpenPlace.{OpenPlace}
 use Rattle.world_model.specs.Hub.{Hub, is_waiting, some_queued, some_waited}
 use Rattle.links.specs.declared.link.Link.{Ghosts}
+use Rattle.links.specs.Receives.{receives_in}
 use Rattle.links.specs.Telling.{IfTelling, Telling}
 use Rattle.lane_record.specs.declared.outcome.Outcome.{Outcome}
 use Rattle.lane_record.specs.declared.item.Item.{Item}
@@ -176,7 +177,7 @@ pump_opening {L} seen {old} {before} {now} {link} same after opens =
 
 pub one_pump : {L : Type 0} (seen : Ghosts L) (old before new : LaneState L) (came_to : Pumped) (client seq : ℕ)
     → IsOldest old.items client seq → TakesNothing old client seq before
-    → PumpsAs before (seen.telling new.link) (seen.receives before.link) (seen.receives new.link) new came_to
+    → PumpsAs before (seen.telling new.link) (receives_in (seen.traffic before.link)) (receives_in (seen.traffic new.link)) new came_to
     → IfTelling (seen.telling before.link) (seen.telling new.link) (Pumping came_to before.hub new.hub)
     → PumpsOnce seen old client new
 one_pump {L} seen old before new came_to client seq oldest nothing became carried = record {

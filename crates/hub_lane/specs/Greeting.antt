@@ -9,7 +9,7 @@ use Rattle.world_model.specs.Air.{is_for_board}
 use Rattle.world_model.specs.Messages.{ToHub, StatusReply}
 use Rattle.world_model.specs.Facts.{IsStart}
 use Rattle.world_model.specs.Settings.{Limits}
-use Rattle.links.specs.Receives.{tells_status}
+use Rattle.links.specs.Receives.{receives_in, tells_status}
 use Rattle.links.specs.Telling.{IfTelling, Telling}
 use Rattle.links.specs.declared.link.Link.{Ghosts}
 use Rattle.hub_lane.specs.declared.greeting.Answer.{Answer}
@@ -43,7 +43,7 @@ pub record IsUnused {L : Type 0} (seen : Ghosts L) (link : L) : Type 0 where
   pub no_quiets : seen.quiets link ≡ 0
   pub no_gots : seen.gots link ≡ 0
   pub none_held : seen.held link ≡ 0
-  pub none_received : seen.receives link ≡ []
+  pub no_traffic : seen.traffic link ≡ []
 
 -- how many datagrams of the air are for the board
 abbrev pub requests_in : Telling → ℕ
@@ -161,7 +161,7 @@ pub record CountsRound {L : Type 0} (seen : Ghosts L) (old new : L) : Type 0 whe
 -- What a round that did not fail leaves of its link: the status came in a datagram, which was the last one; or none of
 -- its receives told one, and it has waited as long as a round does.
 pub record EndsRound {L : Type 0} (seen : Ghosts L) (found : Option Status) (old new : L) : Type 0 where
-  pub receives : EndWith found (seen.receives new)
+  pub receives : EndWith found (receives_in (seen.traffic new))
   pub heard : IfSome found (λ _. seen.gots old + 1 ≤ seen.gots new)
   pub counted : IfNotTold found (IsCounted (seen.quiets old) (seen.quiets new) (seen.gots old) (seen.gots new))
   pub handed : IfNotTold found (IfTelling (seen.telling old) (seen.telling new) HandedOutNone)
@@ -181,7 +181,7 @@ pub record IsWithinRounds {L : Type 0} (seen : Ghosts L) (rounds : ℕ) (link : 
 -- the status came in a datagram, which is the last one that was received
 pub record EndsWithDatagram {L : Type 0} (seen : Ghosts L) (status : BoardStatus) (link : L) : Type 0 where
   pub gots : 1 ≤ seen.gots link
-  pub receives : EndsWithStatus status (seen.receives link)
+  pub receives : EndsWithStatus status (receives_in (seen.traffic link))
 
 -- ---- what a greeting comes to
 

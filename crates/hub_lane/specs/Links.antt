@@ -5,6 +5,7 @@ use Rattle.ipb_base.specs.Lists.{IsPrefix}
 use Rattle.links.specs.declared.link.Link.{Ghosts}
 use Rattle.links.specs.declared.link.LinkFault.{LinkFault}
 use Rattle.links.specs.declared.link.LinkFault.TheVariants.{Failed}
+use Rattle.links.specs.Receives.{receives_in}
 use Rattle.hub_lane.specs.declared.answers.Pumped.{Pumped}
 use Rattle.hub_lane.specs.Hearing.{gots_of, quiets_of, receives_of}
 use Rattle.hub_lane.specs.Lanes.{LaneState, board_of}
@@ -14,7 +15,7 @@ pub record KeepsCounting {L : Type 0} (seen : Ghosts L) (old new : L) : Type 0 w
   pub faults : seen.faults old ≤ seen.faults new
   pub quiets : seen.quiets old ≤ seen.quiets new
   pub gots : seen.gots old ≤ seen.gots new
-  pub receives : IsPrefix (seen.receives old) (seen.receives new)
+  pub receives : IsPrefix (receives_in (seen.traffic old)) (receives_in (seen.traffic new))
   pub held : seen.held old ≤ seen.held new
   pub board : board_of (seen.telling new) ≡ board_of (seen.telling old)
 
@@ -23,7 +24,7 @@ pub record ReceivesNothing {L : Type 0} (seen : Ghosts L) (old new : L) : Type 0
   pub faults : seen.faults old ≤ seen.faults new
   pub quiets : seen.quiets new ≡ seen.quiets old
   pub gots : seen.gots new ≡ seen.gots old
-  pub receives : seen.receives new ≡ seen.receives old
+  pub receives : receives_in (seen.traffic new) ≡ receives_in (seen.traffic old)
   pub held : seen.held old ≤ seen.held new
   pub board : board_of (seen.telling new) ≡ board_of (seen.telling old)
 
@@ -35,7 +36,7 @@ pub record CountsPump {L : Type 0} (seen : Ghosts L) (pumped : Pumped) (old new 
 -- ... and left these bytes in its buffer
 pub record ReceivesOnce {L : Type 0} (seen : Ghosts L) (pumped : Pumped) (bytes : List ℕ) (old new : L) : Type 0 where
   pub counts : CountsPump seen pumped old new
-  pub receives : seen.receives new ≡ receives_of pumped bytes (seen.receives old)
+  pub receives : receives_in (seen.traffic new) ≡ receives_of pumped bytes (receives_in (seen.traffic old))
 
 -- A call in which the network failed counted a fault; over a link that tells no other call does.
 pub record CountsFaults {L T : Type 0} (seen : Ghosts L) (result : Result T LinkFault) (old new : L) : Type 0 where
@@ -53,5 +54,5 @@ pub record ShowsTheSame {L : Type 0} (seen : Ghosts L) (old new : L) : Type 0 wh
   pub faults : seen.faults new ≡ seen.faults old
   pub quiets : seen.quiets new ≡ seen.quiets old
   pub gots : seen.gots new ≡ seen.gots old
-  pub receives : seen.receives new ≡ seen.receives old
+  pub traffic : seen.traffic new ≡ seen.traffic old
   pub held : seen.held new ≡ seen.held old

@@ -6,6 +6,7 @@ use Rattle.lane_record.specs.declared.outcome.Outcome.{Outcome}
 use Rattle.lane_record.specs.Claims.{Claim, IsAskOf}
 use Rattle.lane_tables.specs.Taken.{HasTakenAll, IsOldest}
 use Rattle.hub_lane.specs.Lanes.{LaneState}
+use Rattle.links.specs.Receives.{receives_in}
 use Rattle.links.specs.Telling.{IfTelling}
 use Rattle.links.specs.declared.link.Link.{Ghosts}
 use Rattle.hub_lane.specs.Calls.{IsSameRecord, PumpsAs, Takes, TakesNothing}
@@ -73,7 +74,8 @@ LooksAs old client new looks.Nothing = (new ≡ old) × HasTakenAll old.items cl
 -- one pump that came to this: what the lane became and its link received, and what the link carried
 pub record IsPump {L : Type 0} (seen : Ghosts L) (old : LaneState L) (came_to : Pumped) (new : LaneState L)
     : Type 0 where
-  pub became : PumpsAs old (seen.telling new.link) (seen.receives old.link) (seen.receives new.link) new came_to
+  pub became : PumpsAs old (seen.telling new.link) (receives_in (seen.traffic old.link))
+      (receives_in (seen.traffic new.link)) new came_to
   pub carried : IfTelling (seen.telling old.link) (seen.telling new.link) (Pumping came_to old.hub new.hub)
 
 -- nothing became of the client's oldest asked and untaken body so far, and then the lane was pumped once

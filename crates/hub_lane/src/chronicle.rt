@@ -2,6 +2,7 @@
 
 ghost use Rattle.std.specs.Prelude.{◌≡◌, ◌⊎◌, false, IfSome};
 ghost use Rattle.world_model.specs.Facts.{bodies_of};
+ghost use Rattle.links.specs.Receives.{receives_in};
 ghost use Rattle.lane_record.specs.Claims.{IsFinished};
 ghost use Rattle.lane_record.specs.Outcomes.{AreSettled};
 ghost use Rattle.hub_lane.specs.Truth.{HasEachLate, IsTrueTo, IsWhole};
@@ -49,7 +50,7 @@ impl<L: Link> Lane<L> {
         requires { IsFinished self.now.items }
         ensures { IsWhole self.now.items self.now.lates self.now.hub.sent self.now.hub.window self.now.hub.rounds
             self.now.give_ups (L.faults self.now.link) (L.quiets self.now.link) self.now.status
-            (L.receives self.now.link) (L.telling self.now.link) }
+            (receives_in (L.traffic self.now.link)) (L.telling self.now.link) }
     {
         a_finished_lane_is_whole();
         self.is_sound();

@@ -4,7 +4,7 @@ ghost use Rattle.std.specs.Prelude.{◌≡◌, ◌≤◌, ◌+◌, ◌*◌, ℕ,
 ghost use Rattle.ipb_base.specs.Faults.{Rose};
 ghost use Rattle.ipb_base.specs.Numbers.{most_others};
 ghost use Rattle.world_model.specs.Messages.{to_hub};
-ghost use Rattle.links.specs.Receives.{first_status};
+ghost use Rattle.links.specs.Receives.{first_status, receives_in};
 ghost use Rattle.links.specs.Telling.{IfTelling};
 ghost use Rattle.packet_ids.specs.Identifier.{IsIdentifier};
 ghost use Rattle.status_packet.specs.Range.{IsBufferCount, IsMtu};
@@ -65,8 +65,8 @@ impl<L: Link> Lane<L> {
         ensures ready { IfReady result (λ lane. lane ≡ new_lane lane.link settings lane.status) }
         ensures told { IfReady result (λ lane. IfSome (L.telling lane.link) (IsGreeted settings lane.status)) }
         ensures first { IfReady result (λ lane. EndsWithDatagram L.Link lane.status lane.link) }
-        ensures none_told { IfSilent result (λ link rounds. first_status (L.receives link) ≡ None) }
-        ensures down_none_told { IfDown result (λ link. first_status (L.receives link) ≡ None) }
+        ensures none_told { IfSilent result (λ link rounds. first_status (receives_in (L.traffic link)) ≡ None) }
+        ensures down_none_told { IfDown result (λ link. first_status (receives_in (L.traffic link)) ≡ None) }
         ensures silent { IfSilent result (λ link rounds. (rounds ≡ settings.rounds)
             × (most_others * settings.rounds ≤ most_others * L.quiets link + L.gots link)) }
         ensures silent_told { IfSilent result (λ link rounds. IfSome (L.telling link)
@@ -99,7 +99,7 @@ impl<L: Link> Lane<L> {
 fn begin<L: Link>(alloc: Global, link: L, settings: Settings, status: Status) -> Greeted<L>
     requires greeted { IfSome (L.telling link) (IsGreeted settings (status_of status)) }
     requires heard { 1 ≤ L.gots link }
-    requires first { EndsWithStatus (status_of status) (L.receives link) }
+    requires first { EndsWithStatus (status_of status) (receives_in (L.traffic link)) }
     ensures same { link_of result ≡ link }
     ensures ready { IfReady result (λ lane. lane ≡ new_lane link settings (status_of status)) }
     ensures silent { IfSilent result (λ link rounds. ⊥) }
@@ -127,8 +127,8 @@ fn ask_for_status<L: Link>(
     ensures handed { IfOk result (λ found. IfNotTold found
         (IfTelling (L.telling link.old) (L.telling link.new) HandedOutNone)) }
     ensures heard { IfOk result (λ found. IfSome found (λ _. 1 ≤ L.gots link.new)) }
-    ensures receives { IfOk result (λ found. EndWith found (L.receives link.new)) }
-    ensures none_told { OnErr result (first_status (L.receives link.new) ≡ None) }
+    ensures receives { IfOk result (λ found. EndWith found (receives_in (L.traffic link.new))) }
+    ensures none_told { OnErr result (first_status (receives_in (L.traffic link.new)) ≡ None) }
     ensures asked { IfTelling (L.telling link.old) (L.telling link.new)
         (HasAskedAtMost (L.quiets link.new + 1)) }
     ensures most { IsWithinRounds L.Link settings.rounds link.new }
@@ -151,14 +151,14 @@ fn ask_once<L: Link>(
 ) -> Result<Option<Status>, LinkFault>
     requires few_quiets { L.quiets link.old ≤ 255 }
     requires few_gots { L.gots link.old ≤ most_others * 255 }
-    requires untold { first_status (L.receives link.old) ≡ None }
+    requires untold { first_status (receives_in (L.traffic link.old)) ≡ None }
     requires begins { IfSome (L.telling link.old) (CanBegin settings) }
     ensures fresh { IfTelling (L.telling link.old) (L.telling link.new) (StaysFresh settings) }
     ensures asked { IfTelling (L.telling link.old) (L.telling link.new) (HasAskedAtMost 1) }
     ensures told { IfOk result (λ found. IfTelling (L.telling link.old) (L.telling link.new)
         (EndsAskingWith settings (L.quiets link.old) (L.quiets link.new) (L.held link.old) (L.held link.new) found)) }
     ensures ended { IfOk result (λ found. EndsRound L.Link found link.old link.new) }
-    ensures none_told { OnErr result (first_status (L.receives link.new) ≡ None) }
+    ensures none_told { OnErr result (first_status (receives_in (L.traffic link.new)) ≡ None) }
     ensures counts { CountsRound L.Link link.old link.new }
     ensures failed { result ≡ Err LinkFault.Failed → Rose (L.faults link.old) (L.faults link.new) }
 {
@@ -176,14 +176,14 @@ fn listen<L: Link>(
 ) -> Result<Option<Status>, LinkFault>
     requires few_quiets { L.quiets link.old ≤ 255 }
     requires few_gots { L.gots link.old ≤ most_others * 255 }
-    requires untold { first_status (L.receives link.old) ≡ None }
+    requires untold { first_status (receives_in (L.traffic link.old)) ≡ None }
     requires begins { IfSome (L.telling link.old) (CanBegin settings) }
     ensures fresh { IfTelling (L.telling link.old) (L.telling link.new) (StaysFresh settings) }
     ensures asked { IfTelling (L.telling link.old) (L.telling link.new) HasAskedNothing }
     ensures told { IfOk result (λ found. IfTelling (L.telling link.old) (L.telling link.new)
         (EndsRoundWith settings (L.quiets link.old) (L.quiets link.new) (L.held link.old) (L.held link.new) found)) }
     ensures ended { IfOk result (λ found. EndsRound L.Link found link.old link.new) }
-    ensures none_told { OnErr result (first_status (L.receives link.new) ≡ None) }
+    ensures none_told { OnErr result (first_status (receives_in (L.traffic link.new)) ≡ None) }
     ensures counts { CountsRound L.Link link.old link.new }
     ensures failed { result ≡ Err LinkFault.Failed → Rose (L.faults link.old) (L.faults link.new) }
 {
@@ -204,11 +204,11 @@ fn hear_once<L: Link>(
     settings: Settings,
 ) -> Result<Answer, LinkFault>
     requires begins { IfSome (L.telling link.old) (CanBegin settings) }
-    requires untold { first_status (L.receives link.old) ≡ None }
+    requires untold { first_status (receives_in (L.traffic link.old)) ≡ None }
     ensures fresh { IfTelling (L.telling link.old) (L.telling link.new) (StaysFresh settings) }
     ensures asked { IfTelling (L.telling link.old) (L.telling link.new) HasAskedNothing }
-    ensures receives { IfOk result (λ heard. EndWith (status_in heard) (L.receives link.new)) }
-    ensures none_told { OnErr result (first_status (L.receives link.new) ≡ None) }
+    ensures receives { IfOk result (λ heard. EndWith (status_in heard) (receives_in (L.traffic link.new))) }
+    ensures none_told { OnErr result (first_status (receives_in (L.traffic link.new)) ≡ None) }
     ensures told { IfOk result (λ heard. IfTelling (L.telling link.old) (L.telling link.new)
         (IsHeardFrom settings (L.held link.old) (L.held link.new) heard)) }
     ensures counted { IfOk result (λ heard. CountsAnswer L.Link heard link.old link.new) }

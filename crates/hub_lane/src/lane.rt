@@ -11,6 +11,7 @@ ghost use Rattle.lane_record.specs.Coding.{entry_of};
 ghost use Rattle.lane_record.specs.Lates.{late_in};
 ghost use Rattle.world_model.specs.Hub.{offer};
 ghost use Rattle.hub_lane.specs.Plans.{CanPlan, IsRefused, Plans};
+ghost use Rattle.links.specs.Receives.{receives_in};
 ghost use Rattle.links.specs.Telling.{IfTelling};
 ghost use Rattle.hub_lane.specs.Carrying.{HasPut, Pumping};
 ghost use Rattle.hub_lane.specs.Heard.{EndsWithStatus, HasHeard, HasListened};
@@ -65,6 +66,7 @@ pub struct Lane<L: Link> {
 
 impl<L: Link> Model for Lane<L> {
     ghost use Rattle.std.specs.Prelude.{IfSome, ◌||◌};
+    ghost use Rattle.links.specs.Receives.{receives_in};
     ghost use Rattle.hub_lane.specs.Heard.{HasHeard, HasListened};
     ghost use Rattle.hub_lane.specs.Lanes.{IsLane, LaneState};
     ghost use Rattle.hub_lane.specs.Rounds.{HasPaid};
@@ -92,7 +94,7 @@ impl<L: Link> Model for Lane<L> {
         (HasPaid (l.down || l.spent) l.mtu l.settings.rounds l.give_ups l.engine (L.held l.link))
         × HasHeard l.outcomes.items (L.gots l.link)
         × HasListened (record { mtu = l.mtu; buffers = l.buffers; next = l.first }) l.engine l.outcomes.items
-        l.outcomes.lates l.give_ups (L.receives l.link) };
+        l.outcomes.lates l.give_ups (receives_in (L.traffic l.link)) };
 }
 
 impl<L: Link> Lane<L> {
@@ -128,7 +130,7 @@ impl<L: Link> Lane<L> {
     /// does nothing when it runs.
     pub fn has_listened(&self)
         ensures { HasListened self.now.status self.now.hub self.now.outcomes self.now.lates self.now.give_ups
-            (L.receives self.now.link) }
+            (receives_in (L.traffic self.now.link)) }
     {
         let _outcomes = &self.outcomes;
     }
@@ -142,7 +144,7 @@ impl<L: Link> Lane<L> {
     ) -> Result<Lane<L>, L>
         requires greeted { IfSome (L.telling link) (IsGreeted settings (status_of status)) }
         requires heard { 1 ≤ L.gots link }
-        requires first { EndsWithStatus (status_of status) (L.receives link) }
+        requires first { EndsWithStatus (status_of status) (receives_in (L.traffic link)) }
         ensures made { IfOk result (λ lane. lane ≡ new_lane link settings (status_of status)) }
         ensures given_back { IfErr result (λ back. back ≡ link) }
     {
@@ -372,8 +374,8 @@ impl<L: Link> Lane<L> {
     /// spent: it never pumps again, and answers so. Where the link fails, now or before, every body that has no outcome
     /// is lost.
     pub fn pump(&mut self) -> Result<Pumped, NoMemory>
-        ensures pumped { IfOk result (PumpsAs self.old (L.telling self.new.link) (L.receives self.old.link)
-            (L.receives self.new.link) self.new) }
+        ensures pumped { IfOk result (PumpsAs self.old (L.telling self.new.link) (receives_in (L.traffic self.old.link))
+            (receives_in (L.traffic self.new.link)) self.new) }
         ensures same { IsSameRecord self.old self.new }
         ensures not_spent { OnOk result (self.old.spent ≡ false) }
         ensures spent { OnErr result (IsSpent self.old self.new) }

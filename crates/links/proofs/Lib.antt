@@ -1,5 +1,6 @@
 pub mod Births
 pub mod Sends
+pub mod Passing
 mod Reading
 mod States
 mod Receives

@@ -1,8 +1,11 @@
 pub mod Messages
 pub mod Telling
+pub mod Traffic
 pub mod Receives
 pub mod Births
 pub mod Handed
 pub mod States
 pub mod Racks
 pub mod Waits
+pub mod GhostLists
+pub mod TrafficLogs

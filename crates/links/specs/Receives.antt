@@ -1,25 +1,28 @@
--- What the receives of a link came to, in order: each the bytes of a datagram, or none. The greeting of a board ends
--- with the first datagram that tells a status. Profile.
+-- What the receives of a link came to, in order: each the bytes of a datagram, or none. They stand in its traffic. The
+-- greeting of a board ends with the first datagram that tells a status. Profile.
 use Rattle.std.specs.Prelude.{◌≡◌, ℕ, Bool, true, false, if◌then◌else◌, List, [], ◌∷◌, ◌++◌, count_by, is_none}
 use Rattle.std.specs.Prelude.{Option, Some, None, Result, Ok, Err}
 use Rattle.std.specs.List.{Contains}
 use Rattle.packet_ids.specs.Identifier.{identifier_at}
 use Rattle.world_model.specs.Messages.{ToHub, StatusReply, Reply, to_hub}
+use Rattle.reliable_engine.specs.Traffic.{Passed}
+use Rattle.reliable_engine.specs.Traffic as passed
 use Rattle.links.specs.declared.link.LinkFault.{LinkFault}
 use Rattle.links.specs.declared.link.Received.{Received}
 use Rattle.links.specs.declared.link.Received.TheVariants.{Got, Quiet}
+
+-- what the receives among what passed came to, in order
+abbrev pub receives_in : List Passed → List (Option (List ℕ))
+receives_in [] = []
+receives_in (passed.Sent bytes ∷ later) = receives_in later
+receives_in (passed.Got bytes ∷ later) = Some bytes ∷ receives_in later
+receives_in (passed.Quiet ∷ later) = None ∷ receives_in later
 
 -- after one more receive, which left these bytes in its buffer
 abbrev pub receives_after : Result Received LinkFault → List ℕ → List (Option (List ℕ)) → List (Option (List ℕ))
 receives_after (Ok Got) bytes before = before ++ Some bytes ∷ []
 receives_after (Ok Quiet) bytes before = before ++ None ∷ []
 receives_after (Err fault) bytes before = before
-
--- behind these one more came to this, unless memory ran out
-abbrev pub with_receive : {T E : Type 0} → Result T E → Option (List ℕ) → List (Option (List ℕ))
-    → List (Option (List ℕ))
-with_receive (Ok done) came before = before ++ came ∷ []
-with_receive (Err fault) came before = before
 
 -- how many of these receives were quiet
 abbrev pub quiets_in : List (Option (List ℕ)) → ℕ

@@ -7,24 +7,26 @@
 #![tactic(auto)]
 
 mod found;
+mod ghost_list;
 pub mod laws;
 mod link;
 mod message;
 mod rack;
-mod receive_log;
 mod sending;
 mod spec_log;
+mod traffic_log;
 mod waiter;
 
 pub use board_specs::{BoardSpec, LinkSpec};
 pub use found::{Found, what_was_found_is_read_back};
+pub use ghost_list::GhostList;
 pub use ipb_base::{NoMemory, Words};
 pub use link::{LIFETIME, Link, LinkFault, MAX_DATAGRAM, Received};
 pub use message::{Message, read_for_hub};
 pub use rack::{Rack, RackFault};
-pub use receive_log::ReceiveLog;
 pub use reliable_engine::{Engine, Sending};
 pub use sending::{append_sending, write_sending};
 pub use spec_log::SpecLog;
 pub use status_packet::Status;
+pub use traffic_log::TrafficLog;
 pub use waiter::{MOST_FROM_ELSEWHERE, Sighting, Waiter};

@@ -2,8 +2,9 @@
 
 ghost use Rattle.std.specs.Prelude.{◌≡◌, ◌≢◌, ◌≤◌, ℕ, List, Option, length, OnOk, OnErr, Err, IfSome};
 ghost use Rattle.ipb_base.specs.Faults.{Rose};
+ghost use Rattle.reliable_engine.specs.Traffic.{Passed};
 ghost use Rattle.links.specs.Telling.{gots_after, IfTelling, IsCarried, IsSent, quiets_after, Receives, Telling};
-ghost use Rattle.links.specs.Receives.{receives_after};
+ghost use Rattle.links.specs.Traffic.{received_after, sent_after};
 
 use crate::waiter::Waiter;
 use ipb_base::NoMemory;
@@ -47,10 +48,10 @@ pub enum Received {
 /// A link to one board (profile). It may lose datagrams, repeat them, delay them and change their order.
 ///
 /// Contracts see four counts, none of which falls: its faults, the receives that were quiet and those that got a
-/// datagram, and the datagrams that it lost, delayed or dropped for age. A count stands still at 2^64 - 1. They see what
-/// each receive came to, of which the program need not keep a byte. A link may tell what it carries, as a simulated one
-/// does: then contracts see its board and all datagrams ever sent too, and a fault is counted only in a call that fails.
-/// Whether it tells never changes.
+/// datagram, and the datagrams that it lost, delayed or dropped for age. A count stands still at 2^64 - 1. They see its
+/// traffic, of which the program need not keep a byte. A link may tell what it carries, as a simulated one does: then
+/// contracts see its board and all datagrams ever sent too, and a fault is counted only in a call that fails. Whether it
+/// tells never changes.
 pub trait Link {
     /// What it tells, where it tells: its board and its air, what is still to be heard, and what was handed out. A
     /// first send is a control packet with the identifier of the place after the last first send, and places are
@@ -69,8 +70,9 @@ pub trait Link {
     /// How many datagrams were lost, delayed or dropped for age.
     ghost held: { Self → ℕ };
 
-    /// What the receives came to that did not fail, in order: the bytes of a datagram, or none.
-    ghost receives: { Self → List (Option (List ℕ)) };
+    /// What passed over it, in the order of the calls that did not fail: each datagram that was sent or received, and
+    /// each receive that was quiet.
+    ghost traffic: { Self → List Passed };
 
     /// Sends a datagram to the board. A refused one changes nothing that the link tells.
     fn send(&mut self, bytes: &[u8]) -> Result<(), LinkFault>
@@ -84,7 +86,7 @@ pub trait Link {
         ensures faults { faults self.old ≤ faults self.new }
         ensures quiets { quiets self.new ≡ quiets self.old }
         ensures gots { gots self.new ≡ gots self.old }
-        ensures receives { receives self.new ≡ receives self.old }
+        ensures traffic { traffic self.new ≡ sent_after result bytes.now (traffic self.old) }
         ensures held { held self.old ≤ held self.new };
 
     /// Waits for a datagram from the board, and puts it into `into` in place of what stood there. `into` is empty where
@@ -101,7 +103,7 @@ pub trait Link {
         ensures quiets_rise { quiets self.old ≤ quiets self.new }
         ensures gots { gots self.new ≡ gots_after result (gots self.old) }
         ensures gots_rise { gots self.old ≤ gots self.new }
-        ensures receives { receives self.new ≡ receives_after result into.new.items (receives self.old) }
+        ensures traffic { traffic self.new ≡ received_after result into.new.items (traffic self.old) }
         ensures held { held self.old ≤ held self.new };
 
     /// What waits for the next datagram beside the link. `None` where there is nothing to wait for, or no room for it.
@@ -111,7 +113,7 @@ pub trait Link {
         ensures faults { faults self.new ≡ faults self.old }
         ensures quiets { quiets self.new ≡ quiets self.old }
         ensures gots { gots self.new ≡ gots self.old }
-        ensures receives { receives self.new ≡ receives self.old }
+        ensures traffic { traffic self.new ≡ traffic self.old }
         ensures held { held self.new ≡ held self.old }
     {
         None

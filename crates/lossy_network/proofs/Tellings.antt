@@ -15,7 +15,8 @@ use Rattle.links.specs.declared.link.LinkFault.TheVariants.{Failed, NoMemory}
 use Rattle.links.specs.declared.link.Received.{Received}
 use Rattle.links.specs.declared.link.Received.TheVariants.{Got, Quiet}
 use Rattle.links.specs.Telling.{IsCarried, IsGot, IsQuiet, IsReceived, IsSent, KeepsBut, Receives, Telling}
-use Rattle.links.specs.Receives.{receives_after}
+use Rattle.links.specs.Traffic.{received_after, sent_after}
+use Rattle.reliable_engine.specs.Traffic as passes
 use Rattle.links.specs.Telling.{gots_after, quiets_after}
 use Rattle.lossy_network.specs.declared.fates.DatagramFate.{DatagramFate}
 use Rattle.lossy_network.specs.declared.fates.DatagramFate.TheVariants.{Delivered, Lost, Repeated, Delayed}
@@ -321,11 +322,11 @@ carried (Err fault) bytes old new is short none = none
 
 -- ---- the counts
 
--- but for its own counts, a receive leaves all counts but those of datagrams held; and what it came to is known
+-- but for its own counts, a receive leaves all counts but those of datagrams held; and it joins the traffic
 pub record AreCounts (result : Result Received LinkFault) (bytes : List ℕ) (old new : Network) : Type 0 where
   pub quiets : new.quiets ≡ quiets_after result old.quiets
   pub gots : new.gots ≡ gots_after result old.gots
-  pub receives : new.receives ≡ receives_after result bytes old.receives
+  pub passed : new.passed ≡ received_after result bytes old.passed
   pub faults : (new.faults ≡ old.faults) ⊎ (new.faults ≡ one_more old.faults)
   pub unfaulted : result ≢ Err Failed → new.faults ≡ old.faults
 
@@ -340,8 +341,8 @@ counts_quiet old new bytes after_is quiet =
     record {
       quiets = ap (λ (n : Network). n.quiets) end ∙ sym (ap (λ (n : Network). one_more n.quiets) same);
       gots = ap (λ (n : Network). n.gots) end ∙ sym (ap (λ (n : Network). n.gots) same);
-      receives =
-          ap (λ (n : Network). n.receives) end ∙ sym (ap (λ (n : Network). n.receives ++ None ∷ []) same);
+      passed =
+          ap (λ (n : Network). n.passed) end ∙ sym (ap (λ (n : Network). n.passed ++ passes.Quiet ∷ []) same);
       faults = inl (ap (λ (n : Network). n.faults) end ∙ sym (ap (λ (n : Network). n.faults) same));
       unfaulted = λ _. ap (λ (n : Network). n.faults) end ∙ sym (ap (λ (n : Network). n.faults) same);
     }
@@ -354,10 +355,10 @@ counts_got old new bytes after_is bytes_is got =
     record {
       quiets = ap (λ (n : Network). n.quiets) end ∙ sym (ap (λ (n : Network). n.quiets) same);
       gots = ap (λ (n : Network). n.gots) end ∙ sym (ap (λ (n : Network). one_more n.gots) same);
-      receives =
-          ap (λ (n : Network). n.receives) end
-          ∙ (sym (ap (λ (n : Network). n.receives ++ Some got.bytes ∷ []) same)
-          ∙ ap (λ (xs : List ℕ). old.receives ++ Some xs ∷ [])
+      passed =
+          ap (λ (n : Network). n.passed) end
+          ∙ (sym (ap (λ (n : Network). n.passed ++ passes.Got got.bytes ∷ []) same)
+          ∙ ap (λ (xs : List ℕ). old.passed ++ passes.Got xs ∷ [])
           (sym (bytes_is ∙ ap (λ (r : Receipt). r.bytes) got.is)));
       faults = inl (ap (λ (n : Network). n.faults) end ∙ sym (ap (λ (n : Network). n.faults) same));
       unfaulted = λ _. ap (λ (n : Network). n.faults) end ∙ sym (ap (λ (n : Network). n.faults) same);
@@ -372,7 +373,7 @@ counts (Err Failed) bytes old new is =
     record {
       quiets = ap (λ (n : Network). n.quiets) same;
       gots = ap (λ (n : Network). n.gots) same;
-      receives = ap (λ (n : Network). n.receives) same;
+      passed = ap (λ (n : Network). n.passed) same;
       faults = inr (ap (λ (n : Network). n.faults) same);
       unfaulted = λ other. absurd (other refl);
     }
@@ -382,7 +383,7 @@ counts (Err NoMemory) bytes old new is =
     record {
       quiets = ap (λ (n : Network). n.quiets) same;
       gots = ap (λ (n : Network). n.gots) same;
-      receives = ap (λ (n : Network). n.receives) same;
+      passed = ap (λ (n : Network). n.passed) same;
       faults = inl (ap (λ (n : Network). n.faults) same);
       unfaulted = λ _. ap (λ (n : Network). n.faults) same;
     }
@@ -474,3 +475,9 @@ send_holds (Err Failed) bytes old new small is =
     subst (λ (n : Network). old.traffic.held ≤ n.traffic.held) (sym (is.fault refl)) (omega arith)
 send_holds (Err NoMemory) bytes old new small is =
     subst (λ (n : Network). old.traffic.held ≤ n.traffic.held) (sym (is.no_memory refl)) (omega arith)
+
+pub send_passes : (result : Result (Unit {0}) LinkFault) (bytes : List ℕ) (old new : Network)
+    → IsSending result bytes old new → new.passed ≡ sent_after result bytes old.passed
+send_passes (Ok unit) bytes old new is = ap (λ (n : Network). n.passed) is.after
+send_passes (Err Failed) bytes old new is = ap (λ (n : Network). n.passed) (is.fault refl)
+send_passes (Err NoMemory) bytes old new is = ap (λ (n : Network). n.passed) (is.no_memory refl)

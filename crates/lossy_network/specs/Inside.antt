@@ -49,7 +49,7 @@ network_of l = record {
   faults = l.faults;
   quiets = l.quiets;
   gots = l.gots;
-  receives = l.receives;
+  passed = l.passed;
 }
 
 -- a datagram for the hub is not too long

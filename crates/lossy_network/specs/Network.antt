@@ -9,6 +9,8 @@ use Rattle.world_model.specs.declared.datagram.Direction.TheVariants.{ToBoard, T
 use Rattle.world_model.specs.Air.{goes_to, is_alive}
 use Rattle.world_model.specs.Board.{Board}
 use Rattle.world_model.specs.Links.{Told, first_sends, heard_by, sent_on}
+use Rattle.reliable_engine.specs.Traffic.{Passed}
+use Rattle.reliable_engine.specs.Traffic as passes
 use Rattle.links.specs.declared.link.Received.{Received}
 use Rattle.links.specs.declared.link.Received.TheVariants.{Got, Quiet}
 use Rattle.links.specs.Telling.{Telling}
@@ -17,8 +19,8 @@ use Rattle.lossy_network.specs.Traffic.{Traffic, put_on, place_of}
 
 -- The board and all datagrams ever sent; those under way; the places of those that were handed out, in order; the fates
 -- of datagrams; and the numbers, from 1, of the calls that fail. It counts its calls, its faults, and the receives that
--- were quiet and that got a datagram. A count stands still at 2^64 - 1. It knows what the receives came to that did not
--- fail, in order: the bytes of a datagram, or none.
+-- were quiet and that got a datagram. A count stands still at 2^64 - 1. It knows what passed over it, in the order of the
+-- calls that did not fail.
 pub record Network : Type 0 where
   pub told : Told
   pub traffic : Traffic
@@ -29,7 +31,7 @@ pub record Network : Type 0 where
   pub faults : ℕ
   pub quiets : ℕ
   pub gots : ℕ
-  pub receives : List (Option (List ℕ))
+  pub passed : List Passed
 
 -- a link to this board, before its first call
 abbrev pub new_network : Board → Fates → List ℕ → Network
@@ -43,7 +45,7 @@ new_network board fates fail = record {
   faults = 0;
   quiets = 0;
   gots = 0;
-  receives = [];
+  passed = [];
 }
 
 -- what it tells: what is in the queue is still to be heard before the next quiet receive
@@ -66,9 +68,14 @@ fails net = list_any (λ number. number == one_more net.calls) net.fail
 abbrev pub with_fault : Network → Network
 with_fault net = record (with_call_counted net) { faults = one_more net.faults }
 
+-- the datagram joins the air
+abbrev pub with_sent : Network → List ℕ → Network
+with_sent net bytes =
+    record net { told = sent_on net.told bytes; passed = net.passed ++ passes.Sent bytes ∷ [] }
+
 -- a send: the datagram joins the air, and meets its fate
 abbrev pub network_with_send : Network → List ℕ → Network
-network_with_send net bytes = put_at (length net.told.air) (record (with_call_counted net) { told = sent_on net.told bytes })
+network_with_send net bytes = put_at (length net.told.air) (with_sent (with_call_counted net) bytes)
 
 -- ---- the front of the queue
 
@@ -158,7 +165,7 @@ abbrev pub quiet_receipt : Network → Receipt
 quiet_receipt net = record {
   answer = Quiet;
   bytes = [];
-  after = record net { quiets = one_more net.quiets; receives = net.receives ++ None ∷ [] };
+  after = record net { quiets = one_more net.quiets; passed = net.passed ++ passes.Quiet ∷ [] };
 }
 
 -- the datagram at this place, of these bytes, is handed out
@@ -166,7 +173,7 @@ abbrev pub handed_out : Network → ℕ → List ℕ → Network
 handed_out net place bytes = record net {
   handed = net.handed ++ place ∷ [];
   gots = one_more net.gots;
-  receives = net.receives ++ Some bytes ∷ [];
+  passed = net.passed ++ passes.Got bytes ∷ [];
 }
 
 abbrev pub without_front : List ℕ → List ℕ

@@ -5,6 +5,8 @@ use Rattle.std.specs.Prelude.{vec_len}
 use Rattle.std.specs.List.{All, list_any}
 use Rattle.std.specs.Global.{Vec}
 use Rattle.ipb_base.specs.Faults.{one_more}
+use Rattle.reliable_engine.specs.Traffic.{Passed}
+use Rattle.reliable_engine.specs.Traffic as passes
 use Rattle.board_specs.specs.declared.spec.LinkSpec.{LinkSpec}
 use Rattle.board_specs.specs.declared.spec.LinkSpec.TheVariants.{Sim, Udp}
 use Rattle.links.specs.declared.link.TheConstants.{MAX_DATAGRAM}
@@ -26,8 +28,8 @@ lists_of lists = map (λ answers. bytes_of answers.items) lists
 -- ---- a link
 
 -- The answers that were handed out and those that are left, in order; the numbers, from 1, of the calls that fail; the
--- counts of its calls, its faults, and the receives that were quiet and that got an answer; and what the receives came
--- to that did not fail, in order: an answer, or none. A count stands still at 2^64 - 1.
+-- counts of its calls, its faults, and the receives that were quiet and that got an answer; and what passed over it, in the
+-- order of the calls that did not fail. A count stands still at 2^64 - 1.
 pub record ScriptState : Type 0 where
   pub handed : List (List ℕ)
   pub left : List (List ℕ)
@@ -36,16 +38,20 @@ pub record ScriptState : Type 0 where
   pub faults : ℕ
   pub quiets : ℕ
   pub gots : ℕ
-  pub receives : List (Option (List ℕ))
+  pub passed : List Passed
 
 -- a link with these answers, before its first call
 abbrev pub new_script : List (List ℕ) → List ℕ → ScriptState
 new_script answers fail =
-    record { handed = []; left = answers; fail = fail; calls = 0; faults = 0; quiets = 0; gots = 0; receives = [] }
+    record { handed = []; left = answers; fail = fail; calls = 0; faults = 0; quiets = 0; gots = 0; passed = [] }
 
 -- each call is counted, and those whose numbers are named fail
 abbrev pub script_call_counted : ScriptState → ScriptState
 script_call_counted link = record link { calls = one_more link.calls }
+
+-- a send: the datagram is taken, and forgotten
+abbrev pub script_with_send : ScriptState → List ℕ → ScriptState
+script_with_send link bytes = record (script_call_counted link) { passed = link.passed ++ passes.Sent bytes ∷ [] }
 
 abbrev pub fails : ScriptState → Bool
 fails link = list_any (λ number. number == one_more link.calls) link.fail
@@ -63,7 +69,7 @@ abbrev pub receipt_of : ScriptState → List (List ℕ) → ScriptReceipt
 receipt_of link [] = record {
   answer = Quiet;
   bytes = [];
-  after = record link { quiets = one_more link.quiets; receives = link.receives ++ None ∷ [] };
+  after = record link { quiets = one_more link.quiets; passed = link.passed ++ passes.Quiet ∷ [] };
 }
 receipt_of link (bytes ∷ left) = record {
   answer = Got;
@@ -72,7 +78,7 @@ receipt_of link (bytes ∷ left) = record {
     handed = link.handed ++ bytes ∷ [];
     left = left;
     gots = one_more link.gots;
-    receives = link.receives ++ Some bytes ∷ [];
+    passed = link.passed ++ passes.Got bytes ∷ [];
   };
 }
 

@@ -16,7 +16,7 @@ script_of l = record {
   faults = l.faults;
   quiets = l.quiets;
   gots = l.gots;
-  receives = l.receives;
+  passed = l.passed;
 }
 
 abbrev pub IsScript : Inside → Type 0

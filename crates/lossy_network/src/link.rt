@@ -2,12 +2,11 @@
 
 ghost use Rattle.std.specs.Prelude.{◌≡◌, ◌↔◌, ◌≤◌, ◌<◌, ◌^◌, ℕ, [], length, true, false, Err, Ok, IfOk, OnOk, OnErr};
 ghost use Rattle.world_model.specs.Board.{bodies_executed};
-ghost use Rattle.world_model.specs.Links.{sent_on};
 ghost use Rattle.links.specs.declared.link.TheConstants.{MAX_DATAGRAM};
 ghost use Rattle.links.specs.declared.link.LinkFault.TheVariants.{Failed, NoMemory as no_memory};
 ghost use Rattle.lossy_network.specs.Network.{Network, all_taken, with_call_counted, with_fault, fails, front, new_network, put_at};
-ghost use Rattle.lossy_network.specs.Network.{receipt_at, network_receipt, network_with_send, takes};
-ghost use Rattle.lossy_network.specs.Inside.{IsTaken, stands, traffic_of};
+ghost use Rattle.lossy_network.specs.Network.{receipt_at, network_receipt, network_with_send, takes, with_sent};
+ghost use Rattle.lossy_network.specs.Inside.{IsTaken, stands};
 
 use crate::air::Air;
 use crate::fates::{next_fate, noise_generator};
@@ -16,7 +15,7 @@ use crate::under_way::UnderWay;
 use board_node::Board;
 use board_specs::Fates;
 use ipb_base::NoMemory;
-use links::{LinkFault, MAX_DATAGRAM, ReceiveLog, Received};
+use links::{LinkFault, MAX_DATAGRAM, Received, TrafficLog};
 use rand_pcg::Lcg64Xsh32;
 use std::alloc::Global;
 use std::marker::Model;
@@ -35,7 +34,7 @@ pub struct SimLink {
     faults: u64,
     quiets: u64,
     gots: u64,
-    receives: ReceiveLog,
+    passed: TrafficLog,
 }
 
 impl Model for SimLink {
@@ -53,7 +52,7 @@ impl Model for SimLink {
 impl SimLink {
     /// A link to a board that has executed nothing, with an empty air and counts of 0. The calls of `send` and
     /// `receive` are counted together from 1, and those whose numbers are in `fail` fail. `NoMemory` where memory ran
-    /// out for what can be delayed or for what the first receive comes to.
+    /// out for what can be delayed.
     pub fn new(
         alloc: Global,
         board: Board,
@@ -64,7 +63,7 @@ impl SimLink {
         ensures { IfOk result (λ link. link ≡ new_network board fates fail.items) }
     {
         let noise = noise_generator(&fates);
-        let (under_way, receives) = first_room(alloc)?;
+        let under_way = UnderWay::new(alloc)?;
         Ok(SimLink {
             air: Air::new(alloc, board),
             under_way,
@@ -76,7 +75,7 @@ impl SimLink {
             faults: 0,
             quiets: 0,
             gots: 0,
-            receives,
+            passed: TrafficLog::new(),
         })
     }
 
@@ -177,7 +176,7 @@ impl SimLink {
     /// Puts a datagram for the board into the air and on its way.
     fn carry(&mut self, bytes: &[u8]) -> Result<(), NoMemory>
         ensures sent { OnOk result (self.new ≡
-            put_at (length self.old.told.air) (record self.old { told = sent_on self.old.told bytes.now })) }
+            put_at (length self.old.told.air) (with_sent self.old bytes.now)) }
         ensures unchanged { OnErr result (self.new ≡ self.old) }
     {
         self.under_way.reserve()?;
@@ -185,6 +184,7 @@ impl SimLink {
         self.air.send(bytes)?;
         let fate = next_fate(&self.fates, &mut self.noise, place);
         self.under_way.put(fate, place);
+        self.passed.add_sent(bytes);
         Ok(())
     }
 
@@ -241,7 +241,7 @@ impl SimLink {
         ensures none { OnErr result (into.new.items ≡ []) }
     {
         let Some(place) = self.under_way.front() else {
-            self.receives.add_quiet()?;
+            self.passed.add_quiet();
             self.quiets = self.quiets.saturating_add(1);
             return Ok(Received::Quiet);
         };
@@ -249,22 +249,12 @@ impl SimLink {
             unreachable!();
         };
         self.handed.reserve(1)?;
-        hand_over(&mut self.receives, bytes, into)?;
+        hand_over(&mut self.passed, bytes, into)?;
         self.under_way.queue.pop_front();
         self.handed.push_reserved(place);
         self.gots = self.gots.saturating_add(1);
         Ok(Received::Got)
     }
-}
-
-/// Nothing under way and no receives, with the room for all that can be delayed and for what the first receive comes to.
-fn first_room(alloc: Global) -> Result<(UnderWay, ReceiveLog), NoMemory>
-    ensures traffic { IfOk result (λ room. traffic_of room.0 ≡ record { queue = []; delayed = []; held = 0 }) }
-    ensures receives { IfOk result (λ room. room.1 ≡ []) }
-{
-    let mut receives = ReceiveLog::new(alloc);
-    receives.reserve()?;
-    Ok((UnderWay::new(alloc)?, receives))
 }
 
 /// A count is one of 64 bits.

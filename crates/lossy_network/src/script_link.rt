@@ -5,12 +5,12 @@ ghost use Rattle.std.specs.List.{slice_get};
 ghost use Rattle.links.specs.declared.link.TheConstants.{MAX_DATAGRAM};
 ghost use Rattle.links.specs.declared.link.LinkFault.TheVariants.{Failed, NoMemory as no_memory};
 ghost use Rattle.lossy_network.specs.Scripts.{AreDatagrams, bytes_of, script_call_counted, script_with_fault, fails, new_script};
-ghost use Rattle.lossy_network.specs.Scripts.{receipt_of, script_receipt};
+ghost use Rattle.lossy_network.specs.Scripts.{receipt_of, script_receipt, script_with_send};
 
 use crate::handing::hand_over;
 use crate::link::fits;
 use ipb_base::NoMemory;
-use links::{Link, LinkFault, MAX_DATAGRAM, ReceiveLog, Received};
+use links::{Link, LinkFault, MAX_DATAGRAM, Received, TrafficLog};
 use std::marker::Model;
 
 /// A link whose answers are given beforehand, whatever is sent: those of a board that may answer anything. It tells
@@ -24,7 +24,7 @@ pub struct ScriptLink {
     faults: u64,
     quiets: u64,
     gots: u64,
-    receives: ReceiveLog,
+    passed: TrafficLog,
 }
 
 impl Model for ScriptLink {
@@ -53,7 +53,6 @@ impl ScriptLink {
         requires { AreDatagrams answers.items }
         ensures { result ≡ new_script (bytes_of answers.items) fail.items }
     {
-        let receives = ReceiveLog::new(*answers.allocator());
         ScriptLink {
             answers,
             next: 0,
@@ -62,7 +61,7 @@ impl ScriptLink {
             faults: 0,
             quiets: 0,
             gots: 0,
-            receives,
+            passed: TrafficLog::new(),
         }
     }
 
@@ -95,13 +94,15 @@ impl ScriptLink {
 
     /// Takes a datagram and forgets it. `Failed` where the call's number was named, and no other fault. It takes no
     /// memory.
-    pub fn send(&mut self, _bytes: &[u8]) -> Result<(), LinkFault>
-        ensures sent { OnOk result (self.new ≡ script_call_counted self.old) }
+    pub fn send(&mut self, bytes: &[u8]) -> Result<(), LinkFault>
+        ensures sent { OnOk result (self.new ≡ script_with_send self.old bytes.now) }
         ensures fails { (result ≡ Err Failed) ↔ (fails self.old ≡ true) }
         ensures failed { result ≡ Err Failed → self.new ≡ script_with_fault self.old }
         ensures no_other { result ≢ Err no_memory }
     {
-        self.count_call()
+        self.count_call()?;
+        self.passed.add_sent(bytes);
+        Ok(())
     }
 
     /// Puts the next answer into `into`, in place of what stood there. It is quiet where none is left; `into` is empty
@@ -147,13 +148,12 @@ impl ScriptLink {
         ensures unchanged { OnErr result (self.new ≡ self.old) }
         ensures none { OnErr result (into.new.items ≡ []) }
     {
-        self.receives.reserve()?;
         let Some(bytes) = self.answers.get(self.next) else {
-            self.receives.add_quiet()?;
+            self.passed.add_quiet();
             self.quiets = self.quiets.saturating_add(1);
             return Ok(Received::Quiet);
         };
-        hand_over(&mut self.receives, bytes, into)?;
+        hand_over(&mut self.passed, bytes, into)?;
         self.next += 1;
         self.gots = self.gots.saturating_add(1);
         Ok(Received::Got)
@@ -173,7 +173,7 @@ impl Link for ScriptLink {
 
     ghost held = { λ link. 0 };
 
-    ghost receives = { λ link. link.receives };
+    ghost traffic = { λ link. link.passed };
 
     fn send(&mut self, bytes: &[u8]) -> Result<(), LinkFault> {
         self.counts_fit();

@@ -18,7 +18,7 @@ impl Link for SimLink {
 
     ghost held = { λ link. link.traffic.held };
 
-    ghost receives = { λ link. link.receives };
+    ghost traffic = { λ link. link.passed };
 
     fn send(&mut self, bytes: &[u8]) -> Result<(), LinkFault> {
         self.counts_fit();

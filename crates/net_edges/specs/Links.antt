@@ -3,6 +3,7 @@ use Rattle.std.specs.Prelude.{ℕ, List, [], ◌∷◌, ◌++◌, Option, Some, 
 use Rattle.ipb_base.specs.Faults.{one_more}
 use Rattle.board_specs.specs.declared.spec.LinkSpec.{LinkSpec}
 use Rattle.board_specs.specs.declared.spec.LinkSpec.TheVariants.{Sim as SimBoard, Udp as UdpBoard}
+use Rattle.reliable_engine.specs.Traffic.{Passed}
 use Rattle.links.specs.Telling.{Telling}
 use Rattle.lossy_network.specs.Network.{new_network, telling_of as network_telling}
 use Rattle.links.specs.Racks.{fresh_board}
@@ -33,13 +34,13 @@ abbrev pub held_of : AnyLink → ℕ
 held_of (Sim link) = link.traffic.held
 held_of (Udp link) = 0
 
--- what the receives came to that did not fail
-abbrev pub receives_of : AnyLink → List (Option (List ℕ))
-receives_of (Sim link) = link.receives
-receives_of (Udp link) = link.receives
+-- what passed in the calls that did not fail
+abbrev pub traffic_of : AnyLink → List Passed
+traffic_of (Sim link) = link.passed
+traffic_of (Udp link) = link.traffic
 
 -- The link that is made for a board: no call of a simulated one fails. One over UDP goes to the address and the port of
--- the board, waits as long as its document says, and starts with counts of 0 and no receives.
+-- the board, waits as long as its document says, and starts with counts of 0 and no traffic.
 abbrev pub new_link : LinkSpec → AnyLink
 new_link (SimBoard mtu buffers first ranges fates) =
     Sim (new_network (fresh_board mtu buffers first ranges) fates [])

@@ -28,7 +28,7 @@ impl AnyLink {
 }
 
 impl Link for AnyLink {
-    ghost use Rattle.net_edges.specs.Links.{telling_of_real, faults_of, quiets_of, gots_of, held_of, receives_of};
+    ghost use Rattle.net_edges.specs.Links.{telling_of_real, faults_of, quiets_of, gots_of, held_of, traffic_of};
 
     ghost telling = { telling_of_real };
 
@@ -40,7 +40,7 @@ impl Link for AnyLink {
 
     ghost held = { held_of };
 
-    ghost receives = { receives_of };
+    ghost traffic = { traffic_of };
 
     /// Sends a datagram on the link that it is.
     fn send(&mut self, bytes: &[u8]) -> Result<(), LinkFault> {

@@ -19,5 +19,5 @@ tap_ghosts seen = record {
   quiets = λ tap. seen.quiets tap.link;
   gots = λ tap. seen.gots tap.link;
   held = λ tap. seen.held tap.link;
-  receives = λ tap. seen.receives tap.link;
+  traffic = λ tap. seen.traffic tap.link;
 }

@@ -2,7 +2,7 @@
 
 ghost use Rattle.std.specs.Prelude.{◌≡◌, ◌≢◌, ◌≤◌, ◌++◌, ◌∷◌, [], length, IfSome, IfOk, OnOk, OnErr, Ok, Err};
 ghost use Rattle.ipb_base.specs.Faults.{Rose};
-ghost use Rattle.links.specs.Receives.{receives_after};
+ghost use Rattle.links.specs.Traffic.{received_after, sent_after};
 ghost use Rattle.links.specs.Telling.{gots_after, IfTelling, IsCarried, IsSent, quiets_after, Receives};
 ghost use Rattle.record_command.specs.Traffic.{HasCaught, IsUnused, caught_after, sent_item};
 
@@ -98,7 +98,7 @@ impl<L: Link> TapLink<L> {
         ensures faults { L.faults self.old.link ≤ L.faults self.new.link }
         ensures quiets { L.quiets self.new.link ≡ L.quiets self.old.link }
         ensures gots { L.gots self.new.link ≡ L.gots self.old.link }
-        ensures receives { L.receives self.new.link ≡ L.receives self.old.link }
+        ensures traffic { L.traffic self.new.link ≡ sent_after result bytes.now (L.traffic self.old.link) }
         ensures held { L.held self.old.link ≤ L.held self.new.link }
     {
         let item = sent(self.alloc, &mut self.caught, bytes)?;
@@ -121,7 +121,7 @@ impl<L: Link> TapLink<L> {
         ensures quiets_rise { L.quiets self.old.link ≤ L.quiets self.new.link }
         ensures gots { L.gots self.new.link ≡ gots_after result (L.gots self.old.link) }
         ensures gots_rise { L.gots self.old.link ≤ L.gots self.new.link }
-        ensures receives { L.receives self.new.link ≡ receives_after result into.new.items (L.receives self.old.link) }
+        ensures traffic { L.traffic self.new.link ≡ received_after result into.new.items (L.traffic self.old.link) }
         ensures held { L.held self.old.link ≤ L.held self.new.link }
     {
         a_receive_goes_step_by_step();
@@ -145,7 +145,7 @@ impl<L: Link> Link for TapLink<L> {
 
     ghost held = { λ tap. L.held tap.link };
 
-    ghost receives = { λ tap. L.receives tap.link };
+    ghost traffic = { λ tap. L.traffic tap.link };
 
     fn send(&mut self, bytes: &[u8]) -> Result<(), LinkFault> {
         TapLink::send(self, bytes)

@@ -1,5 +1,6 @@
 -- Connections at three boards, worked by hand: one that is live, one that was silent, one whose link was down. Profile.
-use Rattle.std.specs.Prelude.{ℕ, List, [], ◌∷◌, Some, None, replicate}
+use Rattle.std.specs.Prelude.{ℕ, List, [], ◌∷◌, None, replicate}
+use Rattle.reliable_engine.specs.Traffic.{Got, Quiet}
 use Rattle.world_model.specs.Settings.{Limits}
 use Rattle.lane_record.specs.declared.outcome.Outcome.TheVariants.{TimedOut}
 use Rattle.board_history.specs.Examples.{read_body, reads_at}
@@ -67,7 +68,7 @@ quiet_link quiets = record {
   quiets = quiets;
   gots = 0;
   held = 0;
-  receives = replicate quiets None;
+  traffic = replicate quiets Quiet;
   telling = None;
 }
 
@@ -78,6 +79,6 @@ greeted_link quiets = record {
   quiets = quiets;
   gots = 1;
   held = 0;
-  receives = Some status_datagram ∷ replicate quiets None;
+  traffic = Got status_datagram ∷ replicate quiets Quiet;
   telling = None;
 }

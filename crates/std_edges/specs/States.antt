@@ -1,6 +1,7 @@
 -- What contracts see of the real outside: counts in 64 bits, what was said of an end, and where sockets stand. Profile.
 use Rattle.std.specs.Prelude.{ℕ, Bool, List, [], Option}
 use Rattle.std.specs.declared.net.socket_addr.SocketAddr.{SocketAddr}
+use Rattle.reliable_engine.specs.Traffic.{Passed}
 use Rattle.std_edges.specs.Numbers.{wait_nanos}
 
 -- standard input, or the side of a connection from which bytes come
@@ -46,10 +47,10 @@ pub record UdpState : Type 0 where
   pub quiets : ℕ
   -- how many receives got a datagram
   pub gots : ℕ
-  -- what the receives came to that did not fail, in order: the bytes of a datagram, or none
-  pub receives : List (Option (List ℕ))
+  -- what passed over it, in the order of the calls that did not fail
+  pub traffic : List Passed
 
--- a link to this address and this port, that waits for so many milliseconds: counts of 0 and no receives
+-- a link to this address and this port, that waits for so many milliseconds: counts of 0 and no traffic
 abbrev pub new_udp : List ℕ → ℕ → ℕ → UdpState
 new_udp address port wait = record {
   address = address;
@@ -58,5 +59,5 @@ new_udp address port wait = record {
   faults = 0;
   quiets = 0;
   gots = 0;
-  receives = [];
+  traffic = [];
 }

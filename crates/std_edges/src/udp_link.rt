@@ -3,7 +3,7 @@
 ghost use Rattle.std.specs.Prelude.{◌≡◌, ◌≤◌, ℕ, [], length, IfOk, IfSome, OnOk, OnErr, None};
 ghost use Rattle.ipb_base.specs.Faults.{one_more};
 ghost use Rattle.links.specs.declared.link.TheConstants.{MAX_DATAGRAM};
-ghost use Rattle.links.specs.Receives.{receives_after};
+ghost use Rattle.links.specs.Traffic.{received_after};
 ghost use Rattle.std_edges.specs.Heard.{datagram_in, told_of, with_heard_counted};
 ghost use Rattle.std_edges.specs.States.{new_udp};
 
@@ -15,7 +15,7 @@ use crate::link_notes::{LinkNotes, Voice};
 use crate::places::place_of_board;
 use ipb_base::NoMemory;
 use ipb_outside::Failed;
-use links::{Link, LinkFault, MAX_DATAGRAM, ReceiveLog, Received, Sighting, Waiter};
+use links::{Link, LinkFault, MAX_DATAGRAM, Received, Sighting, TrafficLog, Waiter};
 use std::alloc::Global;
 use std::io;
 use std::marker::Model;
@@ -37,7 +37,7 @@ pub struct UdpLink {
     faults: u64,
     quiets: u64,
     gots: u64,
-    receives: ReceiveLog,
+    traffic: TrafficLog,
     notes: LinkNotes,
 }
 
@@ -55,7 +55,7 @@ impl Model for UdpLink {
       faults = link.faults;
       quiets = link.quiets;
       gots = link.gots;
-      receives = link.receives;
+      traffic = link.traffic;
     } };
 }
 
@@ -95,7 +95,7 @@ impl UdpLink {
                 faults: 0,
                 quiets: 0,
                 gots: 0,
-                receives: ReceiveLog::new(rt.alloc()),
+                traffic: TrafficLog::new(),
                 notes,
             }),
             Err(error) => {
@@ -152,7 +152,7 @@ impl UdpLink {
         ensures faults { self.old.faults ≤ self.new.faults }
         ensures quiets { self.old.quiets ≤ self.new.quiets }
         ensures gots { self.old.gots ≤ self.new.gots }
-        ensures receives { self.new.receives ≡ self.old.receives }
+        ensures traffic { self.new.traffic ≡ self.old.traffic }
     {
         match heard {
             Heard::Board(_) => Ok(self.count_got()),
@@ -193,7 +193,7 @@ impl Link for UdpLink {
 
     ghost held = { λ _. 0 };
 
-    ghost receives = { λ link. link.receives };
+    ghost traffic = { λ link. link.traffic };
 
     /// One datagram to the board. An error, of any kind, is counted, and so is a datagram of which a part alone went.
     /// After an error that passes (`is_passing`) the datagram counts as sent: it is lost, as on the network.
@@ -205,6 +205,9 @@ impl Link for UdpLink {
             sighting.count_send();
         }
         let came_to = sent_as(&sent, bytes.len());
+        if came_to != SendOutcome::Failed {
+            self.traffic.add_sent(bytes);
+        }
         if came_to == SendOutcome::Sent {
             return Ok(());
         }
@@ -227,9 +230,8 @@ impl Link for UdpLink {
     /// came in that time. An error, of any kind, is counted, those that pass once for the receive.
     fn receive(&mut self, into: &mut Vec<u8>) -> Result<Received, LinkFault> {
         into.clear();
-        self.receives.reserve()?;
         if self.is_silent() {
-            self.receives.add_quiet()?;
+            self.traffic.add_quiet();
             return Ok(self.count_quiet());
         }
         // all memory is taken before a datagram is
@@ -238,7 +240,7 @@ impl Link for UdpLink {
         let buffer = self.buffer.as_mut_slice();
         let heard = hear_board(self.socket.socket(), self.board, buffer, &mut passed);
         count_passed(passed, &mut self.faults, &mut self.notes);
-        keep_heard(&heard, &self.buffer, into, &mut self.receives)?;
+        keep_heard(&heard, &self.buffer, into, &mut self.traffic)?;
         note_heard(&heard, into, &mut self.notes);
         self.count_heard(heard)
     }
@@ -276,37 +278,33 @@ fn note_heard(heard: &Heard, datagram: &[u8], notes: &mut LinkNotes) {
     }
 }
 
-// Copies what was heard into an empty vector, and adds it to what the receives came to. Want of memory does neither.
+// Copies what was heard into an empty vector, and adds it to the traffic. Want of memory does neither.
 fn keep_heard(
     heard: &Heard,
     buffer: &[u8],
     into: &mut Vec<u8>,
-    receives: &mut ReceiveLog,
+    traffic: &mut TrafficLog,
 ) -> Result<(), NoMemory>
     requires within { (count : ℕ) → heard.now ≡ Heard.Board count → count ≤ length buffer.now }
     requires empty { into.old.items ≡ [] }
     ensures copied { OnOk result (into.new.items ≡ datagram_in heard.now buffer.now) }
-    ensures added { OnOk result (receives.new ≡ receives_after (told_of heard.now) into.new.items receives.old) }
+    ensures added { OnOk result (traffic.new ≡ received_after (told_of heard.now) into.new.items traffic.old) }
     ensures emptied { OnErr result (into.new.items ≡ []) }
-    ensures unchanged { OnErr result (receives.new ≡ receives.old) }
+    ensures unchanged { OnErr result (traffic.new ≡ traffic.old) }
 {
     copy_heard(heard, buffer, into)?;
-    let logged = log_heard(heard, receives, into);
-    if logged.is_err() {
-        into.clear();
-    }
-    logged
+    log_heard(heard, traffic, into);
+    Ok(())
 }
 
-// Adds what was heard, and copied, to what the receives came to. Want of memory adds nothing.
-fn log_heard(heard: &Heard, receives: &mut ReceiveLog, copied: &Vec<u8>) -> Result<(), NoMemory>
-    ensures added { OnOk result (receives.new ≡ receives_after (told_of heard.now) copied.now.items receives.old) }
-    ensures unchanged { OnErr result (receives.new ≡ receives.old) }
+// Adds what was heard, and copied, to the traffic.
+fn log_heard(heard: &Heard, traffic: &mut TrafficLog, copied: &[u8])
+    ensures { traffic.new ≡ received_after (told_of heard.now) copied.now traffic.old }
 {
     match heard {
-        Heard::Board(_) => receives.add_got(copied),
-        Heard::Elsewhere | Heard::Nothing => receives.add_quiet(),
-        Heard::Fault(_) => Ok(()),
+        Heard::Board(_) => traffic.add_got(copied),
+        Heard::Elsewhere | Heard::Nothing => traffic.add_quiet(),
+        Heard::Fault(_) => {}
     }
 }
 

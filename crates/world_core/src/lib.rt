@@ -12,7 +12,7 @@ mod world;
 pub use board_node::Board;
 pub use ipb_base::{NoMemory, Words};
 pub use links::{
-    LIFETIME, Link, LinkFault, MAX_DATAGRAM, Message, ReceiveLog, Received, Waiter, append_sending,
+    LIFETIME, Link, LinkFault, MAX_DATAGRAM, Message, Received, TrafficLog, Waiter, append_sending,
     read_for_hub, write_sending,
 };
 pub use lossy_network::Air;

@@ -9,7 +9,7 @@ use Rattle.hub_lane.specs.Rounds.{PaysFor, Pumps, RoundFor}
 use Rattle.hub_lane.specs.Standing.{GoesOn, StaysUnanswered}
 use Rattle.hub_lane.proofs.Carrying.{got_brings, quiet_brings}
 use Rattle.hub_lane.proofs.Linked.{fault_on, got_on, got_stays, quiet_on, quiet_stays, unheard_on, was_received}
-use Rattle.hub_lane.proofs.Links.{received_keeps, was_quiet}
+use Rattle.hub_lane.proofs.Links.{got_once, quiet_once, received_keeps, was_quiet}
 use Rattle.hub_lane.proofs.Rounds.{got_for, quiet_for}
 use Rattle.hub_lane.proofs.InRounds.{round_got, round_quiet}
 use Rattle.hub_lane.proofs.exchange.receive.Goals as goal
@@ -143,21 +143,36 @@ pub returns-in_err-receive-clause-counts : goal.returns-in_err-receive-clause-co
 returns-in_err-receive-clause-counts g c = received_keeps g.L.Link c.a_link_forgets_nothing.ensures.board
     c.receive.result
     c.receive.new.into.items c.args.link.now c.receive.new.self c.receive.ensures.faults c.receive.ensures.quiets_rise
-    c.receive.ensures.gots_rise c.receive.ensures.receives c.receive.ensures.held c.receive.ensures.received
+    c.receive.ensures.gots_rise c.receive.ensures.traffic c.receive.ensures.held c.receive.ensures.received
 
 pub returns-in_err-hear-in-Got-clause-counts : goal.returns-in_err-hear-in-Got-clause-counts
 returns-in_err-hear-in-Got-clause-counts g c = received_keeps g.L.Link c.a_link_forgets_nothing.ensures.board
     c.receive.result
     c.receive.new.into.items c.args.link.now c.receive.new.self c.receive.ensures.faults c.receive.ensures.quiets_rise
-    c.receive.ensures.gots_rise c.receive.ensures.receives c.receive.ensures.held c.receive.ensures.received
+    c.receive.ensures.gots_rise c.receive.ensures.traffic c.receive.ensures.held c.receive.ensures.received
 
 pub returns-in_ok-hear-in-Got-clause-counts : goal.returns-in_ok-hear-in-Got-clause-counts
 returns-in_ok-hear-in-Got-clause-counts g c = received_keeps g.L.Link c.a_link_forgets_nothing.ensures.board
     c.receive.result
     c.receive.new.into.items c.args.link.now c.receive.new.self c.receive.ensures.faults c.receive.ensures.quiets_rise
-    c.receive.ensures.gots_rise c.receive.ensures.receives c.receive.ensures.held c.receive.ensures.received
+    c.receive.ensures.gots_rise c.receive.ensures.traffic c.receive.ensures.held c.receive.ensures.received
 
 pub returns-in-Quiet-clause-counts : goal.returns-in-Quiet-clause-counts
 returns-in-Quiet-clause-counts g c = received_keeps g.L.Link c.a_link_forgets_nothing.ensures.board c.receive.result
     c.receive.new.into.items c.args.link.now c.receive.new.self c.receive.ensures.faults c.receive.ensures.quiets_rise
-    c.receive.ensures.gots_rise c.receive.ensures.receives c.receive.ensures.held c.receive.ensures.received
+    c.receive.ensures.gots_rise c.receive.ensures.traffic c.receive.ensures.held c.receive.ensures.received
+
+pub returns-in_ok-hear-in-Got-clause-received : goal.returns-in_ok-hear-in-Got-clause-received
+returns-in_ok-hear-in-Got-clause-received g c =
+    let pumped = c.in_ok-hear-in-Got.field-0 in
+    let heard = subst (λ (heard : List ℕ). IsHeardAs c.args.hub.now (to_hub heard) pumped)
+    c.deref.ensures.value c.in_ok-hear-in-Got.ensures.heard in
+    let came = c.in_ok-receive.ensures in
+    got_once g.L.Link pumped c.receive.new.into.items c.args.hub.now c.args.link.now c.receive.new.self
+    c.in_ok-receive.field-0 c.in-Got.is heard (came.quiets, came.gots, came.traffic)
+
+pub returns-in-Quiet-clause-received : goal.returns-in-Quiet-clause-received
+returns-in-Quiet-clause-received g c =
+    let came = c.in_ok-receive.ensures in
+    quiet_once g.L.Link c.receive.new.into.items c.args.link.now c.receive.new.self c.in_ok-receive.field-0
+    c.in-Quiet.is (came.quiets, came.gots, came.traffic)

@@ -3,6 +3,7 @@ use Rattle.world_model.specs.Hub.{Hub}
 use Rattle.world_model.specs.Sends.{Next}
 use Rattle.links.specs.Telling.{IfTelling, IsSent}
 use Rattle.links.proofs.Sends.{next_is}
+use Rattle.links.proofs.Passing.{none_sent as none_received}
 use Rattle.hub_lane.proofs.Sends.{all_out, none_is, one_less, same_hub, sent_more}
 use Rattle.hub_lane.specs.Carrying.{HasPut}
 use Rattle.hub_lane.specs.PumpLaws.{SendLeaves}
@@ -90,7 +91,8 @@ loop-send-preserved g c =
           c.send.ensures.held before.invariant.running call before.invariant.pays before.invariant.round;
       quiet = c.send.ensures.quiets ∙ before.invariant.quiet;
       got = c.send.ensures.gots ∙ before.invariant.got;
-      receive = c.send.ensures.receives ∙ before.invariant.receive;
+      receive = none_received c.send.result _ (g.L.Link.traffic before.link) c.send.ensures.traffic
+          ∙ before.invariant.receive;
       board = sent_board _ _ _ _ _ call ∙ before.invariant.board;
       put = put_more c.args.hub.now old next (held before.link) (held c.send.new.self) (telling c.args.link.now)
           (telling before.link) (telling c.send.new.self) is before.invariant.put call;

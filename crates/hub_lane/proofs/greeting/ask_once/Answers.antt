@@ -1,6 +1,7 @@
 use Rattle.std.proofs.Common.{◌≤◌, ◌*◌, ◌∙◌, ℕ, ap, subst, sym}
 use Rattle.std.proofs.lemmas.Result.{IfOk-from_err}
 use Rattle.links.specs.Receives.{first_status}
+use Rattle.links.proofs.Passing.{none_sent}
 use Rattle.hub_lane.proofs.Greetings.{fresh_begins, request_fresh}
 use Rattle.hub_lane.proofs.GreetingRounds.{asking_ends, asking_told, counts_asked, counts_sent, fresh_then}
 use Rattle.hub_lane.proofs.GreetingRounds.{refused_asks, refused_fresh, request_asks}
@@ -17,7 +18,8 @@ listen-requires-clause-few_gots g c =
 
 pub listen-requires-clause-untold : goal.listen-requires-clause-untold
 listen-requires-clause-untold g c =
-    ap first_status c.send.ensures.receives ∙ c.requires.untold
+    ap first_status (none_sent c.send.result _ (g.L.Link.traffic c.args.link.now) c.send.ensures.traffic)
+    ∙ c.requires.untold
 
 pub listen-requires-clause-begins : goal.listen-requires-clause-begins
 listen-requires-clause-begins g c =
@@ -43,7 +45,8 @@ returns-in_err-send-clause-ended g c =
 
 pub returns-in_err-send-clause-none_told : goal.returns-in_err-send-clause-none_told
 returns-in_err-send-clause-none_told g c =
-    on_err c.from_residual.result _ (ap first_status c.send.ensures.receives ∙ c.requires.untold)
+    on_err c.from_residual.result _ (ap first_status
+    (none_sent c.send.result _ (g.L.Link.traffic c.args.link.now) c.send.ensures.traffic) ∙ c.requires.untold)
 
 pub returns-in_err-send-clause-counts : goal.returns-in_err-send-clause-counts
 returns-in_err-send-clause-counts g c =

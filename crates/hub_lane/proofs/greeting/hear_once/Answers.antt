@@ -1,6 +1,8 @@
-use Rattle.std.proofs.Common.{List, subst, ℕ}
+use Rattle.std.proofs.Common.{List, Ok, subst, ℕ}
 use Rattle.std.proofs.lemmas.Result.{IfOk-from_err}
+use Rattle.links.specs.Receives.{receives_in}
 use Rattle.links.specs.Telling.{IfTelling}
+use Rattle.links.proofs.Passing.{one_received}
 use Rattle.world_model.specs.Messages.{to_hub}
 use Rattle.hub_lane.specs.Greeting.{HasAskedNothing, IsSaid, StaysFresh}
 use Rattle.hub_lane.proofs.Listened.{got_end, quiet_end}
@@ -60,14 +62,14 @@ returns-in-Quiet-clause-handed g c =
 
 pub returns-in-Quiet-clause-receives : goal.returns-in-Quiet-clause-receives
 returns-in-Quiet-clause-receives g c =
-    quiet_end c.receive.new.into.items (g.L.Link.receives c.args.link.now) c.in-Quiet.is c.requires.untold
-    c.in_ok-receive.ensures.receives
+    quiet_end c.receive.new.into.items (receives_in (g.L.Link.traffic c.args.link.now)) c.in-Quiet.is c.requires.untold
+    (one_received (Ok c.in_ok-receive.field-0) c.receive.new.into.items (g.L.Link.traffic c.args.link.now) c.in_ok-receive.ensures.traffic)
 
 pub returns-in-Got-clause-receives : goal.returns-in-Got-clause-receives
 returns-in-Got-clause-receives g c =
-    got_end c.receive.new.into.items c.tell.result (g.L.Link.receives c.args.link.now) c.in-Got.is c.requires.untold
+    got_end c.receive.new.into.items c.tell.result (receives_in (g.L.Link.traffic c.args.link.now)) c.in-Got.is c.requires.untold
     (subst (λ (bytes : List ℕ). IsSaid (to_hub bytes) c.tell.result) c.deref.ensures.value c.tell.ensures.said)
-    c.in_ok-receive.ensures.receives
+    (one_received (Ok c.in_ok-receive.field-0) c.receive.new.into.items (g.L.Link.traffic c.args.link.now) c.in_ok-receive.ensures.traffic)
 
 pub returns-in_err-receive-clause-asked : goal.returns-in_err-receive-clause-asked
 returns-in_err-receive-clause-asked g c =

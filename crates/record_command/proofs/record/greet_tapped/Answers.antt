@@ -16,7 +16,7 @@ greet-requires-clause-unused g c =
       no_quiets = c.in_ok-link.ensures.no_quiets;
       no_gots = c.in_ok-link.ensures.no_gots;
       none_held = c.in_ok-link.ensures.none_held;
-      none_received = c.in_ok-link.ensures.none_received;
+      no_traffic = c.in_ok-link.ensures.no_traffic;
     })
 
 pub greet-requires-clause-begins : goal.greet-requires-clause-begins

@@ -1,5 +1,6 @@
 use Rattle.std.proofs.Common.{ap}
 use Rattle.world_model.specs.Hub.{Hub}
+use Rattle.links.specs.Receives.{receives_in}
 use Rattle.hub_lane.specs.Lanes.{status_of}
 use Rattle.hub_lane.proofs.Datagrams.{heard_first}
 use Rattle.hub_lane.proofs.Lanes.{lane_begun}
@@ -22,6 +23,6 @@ invariant_of-result g c = (
       c.in-Ok-new.ensures c.requires.greeted,
   heard_first c.new-4.result.items (g.L.Link.gots c.args.link) c.new-4.ensures.items c.requires.heard,
   listened_first (status_of c.args.status) c.in-Ok-new.engine c.new-4.result.items c.new-4.result.lates
-      (g.L.Link.receives c.args.link) (ap (λ (h : Hub). h.status_requests) c.in-Ok-new.ensures) c.new-4.ensures.items
+      (receives_in (g.L.Link.traffic c.args.link)) (ap (λ (h : Hub). h.status_requests) c.in-Ok-new.ensures) c.new-4.ensures.items
       c.new-4.ensures.lates c.requires.first,
 )

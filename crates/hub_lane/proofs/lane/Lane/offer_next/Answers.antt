@@ -1,6 +1,7 @@
 use Rattle.std.proofs.Common.{◌≡◌, ◌∙◌, ℕ, List, sym, ap, subst, refl, length, ◌++◌, ◌∷◌, [], Some, None, ◌≤◌}
 use Rattle.std.proofs.Common.{if◌then◌else◌, ◌||◌}
 use Rattle.std.specs.Prelude.{IfSome}
+use Rattle.links.specs.Receives.{receives_in}
 use Rattle.links.specs.Telling.{IfTelling}
 use Rattle.world_model.specs.Hub.{Hub, offer}
 use Rattle.lane_record.specs.declared.outcome.Outcome.TheVariants.{LinkLost}
@@ -75,7 +76,7 @@ invariant_of-self-2 g c =
           c.in_ok-offer.ensures.items c.self.invariant.2,
       listened_asked status l.down l.engine c.offer.new.engine
           (record { tag = length l.outcomes.items; body = c.in_ok-body.body }) l.outcomes.items
-          c.offer.new.self.items l.outcomes.lates c.offer.new.self.lates l.give_ups (g.L.Link.receives l.link) hub_is
+          c.offer.new.self.items l.outcomes.lates c.offer.new.self.lates l.give_ups (receives_in (g.L.Link.traffic l.link)) hub_is
           c.in_ok-offer.ensures.items c.in_ok-offer.ensures.lates c.self.invariant.3,
     )
 
@@ -130,7 +131,7 @@ invariant_of-self-in_err-offer g c =
     × IfSome (link.telling l.link) (HasPaid (l.down || l.spent) l.mtu l.settings.rounds l.give_ups hub
     (link.held l.link))
     × HasHeard table.items (link.gots l.link)
-    × HasListened status hub table.items table.lates l.give_ups (link.receives l.link) in
+    × HasListened status hub table.items table.lates l.give_ups (receives_in (link.traffic l.link)) in
     subst (λ (hub : Hub). holds hub c.offer.new.self c.reserve.new.self.items) (sym c.in_err-offer.ensures.same_engine)
     (subst (λ (table : TableState). holds l.engine table c.reserve.new.self.items)
     (sym c.in_err-offer.ensures.unchanged)

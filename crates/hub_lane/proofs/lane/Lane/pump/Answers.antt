@@ -6,6 +6,7 @@ use Rattle.lane_record.specs.declared.outcome.Outcome.{Outcome}
 use Rattle.lane_record.specs.Lates.{late_in}
 use Rattle.lane_record.specs.Offers.{all_lost}
 use Rattle.std.specs.Prelude.{IfSome}
+use Rattle.links.specs.Receives.{receives_in}
 use Rattle.links.specs.Telling.{IfTelling}
 use Rattle.hub_lane.specs.Carrying.{Pumping}
 use Rattle.hub_lane.specs.declared.answers.Pumped.TheVariants.{LinkDown}
@@ -278,7 +279,7 @@ returns-in-Err-Failed-clause-pumped g c =
     let unsettled = c.in-Err-Failed.ensures.unsettled in
     let lost = c.lose_all.ensures in
     pumps_as c.self.view_is g.L.Link _ (g.L.Link.telling c.exchange.new.link)
-    (g.L.Link.receives c.exchange.new.link) LinkDown (
+    (receives_in (g.L.Link.traffic c.exchange.new.link)) LinkDown (
       (c.exchange.ensures.failed (cc)).receives.receives,
       inr (
         c.if-self-2.false,

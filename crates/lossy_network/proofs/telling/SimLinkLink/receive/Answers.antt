@@ -56,8 +56,8 @@ pub returns-clause-gots_rise : goal.returns-clause-gots_rise
 returns-clause-gots_rise c = subst (λ (n : ℕ). c.args.self.now.gots ≤ n) (sym (counted c).gots)
     (gots_rise c.receive.result c.args.self.now.gots c.counts_fit.ensures.gots)
 
-pub returns-clause-receives : goal.returns-clause-receives
-returns-clause-receives c = (counted c).receives
+pub returns-clause-traffic : goal.returns-clause-traffic
+returns-clause-traffic c = (counted c).passed
 
 pub returns-clause-held : goal.returns-clause-held
 returns-clause-held c = held_rises (steps c) c.receive.result c.receive.new.into.items c.args.self.now

@@ -1,4 +1,4 @@
-use Rattle.lossy_network.proofs.Tellings.{rises_by, send_faults, send_holds, send_unfaulted, sends}
+use Rattle.lossy_network.proofs.Tellings.{rises_by, send_faults, send_holds, send_passes, send_unfaulted, sends}
 use Rattle.lossy_network.proofs.telling.SimLinkLink.send.Goals as goal
 
 pub returns-clause-sent : goal.returns-clause-sent
@@ -27,3 +27,10 @@ returns-clause-held c =
       fault = c.send.ensures.failed;
       no_memory = c.send.ensures.no_memory;
     })
+
+pub returns-clause-traffic : goal.returns-clause-traffic
+returns-clause-traffic c = send_passes c.send.result c.args.bytes.now c.args.self.now c.send.new.self (record {
+  after = c.send.ensures.sent;
+  fault = c.send.ensures.failed;
+  no_memory = c.send.ensures.no_memory;
+})
