@@ -70,11 +70,7 @@ pub(crate) struct Stretch<'a> {
 
 /// A short stretch of a client's steps that has each operation that is looked for; it is empty where there is none. The
 /// lines of the client are passed.
-pub(crate) fn stretch_of<'a>(
-    steps: &[Step],
-    lines: &mut Lines<'a>,
-    looked: Looked,
-) -> Stretch<'a> {
+pub(crate) fn stretch_of<'a>(steps: &[Step], lines: &mut Lines<'a>, looked: Looked) -> Stretch<'a> {
     let mut stretch = Stretch {
         from: 0,
         to: 0,

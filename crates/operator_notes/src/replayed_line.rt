@@ -88,7 +88,13 @@ fn given_at(alloc: Global, read: &Audited<'_>, asked: Asked<'_>) -> Result<OpRes
     let scripts = read.steps.as_slice();
     let stretches = stretches_on(alloc, read, asked)?;
     let plans = plans_on(alloc, &board.link, position, scripts, stretches.as_slice())?;
-    let order = order_on(alloc, scripts, plans.as_slice(), stretches.as_slice(), asked)?;
+    let order = order_on(
+        alloc,
+        scripts,
+        plans.as_slice(),
+        stretches.as_slice(),
+        asked,
+    )?;
     let Some(planned) = plans.get(asked.client) else {
         return Ok(OpResult::Unsent);
     };
@@ -124,11 +130,7 @@ fn stretches_on<'a>(
     for (client, steps) in read.steps.iter().enumerate() {
         // the heading
         lines.next();
-        stretches.push(stretch_of(
-            steps.as_slice(),
-            &mut lines,
-            looked_for(asked, client),
-        ))?;
+        stretches.push(stretch_of(steps.as_slice(), &mut lines, looked_for(asked, client)))?;
     }
     Ok(stretches)
 }
@@ -166,11 +168,12 @@ fn plan_stretch(
     requires packed { AllByRecursion CanBePacked steps.now }
     requires few { HaveFewPieces steps.now }
 {
-    let Some(stretch) = stretch else {
-        return plan_on(alloc, &[], board, greeting);
+    let (from, to) = match stretch {
+        Some(stretch) => (stretch.from, stretch.to),
+        None => (0, 0),
     };
-    let to = stretch.to.min(steps.len());
-    let from = stretch.from.min(to);
+    let to = to.min(steps.len());
+    let from = from.min(to);
     plan_on(alloc, &steps[from..to], board, greeting)
 }
 
@@ -212,11 +215,17 @@ fn pieces_of<'a>(
     stretches: &[Stretch<'_>],
     asked: Asked<'_>,
 ) -> &'a [PieceAt] {
-    let (Some(steps), Some(stretch)) = (scripts.get(asked.client), stretches.get(asked.client)) else {
+    let (Some(steps), Some(stretch)) = (scripts.get(asked.client), stretches.get(asked.client))
+    else {
         return &[];
     };
-    let before = steps.as_slice().get(stretch.from..asked.step).unwrap_or(&[]);
-    planned.pieces(allowed_on(before, asked.op.board)).unwrap_or(&[])
+    let before = steps
+        .as_slice()
+        .get(stretch.from..asked.step)
+        .unwrap_or(&[]);
+    planned
+        .pieces(allowed_on(before, asked.op.board))
+        .unwrap_or(&[])
 }
 
 /// The bodies of a client that have a piece of an operation, from the first to the last one.
