@@ -10,6 +10,8 @@ pub(crate) struct Asked<'a> {
     pub(crate) client: usize,
     /// The number of the operation among those of its client, from 1.
     pub(crate) number: u64,
+    /// The step of its client that asks for it, from 0.
+    pub(crate) step: usize,
     pub(crate) op: &'a RegOp,
     /// The rule that denies it.
     pub(crate) denied: Option<u32>,
@@ -43,11 +45,10 @@ pub(crate) fn what_belongs<'a>(read: &'a Audited<'_>, line: u64) -> Belongs<'a> 
             return Belongs::Heading(client + 1);
         }
         before = before.saturating_add(1);
-        let count = operations(steps);
-        if line <= before.saturating_add(count) {
-            return operation(client, line - before.min(line), steps);
+        match operation(client, line - before.min(line), steps) {
+            Ok(asked) => return Belongs::Operation(asked),
+            Err(count) => before = before.saturating_add(count),
         }
-        before = before.saturating_add(count);
     }
     let position = (line - before.min(line)) as usize;
     if position <= read.session.boards.as_slice().len() && position > 0 {
@@ -77,10 +78,10 @@ fn operations(steps: &Steps) -> u64 {
     count
 }
 
-/// The operation of this number, from 1.
-fn operation(client: usize, number: u64, steps: &Steps) -> Belongs<'_> {
+/// The operation of a client of this number, from 1; or else how many operations the client has, denied or not.
+fn operation(client: usize, number: u64, steps: &Steps) -> Result<Asked<'_>, u64> {
     let mut count = 0u64;
-    for step in steps.as_slice() {
+    for (position, step) in steps.as_slice().iter().enumerate() {
         let (op, denied) = match step {
             Step::Do(op) => (op, None),
             Step::Denied { rule, op } => (op, Some(*rule)),
@@ -88,13 +89,14 @@ fn operation(client: usize, number: u64, steps: &Steps) -> Belongs<'_> {
         };
         count = count.saturating_add(1);
         if count == number {
-            return Belongs::Operation(Asked {
+            return Ok(Asked {
                 client,
                 number,
+                step: position,
                 op,
                 denied,
             });
         }
     }
-    Belongs::Nothing
+    Err(count)
 }

@@ -1,5 +1,6 @@
 //! What an operation comes to by the replies to its bodies.
 
+use crate::operations::words_read;
 use ipb_base::{NoMemory, Words};
 use masked_fields::extract;
 use reply_join::{Answer, Answers, JoinRefusal, join_reply};
@@ -16,7 +17,7 @@ pub(crate) struct Reply {
 }
 
 /// What an operation of these pieces comes to: what became of the first piece that was not done, or what all of them
-/// gave. A piece without a reply was not sent.
+/// gave. A piece without a reply was not sent. The replies stand in the order of their bodies.
 pub(crate) fn result_of(
     alloc: Global,
     op: &RegOp,
@@ -24,8 +25,10 @@ pub(crate) fn result_of(
     pieces: &[PieceAt],
     replies: &[Reply],
 ) -> Result<OpResult, NoMemory> {
-    let mut words = Vec::new(alloc);
+    let mut words = Vec::with_capacity(alloc, words_read(&op.op))?;
+    let mut replies = replies;
     for piece in pieces {
+        replies = from_body(replies, piece.body);
         let Some(answers) = answers_at(alloc, planned, *piece, replies)? else {
             return Ok(OpResult::Unsent);
         };
@@ -44,7 +47,17 @@ pub(crate) fn result_of(
     Ok(shown(op, words))
 }
 
-/// The answers to the body of a piece, if it has a reply.
+/// The replies from that to this body on; none where it has no reply.
+fn from_body(replies: &[Reply], body: usize) -> &[Reply] {
+    for (i, reply) in replies.iter().enumerate() {
+        if reply.body == body {
+            return replies.get(i..).unwrap_or(&[]);
+        }
+    }
+    &[]
+}
+
+/// The answers to the body of a piece, where the first of these is its reply.
 fn answers_at(
     alloc: Global,
     planned: &Planned,
@@ -54,16 +67,14 @@ fn answers_at(
     let Some(body) = planned.bodies().get(piece.body) else {
         return Ok(None);
     };
-    for reply in replies {
-        if reply.body == piece.body {
-            return match join_reply(alloc, body.as_slice(), reply.words.as_slice()) {
-                Ok(answers) => Ok(Some(answers)),
-                Err(JoinRefusal::Garbled { .. }) => Ok(None),
-                Err(JoinRefusal::NoMemory) => Err(NoMemory),
-            };
-        }
+    let Some(reply) = replies.first() else {
+        return Ok(None);
+    };
+    match join_reply(alloc, body.as_slice(), reply.words.as_slice()) {
+        Ok(answers) => Ok(Some(answers)),
+        Err(JoinRefusal::Garbled { .. }) => Ok(None),
+        Err(JoinRefusal::NoMemory) => Err(NoMemory),
     }
-    Ok(None)
 }
 
 /// What an operation that was done shows of the words that it read.

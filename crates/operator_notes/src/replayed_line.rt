@@ -6,7 +6,9 @@ ghost use Rattle.std.specs.List.{AllByRecursion};
 ghost use Rattle.run_audit.specs.Verdicts.{CanBeAudited};
 
 use crate::belonging::{Asked, Belongs, what_belongs};
-use crate::board_order::{Looked, Placed, allowed_before, push_client, transcript_lines};
+use crate::board_order::{
+    Looked, Placed, Stretch, allowed_on, push_client, stretch_of, transcript_lines,
+};
 use crate::differences::say_difference;
 use crate::escaping::{MOST_SHOWN, OneLine};
 use crate::notes::Notes;
@@ -19,8 +21,9 @@ use board_specs::LinkSpec;
 use ipb_base::{NoMemory, Words};
 use mtu_packer::{MAX_PAYLOAD, MIN_PAYLOAD};
 use script_plans::{Greeting, PieceAt, Planned, plan_on};
-use script_steps::Steps;
+use script_steps::{Step, Steps};
 use std::alloc::Global;
+use std::mem;
 use transaction_codec::LONGEST_BODY;
 use transcript::{OpResult, push_result};
 
@@ -73,7 +76,8 @@ fn say_given(notes: &mut Notes, given: &str, rounds: u8) {
     ));
 }
 
-/// What an operation comes to at the places of its line, had its board replied in time.
+/// What an operation comes to at the places of its line, had its board replied in time. Of each client only a stretch of
+/// its steps is planned that has the operations which are executed again.
 fn given_at(alloc: Global, read: &Audited<'_>, asked: Asked<'_>) -> Result<OpResult, NoMemory>
     requires { CanBeAudited read.now.session read.now.steps.items }
 {
@@ -81,19 +85,21 @@ fn given_at(alloc: Global, read: &Audited<'_>, asked: Asked<'_>) -> Result<OpRes
     let Some(board) = read.session.boards.as_slice().get(position as usize) else {
         return Ok(OpResult::Unsent);
     };
-    let plans = plans_on(alloc, &board.link, position, read.steps.as_slice())?;
+    let scripts = read.steps.as_slice();
+    let stretches = stretches_on(alloc, read, asked)?;
+    let plans = plans_on(alloc, &board.link, position, scripts, stretches.as_slice())?;
+    let order = order_on(
+        alloc,
+        scripts,
+        plans.as_slice(),
+        stretches.as_slice(),
+        asked,
+    )?;
     let Some(planned) = plans.get(asked.client) else {
         return Ok(OpResult::Unsent);
     };
-    let number = number_on(read, asked);
-    let pieces = planned.pieces(number).unwrap_or(&[]);
-    let wanted = Wanted {
-        client: asked.client,
-        number,
-        pieces,
-    };
-    let mut order = order_on(alloc, read, plans.as_slice(), position, wanted)?;
-    order.sort_by_key(|placed| placed.place)?;
+    let pieces = pieces_of(planned, scripts, stretches.as_slice(), asked);
+    let wanted = Wanted::of(asked.client, pieces);
     let replies = replies_to(
         alloc,
         &board.link,
@@ -104,12 +110,38 @@ fn given_at(alloc: Global, read: &Audited<'_>, asked: Asked<'_>) -> Result<OpRes
     result_of(alloc, asked.op, planned, pieces, replies.as_slice())
 }
 
-/// What each client asks of a board.
+/// The operations of a client that are executed again where a line is wanted.
+fn looked_for(asked: Asked<'_>, client: usize) -> Looked {
+    Looked {
+        client,
+        board: asked.op.board,
+        wanted: (asked.client == client).then_some(asked.step),
+    }
+}
+
+/// The stretch of each client's steps that is planned.
+fn stretches_on<'a>(
+    alloc: Global,
+    read: &Audited<'a>,
+    asked: Asked<'_>,
+) -> Result<Vec<Stretch<'a>>, NoMemory> {
+    let mut stretches = Vec::with_capacity(alloc, read.steps.len())?;
+    let mut lines = transcript_lines(read.transcript);
+    for (client, steps) in read.steps.iter().enumerate() {
+        // the heading
+        lines.next();
+        stretches.push(stretch_of(steps.as_slice(), &mut lines, looked_for(asked, client)))?;
+    }
+    Ok(stretches)
+}
+
+/// What each client asks of a board in its stretch.
 fn plans_on(
     alloc: Global,
     link: &LinkSpec,
     board: u32,
     scripts: &[Steps],
+    stretches: &[Stretch<'_>],
 ) -> Result<Vec<Planned>, NoMemory>
     requires packed { AllByRecursion (AllByRecursion CanBePacked) scripts.now }
     requires few { AllByRecursion HaveFewPieces scripts.now }
@@ -117,9 +149,32 @@ fn plans_on(
     let greeting = greeting_of(link);
     let mut plans = Vec::with_capacity(alloc, scripts.len())?;
     for steps in scripts {
-        plans.push(plan_on(alloc, steps.as_slice(), board, greeting)?)?;
+        let stretch = stretches.get(plans.len());
+        plans.push(plan_stretch(alloc, steps.as_slice(), stretch, board, greeting)?)?;
     }
     Ok(plans)
+}
+
+/// What a client asks of a board in a stretch of its steps; nothing where there is none.
+#[tactic(auto, using(crate::proofs::Stretches::packed, crate::proofs::Stretches::few))]
+fn plan_stretch(
+    alloc: Global,
+    steps: &[Step],
+    stretch: Option<&Stretch<'_>>,
+    board: u32,
+    greeting: Greeting,
+) -> Result<Planned, NoMemory>
+    requires payload { IsGreeting greeting }
+    requires packed { AllByRecursion CanBePacked steps.now }
+    requires few { HaveFewPieces steps.now }
+{
+    let (from, to) = match stretch {
+        Some(stretch) => (stretch.from, stretch.to),
+        None => (0, 0),
+    };
+    let to = to.min(steps.len());
+    let from = from.min(to);
+    plan_on(alloc, &steps[from..to], board, greeting)
 }
 
 /// What a board answers to its greeting.
@@ -134,56 +189,70 @@ fn greeting_of(link: &LinkSpec) -> Greeting
 }
 
 /// The bodies of a board that can change a register, and those of the wanted operation, which the transcript shows with a
-/// place, client by client.
+/// place, in the order of their places.
 fn order_on(
     alloc: Global,
-    read: &Audited<'_>,
+    scripts: &[Steps],
     plans: &[Planned],
-    board: u32,
-    wanted: Wanted<'_>,
+    stretches: &[Stretch<'_>],
+    asked: Asked<'_>,
 ) -> Result<Vec<Placed>, NoMemory> {
     let mut order = Vec::new(alloc);
-    let mut lines = transcript_lines(read.transcript);
-    for (client, steps) in read.steps.iter().enumerate() {
-        // the heading
-        lines.next();
-        if let Some(planned) = plans.get(client) {
-            let looked = Looked {
-                client,
-                board,
-                wanted: wanted.of(client),
-            };
-            push_client(&mut order, &mut lines, planned, steps.as_slice(), looked)?;
+    for (client, steps) in scripts.iter().enumerate() {
+        if let (Some(planned), Some(stretch)) = (plans.get(client), stretches.get(client)) {
+            let looked = looked_for(asked, client);
+            push_client(&mut order, planned, steps.as_slice(), *stretch, looked)?;
         }
     }
+    order.sort_by_key(|placed| placed.place)?;
     Ok(order)
 }
 
-/// The number of an operation, from 0, among those of its client on its board that no rule denies.
-fn number_on(read: &Audited<'_>, asked: Asked<'_>) -> usize {
-    let Some(steps) = read.steps.get(asked.client) else {
-        return 0;
+/// The pieces of an operation among those that are planned of its client.
+fn pieces_of<'a>(
+    planned: &'a Planned,
+    scripts: &[Steps],
+    stretches: &[Stretch<'_>],
+    asked: Asked<'_>,
+) -> &'a [PieceAt] {
+    let (Some(steps), Some(stretch)) = (scripts.get(asked.client), stretches.get(asked.client))
+    else {
+        return &[];
     };
-    allowed_before(steps.as_slice(), asked.number, asked.op.board)
+    let before = steps
+        .as_slice()
+        .get(stretch.from..asked.step)
+        .unwrap_or(&[]);
+    planned
+        .pieces(allowed_on(before, asked.op.board))
+        .unwrap_or(&[])
 }
 
-/// An operation of a client, by its number on its board, and its pieces.
+/// The bodies of a client that have a piece of an operation, from the first to the last one.
 #[derive(Clone, Copy)]
-struct Wanted<'a> {
+struct Wanted {
     client: usize,
-    number: usize,
-    pieces: &'a [PieceAt],
+    bodies: Option<(usize, usize)>,
 }
 
-impl Wanted<'_> {
-    /// Its number, where it is an operation of this client.
-    fn of(&self, client: usize) -> Option<usize> {
-        (self.client == client).then_some(self.number)
+impl Wanted {
+    /// The bodies of these pieces of a client, which stand one behind the other.
+    fn of(client: usize, pieces: &[PieceAt]) -> Wanted {
+        let bodies = match (pieces.first(), pieces.last()) {
+            (Some(first), Some(last)) => Some((first.body, last.body)),
+            _ => None,
+        };
+        Wanted { client, bodies }
     }
 
     /// Whether a body has a piece of the operation.
-    fn has(&self, placed: &Placed) -> bool {
-        placed.client == self.client && self.pieces.iter().any(|piece| piece.body == placed.body)
+    fn has(self, placed: &Placed) -> bool {
+        match self.bodies {
+            Some((first, last)) => {
+                placed.client == self.client && first <= placed.body && placed.body <= last
+            }
+            None => false,
+        }
     }
 }
 
@@ -194,7 +263,7 @@ fn replies_to(
     link: &LinkSpec,
     plans: &[Planned],
     order: &[Placed],
-    wanted: Wanted<'_>,
+    wanted: Wanted,
 ) -> Result<Vec<Reply>, NoMemory> {
     let mut replies = Vec::new(alloc);
     let LinkSpec::Sim { ranges, .. } = link else {
@@ -203,31 +272,35 @@ fn replies_to(
     let Ok(mut bus) = Bus::new(alloc, ranges.as_slice()) else {
         return Err(NoMemory);
     };
+    let mut words = Vec::new(alloc);
     for placed in order {
-        let words = executed(alloc, &mut bus, plans, placed)?;
+        words.clear();
+        execute(&mut bus, plans, placed, &mut words)?;
         if wanted.has(placed) {
-            let body = placed.body;
-            replies.push(Reply { body, words })?;
+            let words = Words::from_vec(mem::replace(&mut words, Vec::new(alloc)));
+            replies.push(Reply {
+                body: placed.body,
+                words,
+            })?;
         }
     }
     Ok(replies)
 }
 
-/// The reply of a bus to a body.
-fn executed(
-    alloc: Global,
+/// Executes a body on a bus, and adds the words of its reply.
+fn execute(
     bus: &mut Bus,
     plans: &[Planned],
     placed: &Placed,
-) -> Result<Words, NoMemory> {
-    let mut words = Vec::new(alloc);
+    words: &mut Vec<u32>,
+) -> Result<(), NoMemory> {
     if let Some(planned) = plans.get(placed.client)
         && let Some(body) = planned.bodies().get(placed.body)
     {
         let body = body.as_slice();
         if body.len() <= LONGEST_BODY {
-            bus.execute(body, &mut words)?;
+            bus.execute(body, words)?;
         }
     }
-    Ok(Words::from_vec(words))
+    Ok(())
 }
