@@ -15,6 +15,8 @@ use Rattle.hub_lane.specs.Greeting.{CanBegin, CountsRound, EndsAskingWith, EndsG
 use Rattle.hub_lane.specs.Greeting.{EndsRoundWith, HandedOutNone, HasAskedAtMost, HasAskedNothing, IsUnused}
 use Rattle.hub_lane.specs.Greeting.{IsWithinRounds}
 use Rattle.hub_lane.specs.Greeting.{StaysFresh, requests_in}
+use Rattle.hub_lane.specs.Run.{AreVainRounds, PassesRound}
+use Rattle.hub_lane.proofs.GreetingPasses.{vain_again}
 use Rattle.hub_lane.proofs.Greetings.{fresh_begins, round_asked}
 use Rattle.hub_lane.proofs.Listening.{IsSameTelling, both_calls, same_first, same_fresh, same_handed}
 use Rattle.hub_lane.proofs.Requests.{for_board, if_both, one_for_board}
@@ -150,6 +152,7 @@ pub record IsAsking {L : Type 0} (seen : Ghosts L) (settings : Limits) (rounds :
   pub few_gots : seen.gots now ≤ 64 * rounds
   pub counted : 64 * rounds ≤ 64 * seen.quiets now + seen.gots now
   pub untold : first_status (receives_in (seen.traffic now)) ≡ None
+  pub passed : AreVainRounds rounds (seen.traffic now)
   pub fault : seen.faults old ≤ seen.faults now
 
 none_paid : (quiets held : ℕ) (a : Option Telling) → IfSome a (HasPaid 0 quiets held)
@@ -172,6 +175,7 @@ asking_first {seen} {settings} {link} unused begins =
       few_gots = omega (arith, no_gots);
       counted = omega arith;
       untold = ap first_status (ap receives_in unused.no_traffic);
+      passed = unused.no_traffic;
       fault = omega arith;
     }
 
@@ -284,8 +288,9 @@ module _ {L : Type 0} {seen : Ghosts L} {settings : Limits} {rounds : ℕ} {old 
       → IfTelling (seen.telling now) (seen.telling new) (HasAskedAtMost 1)
       → IfTelling (seen.telling now) (seen.telling new)
       (EndsAskingWith settings (seen.quiets now) (seen.quiets new) (seen.held now) (seen.held new) None)
-      → EndsRound seen None now new → IsAsking seen settings (rounds + 1) old new
-  none_again few fresh asked told ended =
+      → EndsRound seen None now new → PassesRound None (seen.traffic now) (seen.traffic new)
+      → IsAsking seen settings (rounds + 1) old new
+  none_again few fresh asked told ended passed =
       let a = seen.telling old in
       let b = seen.telling now in
       let c = seen.telling new in
@@ -307,6 +312,7 @@ module _ {L : Type 0} {seen : Ghosts L} {settings : Limits} {rounds : ℕ} {old 
         few_gots = omega (arith, few_gots, most_gots);
         counted = omega (arith, counted, more);
         untold = ended.receives;
+        passed = vain_again rounds so_far.passed passed;
         fault = faults_after;
       }
 
@@ -316,10 +322,11 @@ pub asking_on : {L : Type 0} {seen : Ghosts L} {settings : Limits} {rounds : ℕ
     → IfTelling (seen.telling now) (seen.telling new) (HasAskedAtMost 1)
     → IfTelling (seen.telling now) (seen.telling new)
     (EndsAskingWith settings (seen.quiets now) (seen.quiets new) (seen.held now) (seen.held new) found)
-    → EndsRound seen found now new → IsAsking seen settings (rounds + 1) old new
-asking_on {found = None} so_far counts few e fresh asked told ended =
-    none_again so_far counts few fresh asked told ended
-asking_on {found = Some status} so_far counts few e fresh asked told ended = absurd cc
+    → EndsRound seen found now new → PassesRound found (seen.traffic now) (seen.traffic new)
+    → IsAsking seen settings (rounds + 1) old new
+asking_on {found = None} so_far counts few e fresh asked told ended passed =
+    none_again so_far counts few fresh asked told ended passed
+asking_on {found = Some status} so_far counts few e fresh asked told ended passed = absurd cc
 
 -- ---- a status was told
 

@@ -191,7 +191,7 @@ up_unanswered hub down spent t up (inr waits) =
 abbrev pub claim_of : ℕ → ℕ → ℕ → List ℕ → Claim
 claim_of client seq g body = record { client = client; seq = seq; give_ups = g; body = body }
 
-asked_claims : (items : List Item) (client seq g : ℕ) (body : List ℕ) → told_by_first plan_in client seq items ≡ Some body
+pub asked_claims : (items : List Item) (client seq g : ℕ) (body : List ℕ) → told_by_first plan_in client seq items ≡ Some body
     → claims (items ++ ask_of client seq g ∷ []) ≡ claims items ++ claim_of client seq g body ∷ []
 asked_claims items client seq g body there = claims_push items (ask_of client seq g)
     ∙ ap (λ (o : Option (List ℕ)). claims items ++ claim_of client seq g (unwrap_or o []) ∷ []) there

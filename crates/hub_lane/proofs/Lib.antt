@@ -35,3 +35,6 @@ mod Pumps
 mod Steps
 mod Records
 mod LostWithLink
+mod Runs
+mod LaneRuns
+mod GreetingPasses

@@ -1,6 +1,6 @@
 -- A hub over a link, call by call.
-use Rattle.std.proofs.Common.{◌≡◌, ℕ, ◌+◌, ◌≤◌, true, List, [], ◌∷◌, length}
-use Rattle.std.proofs.Common.{Option, Some, None, refl, sym, ap, subst, arith, ◌∙◌}
+use Rattle.std.proofs.Common.{◌≡◌, ℕ, ◌+◌, ◌≤◌, true, false, List, [], ◌∷◌, length}
+use Rattle.std.proofs.Common.{Option, Some, None, refl, sym, ap, subst, arith, ◌∙◌, inl}
 use Rattle.std.specs.Prelude.{IfSome}
 use Rattle.std.specs.Prelude.{Result, Ok, Err}
 use Rattle.world_model.specs.Messages.{to_hub}
@@ -18,12 +18,16 @@ use Rattle.hub_lane.proofs.RoundHeard.{AirGrows}
 use Rattle.hub_lane.specs.Lanes.{board_of}
 use Rattle.links.specs.declared.link.LinkFault.{LinkFault}
 use Rattle.links.specs.declared.link.LinkFault.TheVariants.{Failed, NoMemory}
+use Rattle.reliable_engine.specs.MachineRuns.{RunEvent}
+use Rattle.reliable_engine.specs.Traffic.{Passed}
+use Rattle.links.specs.Receives.{receives_in}
 use Rattle.links.specs.Telling.{IfTelling, IsGot, IsQuiet, IsReceived, IsSent, Receives, Telling}
 use Rattle.hub_lane.specs.declared.answers.Pumped.{Pumped}
 use Rattle.hub_lane.specs.declared.answers.Pumped.TheVariants.{Reply, Status, Stray, Quiet, Idle, LinkDown}
 use Rattle.hub_lane.specs.Carrying.{HasPut}
 use Rattle.hub_lane.specs.Hearing.{IsHeardAs, WasReceived}
 use Rattle.hub_lane.specs.Rounds.{PaysOn, RoundFor, Sends}
+use Rattle.hub_lane.specs.Run.{RunsOn}
 use Rattle.hub_lane.specs.Sends.{HasSent, all_sent}
 use Rattle.hub_lane.specs.Standing.{GoesOn, IsRunning, IsStopped, NoneOpenHanded, StaysUnanswered, Stops}
 use Rattle.hub_lane.specs.PumpLaws.{SendKeepsBodies, SendLeaves}
@@ -35,7 +39,7 @@ use Rattle.hub_lane.proofs.Standing.{sent_running}
 -- so far sends went out
 pub record IsSending (before : Option Telling) (old : Hub) (telling : Option Telling) (now : Hub)
     (faults faults_now quiets quiets_now gots gots_now held held_now : ℕ)
-    (receives receives_now : List (Option (List ℕ))) : Type 0 where
+    (run run_now : List RunEvent) (passed passed_now : List Passed) : Type 0 where
   pub sent : AreSendable now.sent
   pub queue : AreSendable now.queue
   pub all : all_sent now ≡ all_sent old
@@ -46,12 +50,13 @@ pub record IsSending (before : Option Telling) (old : Hub) (telling : Option Tel
   pub unfaulted : IfSome before (λ _. faults_now ≡ faults)
   pub quiet : quiets_now ≡ quiets
   pub got : gots_now ≡ gots
-  pub receive : receives_now ≡ receives
+  pub receive : receives_in passed_now ≡ receives_in passed
   pub hold : held ≤ held_now
   pub pays : PaysOn before old held telling now held_now
   pub round : RoundFor Sends before old held telling now held_now
   pub board : board_of telling ≡ board_of before
   pub put : IfTelling before telling (HasPut old now)
+  pub ran : RunsOn false [] old now run run_now passed passed_now
 
 -- the bodies of the hub after a send
 spelled_by : SendKeepsBodies → (old new : Hub) (r : Option Next) → next_send old ≡ r → new ≡ hub_next old r
@@ -284,3 +289,11 @@ pub still_uncounted : (P : Type 0) (a b : Option Telling) (first before now : �
 still_uncounted P None b first before now board is more p = tt
 still_uncounted P (Some t) None first before now board is more p = absurd cc
 still_uncounted P (Some t) (Some u) first before now board is more p = more p ∙ is
+
+-- all was sent, and no receive brought the hub anything
+pub stopped_after : (before mid after : Option Telling) (old sent new : Hub) → GoesOn before old mid sent
+    → GoesOn mid sent after new → Stops before old after new
+stopped_after before mid after old sent new first second = λ limits outcomes lates start.
+    if_told (IsRunning limits new outcomes lates) (IsStopped limits new outcomes lates) after
+    (second limits outcomes lates (first limits outcomes lates start))
+    (λ t is. record { before = new; running = is; refused = inl refl })

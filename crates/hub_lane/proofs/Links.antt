@@ -190,6 +190,7 @@ pub same_entries : {L : Type 0} {inside old : LaneState L} {items : List Item} �
       outcomes = inside.outcomes;
       lates = inside.lates;
       give_ups = inside.give_ups;
+      run = inside.run;
       down = inside.down;
       spent = inside.spent;
     } in
@@ -203,6 +204,7 @@ same_entries {L} {inside} {old} {items} view same = ap (λ (xs : List Item). rec
   outcomes = inside.outcomes;
   lates = inside.lates;
   give_ups = inside.give_ups;
+  run = inside.run;
   down = inside.down;
   spent = inside.spent;
 }) same ∙ view

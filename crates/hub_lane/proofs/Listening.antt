@@ -15,6 +15,8 @@ use Rattle.hub_lane.specs.Greeting.{CanBegin, CountsAnswer, CountsNoAnswer, Coun
 use Rattle.hub_lane.specs.Greeting.{EndsRound, EndsRoundWith, HandedOutNone, HasAskedNothing}
 use Rattle.hub_lane.specs.Greeting.{IfNothing, IsExpecting, IsHeardFrom}
 use Rattle.hub_lane.specs.Greeting.{StaysFresh, gots_of_answer, quiets_of_answer, requests_in, status_in}
+use Rattle.hub_lane.specs.Run.{PassesAnswer}
+use Rattle.hub_lane.proofs.GreetingPasses.{PassesOthers, no_others, one_other}
 use Rattle.hub_lane.proofs.Greetings.{fresh_begins, on_telling}
 use Rattle.hub_lane.proofs.Requests.{if_both}
 
@@ -40,6 +42,7 @@ pub record IsListening {L : Type 0} (seen : Ghosts L) (other : ℕ) (old now : L
   pub quiet : seen.quiets now ≡ seen.quiets old
   pub got : seen.gots now ≡ seen.gots old + other
   pub untold : first_status (receives_in (seen.traffic now)) ≡ None
+  pub passed : PassesOthers other (seen.traffic old) (seen.traffic now)
   pub fault : seen.faults old ≤ seen.faults now
   pub hold : seen.held old ≤ seen.held now
 
@@ -59,6 +62,7 @@ listening_first {seen} {link} untold = record {
   quiet = refl;
   got = omega arith;
   untold = untold;
+  passed = no_others (seen.traffic link);
   fault = omega arith;
   hold = omega arith;
 }
@@ -165,8 +169,8 @@ module _ {L : Type 0} {seen : Ghosts L} {other : ℕ} {old now : L} (so_far : Is
       → IfTelling (seen.telling now) (seen.telling new)
       (IsHeardFrom settings (seen.held now) (seen.held new) answer.Other)
       → CountsAnswer seen answer.Other now new → seen.faults now ≤ seen.faults new → seen.held now ≤ seen.held new
-      → IsListening seen (other + 1) old new
-  other_came settings {new} few untold told counts faults held =
+      → PassesAnswer answer.Other (seen.traffic now) (seen.traffic new) → IsListening seen (other + 1) old new
+  other_came settings {new} few untold told counts faults held passed =
       let gone = no_other (seen.telling old) (seen.telling now) (seen.telling new)
       ((other + 1 ≡ 0) × (seen.held new ≡ seen.held old)) so_far.same told in
       let got = so_far.got in
@@ -179,6 +183,7 @@ module _ {L : Type 0} {seen : Ghosts L} {other : ℕ} {old now : L} (so_far : Is
         quiet = counts.quiets ∙ so_far.quiet;
         got = omega (arith, got, gots, few);
         untold = untold;
+        passed = one_other so_far.passed passed;
         fault = omega (arith, fault, faults);
         hold = omega (arith, hold, held);
       }
@@ -187,11 +192,11 @@ module _ {L : Type 0} {seen : Ghosts L} {other : ℕ} {old now : L} (so_far : Is
       → seen.gots old ≤ 64 * 255 → other < 64 → EndWith (status_in heard) (receives_in (seen.traffic new))
       → IfTelling (seen.telling now) (seen.telling new) (IsHeardFrom settings (seen.held now) (seen.held new) heard)
       → CountsAnswer seen heard now new → seen.faults now ≤ seen.faults new → seen.held now ≤ seen.held new
-      → IsListening seen (other + 1) old new
-  others_came settings {heard = answer.Told status} e few more ends told counts faults held = absurd cc
-  others_came settings {heard = answer.Nothing} e few more ends told counts faults held = absurd cc
-  others_came settings {heard = answer.Other} e few more ends told counts faults held =
-      let got = so_far.got in other_came settings (omega (arith, got, few, more)) ends told counts faults held
+      → PassesAnswer heard (seen.traffic now) (seen.traffic new) → IsListening seen (other + 1) old new
+  others_came settings {heard = answer.Told status} e few more ends told counts faults held passed = absurd cc
+  others_came settings {heard = answer.Nothing} e few more ends told counts faults held passed = absurd cc
+  others_came settings {heard = answer.Other} e few more ends told counts faults held passed =
+      let got = so_far.got in other_came settings (omega (arith, got, few, more)) ends told counts faults held passed
 
   -- a last step behind what was counted so far
   counts_on : (new : L) → seen.faults now ≤ seen.faults new → seen.held now ≤ seen.held new

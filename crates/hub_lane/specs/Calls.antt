@@ -3,6 +3,7 @@ use Rattle.std.specs.Prelude.{◌≡◌, ◌⊎◌, ℕ, ◌≤◌, Bool, true, 
 use Rattle.std.specs.Prelude.{Option, Some, None, IfSome}
 use Rattle.std.specs.List.{slice_get}
 use Rattle.world_model.specs.Hub.{Hub, after_handing_out, is_waiting, offer}
+use Rattle.reliable_engine.specs.MachineRuns as events
 use Rattle.links.specs.Telling.{Telling}
 use Rattle.lane_record.specs.declared.outcome.Outcome.{Outcome}
 use Rattle.lane_record.specs.declared.outcome.Outcome.TheVariants.{Replied, LinkLost}
@@ -41,6 +42,7 @@ with_offer lane client seq body = record (with_item lane (ask_of client seq lane
   hub = offer lane.hub (record { tag = length lane.outcomes; body = body });
   outcomes = lane.outcomes ++ None ∷ [];
   lates = lane.lates ++ None ∷ [];
+  run = lane.run ++ events.Offer (length lane.outcomes) body ∷ [];
 }
 
 -- the link failed before

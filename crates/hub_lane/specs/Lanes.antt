@@ -13,6 +13,7 @@ use Rattle.world_model.specs.Board.{Board}
 use Rattle.world_model.specs.Hub.{Hub, IsDrained, is_waiting, new_hub, places}
 use Rattle.world_model.specs.Facts.{HasBodies, IsStart, IsWindow}
 use Rattle.world_model.specs.Settings.{AreLimits, Limits}
+use Rattle.reliable_engine.specs.MachineRuns.{RunEvent}
 use Rattle.links.specs.Telling.{Telling}
 use Rattle.lane_record.specs.declared.outcome.Outcome.{Outcome}
 use Rattle.lane_record.specs.declared.item.Item.{Item}
@@ -41,7 +42,8 @@ pub record HasToldStatus (status : BoardStatus) (board : Board) : Type 0 where
 
 -- A lane: its link, the settings and the status told at the greeting, its engine's hub, its record, what became of each
 -- Ask in order, what came late at each place from 1 on (one for each Ask, so there is room for every place), how often
--- it gave up, whether its link failed, and whether it ran out of memory in a pump.
+-- it gave up, the events of its engine since the greeting, in order, whether its link failed, and whether it ran out of
+-- memory in a pump.
 pub record LaneState (L : Type 0) : Type 0 where
   pub link : L
   pub settings : Limits
@@ -51,6 +53,7 @@ pub record LaneState (L : Type 0) : Type 0 where
   pub outcomes : List (Option Outcome)
   pub lates : List (Option (List ℕ))
   pub give_ups : ℕ
+  pub run : List RunEvent
   pub down : Bool
   pub spent : Bool
 
@@ -144,6 +147,7 @@ new_lane link settings status = record {
   outcomes = [];
   lates = [];
   give_ups = 0;
+  run = [];
   down = false;
   spent = false;
 }

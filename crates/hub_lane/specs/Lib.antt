@@ -19,3 +19,6 @@ pub mod Records
 pub mod Below
 pub mod Step
 pub mod PumpLaws
+pub mod Run
+pub mod RunLogs
+pub mod RunLaws

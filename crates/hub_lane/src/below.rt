@@ -1,6 +1,7 @@
 ghost use Rattle.hub_lane.specs.Below.{LateLaws, RoundLaws, WayLaws};
 ghost use Rattle.hub_lane.specs.PumpLaws.{PumpLaws};
 ghost use Rattle.hub_lane.specs.RecoveryBelow.{RecoveryLaws};
+ghost use Rattle.hub_lane.specs.RunLaws.{HandingOutLaws};
 
 use crate::laws::recovery::{
     a_round_goes_on_unless_datagrams_are_held, give_ups_are_paid_by_datagrams_held,
@@ -11,6 +12,7 @@ use lane_record::laws::offers::{
     a_failed_link_loses_what_waits, a_send_settles_nothing, what_a_hub_hears_settles_asks,
 };
 use links::laws::a_send_leaves_the_fates;
+use reliable_engine::laws::machine_runs::handing_out_changes_no_run;
 use packet_codec::laws::reading_is_the_grammar;
 use world_model::laws::boards::the_last_replies_alone_are_held;
 use world_model::laws::late_answers::a_late_answer_is_of_a_timed_out_body;
@@ -36,6 +38,13 @@ pub(crate) fn laws_of_late_answers()
     ensures { LateLaws }
 {
     a_late_answer_is_of_a_timed_out_body();
+}
+
+/// What the law of runs says of hubs that differ in what they handed out. It does nothing when it runs.
+pub(crate) fn laws_of_runs()
+    ensures { HandingOutLaws }
+{
+    handing_out_changes_no_run();
 }
 
 /// What the laws say of a hub in a pump. It does nothing when it runs.

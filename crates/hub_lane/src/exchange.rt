@@ -1,6 +1,6 @@
 //! A hub over any link: what it sends, what it hears, and what that settles.
 
-ghost use Rattle.std.specs.Prelude.{◌≡◌, ◌≤◌, ◌<◌, ◌+◌, ◌^◌, ℕ, true, None, Some, length, OnOk, OnErr, IfOk};
+ghost use Rattle.std.specs.Prelude.{◌≡◌, ◌≤◌, ◌<◌, ◌+◌, ◌^◌, ℕ, true, false, [], None, Some, length, OnOk, OnErr, IfOk};
 ghost use Rattle.std.specs.Prelude.{IfSome, Err};
 ghost use Rattle.packet_ids.specs.Identifier.{identifier_at};
 ghost use Rattle.reliable_engine.specs.Answers.{body_count};
@@ -17,13 +17,15 @@ ghost use Rattle.hub_lane.specs.Carrying.{HasPut};
 ghost use Rattle.hub_lane.specs.Exchange.{FailsUnheard, Hears, Settles, SettlesNothing, TellsExchange, TellsReceive};
 ghost use Rattle.hub_lane.specs.Hearing.{IsHeardAs};
 ghost use Rattle.hub_lane.specs.Links.{CountsFaults, KeepsCounting, ReceivesNothing, ReceivesOnce};
+ghost use Rattle.hub_lane.specs.Run.{IsUnheard, RunsOn, passed_of};
 ghost use Rattle.hub_lane.specs.Sends.{HasSent, all_sent};
 ghost use Rattle.hub_lane.specs.Rounds.{PaysOn, PaysRounds, RoundFor, Sends};
 ghost use Rattle.hub_lane.specs.Standing.{GoesOn, IsRunning, StaysUnanswered, Stops};
 
 use crate::answers::Pumped;
-use crate::below::{laws_of_rounds, laws_of_ways};
+use crate::below::{laws_of_rounds, laws_of_runs, laws_of_ways};
 use crate::outcomes::settle;
+use crate::run_log::RunLog;
 use ipb_base::{NoMemory, Words};
 use lane_tables::OutcomeTable;
 use links::laws::{
@@ -41,11 +43,11 @@ use world_model::laws::sends::only_an_offer_makes_more_bodies;
 /// Sends all that the hub wants, receives once, and puts what that settled among the outcomes and the late answers.
 /// Where the link or memory fails, some sends were taken from the hub, and nothing is settled.
 pub(crate) fn exchange<L: Link>(
-    alloc: Global,
     first: Id,
     hub: &mut Engine,
     link: &mut L,
     buffer: &mut Vec<u8>,
+    run: &mut RunLog,
     outcomes: &mut OutcomeTable,
     give_ups: &mut u64,
 ) -> Result<Pumped, LinkFault>
@@ -72,12 +74,19 @@ pub(crate) fn exchange<L: Link>(
     ensures counts { KeepsCounting L.Link link.old link.new }
     ensures received { IfOk result (λ pumped. ReceivesOnce L.Link pumped buffer.new.items link.old link.new) }
     ensures faults { CountsFaults L.Link result link.old link.new }
+    ensures ran { OnOk result (RunsOn false [] hub.old hub.new run.old run.new (L.traffic link.old)
+        (L.traffic link.new)) }
+    ensures cut { OnErr result (RunsOn true [] hub.old hub.new run.old run.new (L.traffic link.old)
+        (L.traffic link.new)) }
 {
     a_send_leaves_the_fates();
     each_event_leads_to_a_state_of_a_run();
     only_an_offer_makes_more_bodies();
-    send_all(hub, link, buffer)?;
+    laws_of_runs();
+    let alloc = *buffer.allocator();
+    send_all(hub, link, buffer, run)?;
     let pumped = receive(alloc, first, hub, link, buffer)?;
+    run.add_received(pumped, buffer);
     settle(hub, outcomes, give_ups, pumped);
     Ok(pumped)
 }
@@ -88,6 +97,7 @@ pub(crate) fn send_all<L: Link>(
     hub: &mut Engine,
     link: &mut L,
     buffer: &mut Vec<u8>,
+    run: &mut RunLog,
 ) -> Result<(), LinkFault>
     requires sent { AreSendable hub.old.sent }
     requires queue { AreSendable hub.old.queue }
@@ -104,15 +114,21 @@ pub(crate) fn send_all<L: Link>(
     ensures unreceived { ReceivesNothing L.Link link.old link.new }
     ensures faults { CountsFaults L.Link result link.old link.new }
     ensures put { OnOk result (IfTelling (L.telling link.old) (L.telling link.new) (HasPut hub.old hub.new)) }
+    ensures ran { OnOk result (RunsOn false [] hub.old hub.new run.old run.new (L.traffic link.old)
+        (L.traffic link.new)) }
+    ensures cut { OnErr result (RunsOn true [] hub.old hub.new run.old run.new (L.traffic link.old)
+        (L.traffic link.new)) }
 {
     a_send_leaves_the_fates();
     draining_ends();
     laws_of_rounds();
+    laws_of_runs();
     laws_of_ways();
     each_event_leads_to_a_state_of_a_run();
     only_an_offer_makes_more_bodies();
     what_is_wanted_can_be_written();
     while let Some(send) = hub.next_send() {
+        run.add_send();
         write_send(hub, send, buffer)?;
         link.send(buffer)?;
     }
@@ -154,6 +170,8 @@ fn receive<L: Link>(
     ensures counts { KeepsCounting L.Link link.old link.new }
     ensures received { IfOk result (λ pumped. ReceivesOnce L.Link pumped buffer.new.items link.old link.new) }
     ensures faults { CountsFaults L.Link result link.old link.new }
+    ensures passed { IfOk result (λ pumped. L.traffic link.new ≡ passed_of pumped buffer.new.items (L.traffic link.old)) }
+    ensures lost { OnErr result (IsUnheard (L.traffic link.old) (L.traffic link.new)) }
 {
     each_event_leads_to_a_state_of_a_run();
     laws_of_rounds();

@@ -16,6 +16,7 @@ ghost use Rattle.hub_lane.specs.Greeting.{IfSilent, IfTold, IsDatagram, IsHeardF
 ghost use Rattle.hub_lane.specs.Greeting.{IsWithinRounds, StaysFresh, link_of, status_in};
 ghost use Rattle.hub_lane.specs.Heard.{EndWith, EndsWithStatus};
 ghost use Rattle.hub_lane.specs.Lanes.{IsGreeted, new_lane, status_of};
+ghost use Rattle.hub_lane.specs.Run.{IsGreetingOf, PassesAnswer, PassesHeard, PassesRound};
 
 use crate::lane::Lane;
 use links::{Link, LinkFault, Received};
@@ -100,6 +101,7 @@ fn begin<L: Link>(alloc: Global, link: L, settings: Settings, status: Status) ->
     requires greeted { IfSome (L.telling link) (IsGreeted settings (status_of status)) }
     requires heard { 1 ≤ L.gots link }
     requires first { EndsWithStatus (status_of status) (receives_in (L.traffic link)) }
+    requires passed { IsGreetingOf settings.rounds (status_of status) (L.traffic link) }
     ensures same { link_of result ≡ link }
     ensures ready { IfReady result (λ lane. lane ≡ new_lane link settings (status_of status)) }
     ensures silent { IfSilent result (λ link rounds. ⊥) }
@@ -128,6 +130,8 @@ fn ask_for_status<L: Link>(
         (IfTelling (L.telling link.old) (L.telling link.new) HandedOutNone)) }
     ensures heard { IfOk result (λ found. IfSome found (λ _. 1 ≤ L.gots link.new)) }
     ensures receives { IfOk result (λ found. EndWith found (receives_in (L.traffic link.new))) }
+    ensures passed { IfOk result (λ found. IfSome found
+        (λ status. IsGreetingOf settings.rounds (status_of status) (L.traffic link.new))) }
     ensures none_told { OnErr result (first_status (receives_in (L.traffic link.new)) ≡ None) }
     ensures asked { IfTelling (L.telling link.old) (L.telling link.new)
         (HasAskedAtMost (L.quiets link.new + 1)) }
@@ -158,6 +162,7 @@ fn ask_once<L: Link>(
     ensures told { IfOk result (λ found. IfTelling (L.telling link.old) (L.telling link.new)
         (EndsAskingWith settings (L.quiets link.old) (L.quiets link.new) (L.held link.old) (L.held link.new) found)) }
     ensures ended { IfOk result (λ found. EndsRound L.Link found link.old link.new) }
+    ensures passed { IfOk result (λ found. PassesRound found (L.traffic link.old) (L.traffic link.new)) }
     ensures none_told { OnErr result (first_status (receives_in (L.traffic link.new)) ≡ None) }
     ensures counts { CountsRound L.Link link.old link.new }
     ensures failed { result ≡ Err LinkFault.Failed → Rose (L.faults link.old) (L.faults link.new) }
@@ -183,6 +188,7 @@ fn listen<L: Link>(
     ensures told { IfOk result (λ found. IfTelling (L.telling link.old) (L.telling link.new)
         (EndsRoundWith settings (L.quiets link.old) (L.quiets link.new) (L.held link.old) (L.held link.new) found)) }
     ensures ended { IfOk result (λ found. EndsRound L.Link found link.old link.new) }
+    ensures passed { IfOk result (λ found. PassesHeard found (L.traffic link.old) (L.traffic link.new)) }
     ensures none_told { OnErr result (first_status (receives_in (L.traffic link.new)) ≡ None) }
     ensures counts { CountsRound L.Link link.old link.new }
     ensures failed { result ≡ Err LinkFault.Failed → Rose (L.faults link.old) (L.faults link.new) }
@@ -208,6 +214,7 @@ fn hear_once<L: Link>(
     ensures fresh { IfTelling (L.telling link.old) (L.telling link.new) (StaysFresh settings) }
     ensures asked { IfTelling (L.telling link.old) (L.telling link.new) HasAskedNothing }
     ensures receives { IfOk result (λ heard. EndWith (status_in heard) (receives_in (L.traffic link.new))) }
+    ensures passed { IfOk result (λ heard. PassesAnswer heard (L.traffic link.old) (L.traffic link.new)) }
     ensures none_told { OnErr result (first_status (receives_in (L.traffic link.new)) ≡ None) }
     ensures told { IfOk result (λ heard. IfTelling (L.telling link.old) (L.telling link.new)
         (IsHeardFrom settings (L.held link.old) (L.held link.new) heard)) }

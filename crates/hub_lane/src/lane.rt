@@ -21,11 +21,13 @@ ghost use Rattle.hub_lane.specs.Calls.{is_lost_at_place, is_replied, with_seal};
 ghost use Rattle.hub_lane.specs.Lanes.{IsGreeted, IsLane, new_lane, opening_of, status_of, with_link};
 ghost use Rattle.hub_lane.specs.Links.{CountsPump, IsDownByFault, KeepsCounting, ReceivesNothing, ShowsTheSame};
 ghost use Rattle.hub_lane.specs.Rounds.{LaneRound, Pumps, Sends};
+ghost use Rattle.hub_lane.specs.Run.{HasRun, IsGreetingOf};
 
 use crate::answers::{Asked, PlanRefusal, Pumped, Taken};
-use crate::below::{laws_of_late_answers, laws_of_pumps, laws_of_rounds};
+use crate::below::{laws_of_late_answers, laws_of_pumps, laws_of_rounds, laws_of_runs};
 use crate::exchange::{exchange, send_all};
 use crate::outcomes::{copy_outcome, copy_words, count_of, lose_all, reply_under};
+use crate::run_log::RunLog;
 use ipb_base::{NoMemory, Words};
 use lane_record::Outcome;
 use lane_record::laws::book::entries_go_into_the_book;
@@ -39,6 +41,7 @@ use reliable_engine::{Engine, Settings};
 use status_packet::Status;
 use std::alloc::Global;
 use std::marker::Model;
+use std::snapshot::Snapshot;
 use turn_pass::Entry;
 use world_model::laws::sends::only_an_offer_makes_more_bodies;
 
@@ -60,6 +63,7 @@ pub struct Lane<L: Link> {
     pub(crate) book: Book,
     outcomes: OutcomeTable,
     give_ups: u64,
+    run: RunLog,
     down: bool,
     spent: bool,
 }
@@ -70,6 +74,7 @@ impl<L: Link> Model for Lane<L> {
     ghost use Rattle.hub_lane.specs.Heard.{HasHeard, HasListened};
     ghost use Rattle.hub_lane.specs.Lanes.{IsLane, LaneState};
     ghost use Rattle.hub_lane.specs.Rounds.{HasPaid};
+    ghost use Rattle.hub_lane.specs.Run.{HasRun};
 
     ghost Value = { LaneState L };
 
@@ -82,6 +87,7 @@ impl<L: Link> Model for Lane<L> {
       outcomes = l.outcomes.items;
       lates = l.outcomes.lates;
       give_ups = l.give_ups;
+      run = l.run;
       down = l.down;
       spent = l.spent;
     } };
@@ -94,7 +100,9 @@ impl<L: Link> Model for Lane<L> {
         (HasPaid (l.down || l.spent) l.mtu l.settings.rounds l.give_ups l.engine (L.held l.link))
         × HasHeard l.outcomes.items (L.gots l.link)
         × HasListened (record { mtu = l.mtu; buffers = l.buffers; next = l.first }) l.engine l.outcomes.items
-        l.outcomes.lates l.give_ups (receives_in (L.traffic l.link)) };
+        l.outcomes.lates l.give_ups (receives_in (L.traffic l.link))
+        × HasRun l.settings (record { mtu = l.mtu; buffers = l.buffers; next = l.first }) l.engine l.book.items
+        l.down l.spent l.run (L.traffic l.link) };
 }
 
 impl<L: Link> Lane<L> {
@@ -135,6 +143,17 @@ impl<L: Link> Lane<L> {
         let _outcomes = &self.outcomes;
     }
 
+    /// What passed over the link of a lane, whether it tells or not: the greeting, and then the machine's run from a hub
+    /// that knows the board to the hub that the lane has, whose offers are the bodies of the Asks in order. Where the
+    /// link failed or memory ran out its last send may be missing, or its last datagram unheard. It does nothing when it
+    /// runs.
+    pub fn has_run(&self)
+        ensures { HasRun self.now.settings self.now.status self.now.hub self.now.items self.now.down self.now.spent
+            self.now.run (L.traffic self.now.link) }
+    {
+        let _run = &self.run;
+    }
+
     /// The lane of a link whose board told this status in the greeting. Where memory ran out the link is given back.
     pub(crate) fn new(
         alloc: Global,
@@ -145,6 +164,7 @@ impl<L: Link> Lane<L> {
         requires greeted { IfSome (L.telling link) (IsGreeted settings (status_of status)) }
         requires heard { 1 ≤ L.gots link }
         requires first { EndsWithStatus (status_of status) (receives_in (L.traffic link)) }
+        requires passed { IsGreetingOf settings.rounds (status_of status) (L.traffic link) }
         ensures made { IfOk result (λ lane. lane ≡ new_lane link settings (status_of status)) }
         ensures given_back { IfErr result (λ back. back ≡ link) }
     {
@@ -176,6 +196,7 @@ impl<L: Link> Lane<L> {
             book,
             outcomes: OutcomeTable::new(alloc),
             give_ups: 0,
+            run: RunLog::new(),
             down: false,
             spent: false,
         })
@@ -306,6 +327,7 @@ impl<L: Link> Lane<L> {
         entries_go_into_the_book();
         laws_of_late_answers();
         laws_of_rounds();
+        laws_of_runs();
         only_an_offer_makes_more_bodies();
         if self.spent {
             return Err(NoMemory);
@@ -316,7 +338,10 @@ impl<L: Link> Lane<L> {
         let body = copy_words(self.alloc, body.as_slice())?;
         self.book.reserve()?;
         let seq = self.book.asked(client);
+        let tag = self.outcomes.len() as u64;
+        let offered = Snapshot::of(&body);
         self.outcomes.offer(&mut self.engine, self.down, body)?;
+        self.run.add_ask(self.down, tag, offered);
         self.book.ask(client, seq, self.give_ups);
         Ok(Asked::Asked(seq))
     }
@@ -343,7 +368,13 @@ impl<L: Link> Lane<L> {
         }
         laws_of_pumps();
         laws_of_rounds();
-        match send_all(&mut self.engine, &mut self.link, &mut self.buffer) {
+        laws_of_runs();
+        match send_all(
+            &mut self.engine,
+            &mut self.link,
+            &mut self.buffer,
+            &mut self.run,
+        ) {
             Ok(()) => {}
             Err(LinkFault::Failed) => {
                 lose_all(&mut self.outcomes, self.engine.sent());
@@ -400,13 +431,14 @@ impl<L: Link> Lane<L> {
         }
         laws_of_pumps();
         laws_of_rounds();
+        laws_of_runs();
         let _asks = self.outcomes.len();
         match exchange(
-            self.alloc,
             self.first,
             &mut self.engine,
             &mut self.link,
             &mut self.buffer,
+            &mut self.run,
             &mut self.outcomes,
             &mut self.give_ups,
         ) {

@@ -9,6 +9,7 @@ mod greeting;
 mod lane;
 pub mod laws;
 mod outcomes;
+mod run_log;
 mod step;
 
 pub use answers::{Asked, BoardState, PlanRefusal, Pumped, Taken};

@@ -7,9 +7,11 @@ use Rattle.hub_lane.specs.Hearing.{give_ups_of, gots_of, quiets_of, receives_of}
 use Rattle.hub_lane.specs.Sends.{HasSent}
 use Rattle.hub_lane.proofs.Carrying.{carried}
 use Rattle.hub_lane.proofs.Links.{keeps_then, nothing_keeps, on_any_err}
+use Rattle.hub_lane.proofs.Linked.{stopped_after}
 use Rattle.hub_lane.proofs.Ready.{exchanged, exchanged_unanswered, ready_sent, same_sent}
 use Rattle.hub_lane.proofs.Rounds.{exchanged_pays}
 use Rattle.hub_lane.proofs.InRounds.{round_exchanged}
+use Rattle.hub_lane.proofs.Runs.{runs_received, runs_then, runs_unheard}
 use Rattle.hub_lane.proofs.exchange.exchange.Goals as goal
 
 pub receive-requires-clause-drained : goal.receive-requires-clause-drained
@@ -145,3 +147,32 @@ returns-in_err-pumped-clause-unsettled g c =
       lates = refl;
       give_ups = refl;
     })
+
+pub returns-clause-ran : goal.returns-clause-ran
+returns-clause-ran g c =
+    let traffic = g.L.Link.traffic in
+    let mid = c.send_all.new.hub in
+    runs_then c.laws_of_runs.ensures c.in_ok-send_all.ensures.ran
+    (runs_received c.in_ok-pumped.pumped c.receive.new.buffer.items mid c.receive.new.hub c.settle.new.hub
+    c.send_all.new.run c.add_received.new.self (traffic c.send_all.new.link) (traffic c.receive.new.link)
+    c.in_ok-send_all.ensures.none
+    ((same_sent c.args.hub.now mid c.send_all.ensures.some).waits ∙ c.requires.waits)
+    c.in_ok-pumped.ensures.heard c.settle.ensures.hub c.add_received.ensures c.in_ok-pumped.ensures.passed)
+
+pub returns-in_err-send_all-clause-cut : goal.returns-in_err-send_all-clause-cut
+returns-in_err-send_all-clause-cut g c = on_any_err c.from_residual.result c.in_err-send_all.ensures.cut
+
+pub returns-in_err-pumped-clause-cut : goal.returns-in_err-pumped-clause-cut
+returns-in_err-pumped-clause-cut g c =
+    let traffic = g.L.Link.traffic in
+    on_any_err c.from_residual-in_err-pumped.result
+    (runs_then c.laws_of_runs.ensures c.in_ok-send_all.ensures.ran
+    (runs_unheard c.send_all.new.hub c.receive.new.hub c.send_all.new.run (traffic c.send_all.new.link)
+    (traffic c.receive.new.link) c.in_err-pumped.ensures.unheard c.in_err-pumped.ensures.lost))
+
+pub returns-in_err-pumped-clause-stopped : goal.returns-in_err-pumped-clause-stopped
+returns-in_err-pumped-clause-stopped g c =
+    let telling = g.L.Link.telling in
+    on_any_err c.from_residual-in_err-pumped.result
+    (stopped_after (telling c.args.link.now) (telling c.send_all.new.link) (telling c.receive.new.link) c.args.hub.now
+    c.send_all.new.hub c.receive.new.hub c.in_ok-send_all.ensures.running c.receive.ensures.running)

@@ -1,4 +1,4 @@
-use Rattle.std.proofs.Common.{◌∙◌, ℕ, List, Ok, sym, subst, ap}
+use Rattle.std.proofs.Common.{◌∙◌, ℕ, List, Ok, inl, inr, sym, subst, ap}
 use Rattle.world_model.specs.Hub.{Hub, take_message}
 use Rattle.links.specs.declared.link.Received.{Received}
 use Rattle.links.specs.Telling.{IfTelling, Receives}
@@ -9,7 +9,9 @@ use Rattle.hub_lane.specs.Rounds.{PaysFor, Pumps, RoundFor}
 use Rattle.hub_lane.specs.Standing.{GoesOn, StaysUnanswered}
 use Rattle.hub_lane.proofs.Carrying.{got_brings, quiet_brings}
 use Rattle.hub_lane.proofs.Linked.{fault_on, got_on, got_stays, quiet_on, quiet_stays, unheard_on, was_received}
-use Rattle.hub_lane.proofs.Links.{got_once, quiet_once, received_keeps, was_quiet}
+use Rattle.links.specs.declared.link.Received.TheVariants.{Got}
+use Rattle.hub_lane.proofs.Links.{got_once, on_any_err, quiet_once, received_keeps, was_quiet}
+use Rattle.hub_lane.proofs.Runs.{got_passed, got_traffic, quiet_traffic}
 use Rattle.hub_lane.proofs.Rounds.{got_for, quiet_for}
 use Rattle.hub_lane.proofs.InRounds.{round_got, round_quiet}
 use Rattle.hub_lane.proofs.exchange.receive.Goals as goal
@@ -176,3 +178,25 @@ returns-in-Quiet-clause-received g c =
     let came = c.in_ok-receive.ensures in
     quiet_once g.L.Link c.receive.new.into.items c.args.link.now c.receive.new.self c.in_ok-receive.field-0
     c.in-Quiet.is (came.quiets, came.gots, came.traffic)
+
+pub returns-in_ok-hear-in-Got-clause-passed : goal.returns-in_ok-hear-in-Got-clause-passed
+returns-in_ok-hear-in-Got-clause-passed g c =
+    let pumped = c.in_ok-hear-in-Got.field-0 in
+    let heard = subst (λ (heard : List ℕ). IsHeardAs c.args.hub.now (to_hub heard) pumped)
+    c.deref.ensures.value c.in_ok-hear-in-Got.ensures.heard in
+    got_passed pumped c.receive.new.into.items c.args.hub.now (g.L.Link.traffic c.args.link.now) heard
+    (got_traffic c.in_ok-receive.field-0 c.receive.new.into.items (g.L.Link.traffic c.args.link.now) c.in-Got.is
+    c.in_ok-receive.ensures.traffic)
+
+pub returns-in-Quiet-clause-passed : goal.returns-in-Quiet-clause-passed
+returns-in-Quiet-clause-passed g c =
+    quiet_traffic c.in_ok-receive.field-0 c.receive.new.into.items (g.L.Link.traffic c.args.link.now) c.in-Quiet.is
+    c.in_ok-receive.ensures.traffic
+
+pub returns-in_err-receive-clause-lost : goal.returns-in_err-receive-clause-lost
+returns-in_err-receive-clause-lost g c = on_any_err _ (inl c.in_err-receive.ensures.traffic)
+
+pub returns-in_err-hear-in-Got-clause-lost : goal.returns-in_err-hear-in-Got-clause-lost
+returns-in_err-hear-in-Got-clause-lost g c = on_any_err _ (inr (c.receive.new.into.items,
+    got_traffic c.in_ok-receive.field-0 c.receive.new.into.items (g.L.Link.traffic c.args.link.now) c.in-Got.is
+    c.in_ok-receive.ensures.traffic))

@@ -1,4 +1,8 @@
-use Rattle.std.proofs.Common.{◌∙◌, ℕ, List, subst, refl, sym, arith}
+use Rattle.std.proofs.Common.{◌∙◌, ℕ, List, [], ◌∷◌, ◌++◌, ap, inl, inr, subst, refl, sym, arith, false, true}
+use Rattle.reliable_engine.specs.Traffic.{Passed, Sent}
+use Rattle.world_model.specs.Sends.{bytes_to_send}
+use Rattle.hub_lane.specs.Run.{RunsOn}
+use Rattle.hub_lane.proofs.Runs.{runs_here, runs_send, runs_then}
 use Rattle.world_model.specs.Hub.{Hub}
 use Rattle.world_model.specs.Sends.{Next}
 use Rattle.links.specs.Telling.{IfTelling, IsSent}
@@ -45,6 +49,7 @@ loop-send-init g c =
       round = none_sent c.args.hub.now (g.L.Link.held c.args.link.now) telling;
       board = refl;
       put = same_link (HasPut c.args.hub.now c.args.hub.now) telling (put_none_by c.args.hub.now);
+      ran = runs_here c.args.hub.now c.args.run.now (g.L.Link.traffic c.args.link.now);
     }
 
 pub loop-send-preserved : goal.loop-send-preserved
@@ -96,6 +101,12 @@ loop-send-preserved g c =
       board = sent_board _ _ _ _ _ call ∙ before.invariant.board;
       put = put_more c.args.hub.now old next (held before.link) (held c.send.new.self) (telling c.args.link.now)
           (telling before.link) (telling c.send.new.self) is before.invariant.put call;
+      ran = runs_then c.laws_of_runs.ensures before.invariant.ran
+          (runs_send old next new before.run c.add_send.new.self (g.L.Link.traffic before.link)
+          (g.L.Link.traffic c.send.new.self) is refl c.add_send.ensures
+          (c.in_ok-send.ensures.traffic
+          ∙ ap (λ (bytes : List ℕ). g.L.Link.traffic before.link ++ Sent bytes ∷ [])
+          (c.deref.ensures.value ∙ c.in_ok-write_send.ensures.bytes)));
       hold = (let a = before.invariant.hold in let b = c.send.ensures.held in omega (arith, a, b));
     }
 
@@ -204,3 +215,35 @@ returns-in_err-write_send-clause-unreceived g c =
       held = is.hold;
       board = is.board;
     }
+
+pub returns-clause-ran : goal.returns-clause-ran
+returns-clause-ran g c =
+    let traffic = g.L.Link.traffic in
+    let told = sym c.in_default.is ∙ c.next_send.ensures.send in
+    subst (λ (hub : Hub). RunsOn false [] c.args.hub.now hub c.args.run.now c.loop-send.run (traffic c.args.link.now)
+    (traffic c.loop-send.link))
+    (sym (same_hub c.loop-send.hub c.next_send.new.self told c.next_send.ensures.hub)) c.loop-send.invariant.ran
+
+-- the last send was taken from the hub, and did not pass
+pub returns-in_err-write_send-clause-cut : goal.returns-in_err-write_send-clause-cut
+returns-in_err-write_send-clause-cut g c =
+    let before = c.loop-send in
+    let traffic = g.L.Link.traffic in
+    let next : Next = record { send = c.in-Some.send; hub = c.next_send.new.self } in
+    let is = next_is before.hub c.next_send.new.self c.in-Some.send c.in-Some.ensures.send c.next_send.ensures.hub in
+    on_any_err c.from_residual.result (runs_then c.laws_of_runs.ensures before.invariant.ran
+    (runs_send {stopped = true} before.hub next c.next_send.new.self before.run c.add_send.new.self
+    (traffic before.link) (traffic before.link) is refl c.add_send.ensures
+    (inr (inl (bytes_to_send next.hub next.send, refl)))))
+
+pub returns-in_err-send-clause-cut : goal.returns-in_err-send-clause-cut
+returns-in_err-send-clause-cut g c =
+    let before = c.loop-send in
+    let traffic = g.L.Link.traffic in
+    let next : Next = record { send = c.in-Some.send; hub = c.next_send.new.self } in
+    let is = next_is before.hub c.next_send.new.self c.in-Some.send c.in-Some.ensures.send c.next_send.ensures.hub in
+    let bytes = bytes_to_send next.hub next.send in
+    on_any_err c.from_residual-in_err-send.result (runs_then c.laws_of_runs.ensures before.invariant.ran
+    (runs_send {stopped = true} before.hub next c.next_send.new.self before.run c.add_send.new.self
+    (traffic before.link) (traffic c.send.new.self) is refl c.add_send.ensures
+    (inr (inl (bytes, ap (λ (xs : List Passed). xs ++ Sent bytes ∷ []) (sym c.in_err-send.ensures.traffic))))))

@@ -5,6 +5,7 @@ use Rattle.hub_lane.proofs.GreetingRounds.{begins_so_far, faults_after, few_gots
 use Rattle.hub_lane.proofs.GreetingRounds.{found_heard, fresh_after, greeting_found, waited_long, within_after}
 use Rattle.hub_lane.proofs.GreetingRounds.{within_so_far}
 use Rattle.hub_lane.proofs.Listening.{on_err}
+use Rattle.hub_lane.proofs.GreetingPasses.{greeted_so}
 use Rattle.hub_lane.proofs.greeting.ask_for_status.Goals as goal
 
 pub loop-round-init : goal.loop-round-init
@@ -34,7 +35,7 @@ loop-round-preserved g c =
     asking_on c.loop-round.invariant c.ask_once.ensures.counts
     (omega (arith, c.rounds-round-end.type_inv, c.loop-round-test.true))
     c.in_default.is c.ask_once.ensures.fresh c.ask_once.ensures.asked c.in_ok-status.ensures.told
-    c.in_ok-status.ensures.ended
+    c.in_ok-status.ensures.ended c.in_ok-status.ensures.passed
 
 pub returns-in_err-status-clause-fresh : goal.returns-in_err-status-clause-fresh
 returns-in_err-status-clause-fresh g c =
@@ -138,3 +139,13 @@ returns-clause-most g c =
 pub returns-clause-faults : goal.returns-clause-faults
 returns-clause-faults g c =
     c.loop-round.invariant.fault
+
+pub returns-in_err-status-clause-passed : goal.returns-in_err-status-clause-passed
+returns-in_err-status-clause-passed g c =
+    IfOk-from_err c.from_residual.result _ c.from_residual.ensures.0
+
+pub returns-in-Some-clause-passed : goal.returns-in-Some-clause-passed
+returns-in-Some-clause-passed g c =
+    greeted_so c.in-Some.is
+    (let below = c.loop-round-test.true in let end = c.rounds-round-end.ensures.value in omega (arith, below, end))
+    c.loop-round.invariant.passed c.in_ok-status.ensures.passed

@@ -6,6 +6,7 @@ use Rattle.hub_lane.proofs.Greetings.{fresh_begins, request_fresh}
 use Rattle.hub_lane.proofs.GreetingRounds.{asking_ends, asking_told, counts_asked, counts_sent, fresh_then}
 use Rattle.hub_lane.proofs.GreetingRounds.{refused_asks, refused_fresh, request_asks}
 use Rattle.hub_lane.proofs.Listening.{on_err, rose_later}
+use Rattle.hub_lane.proofs.GreetingPasses.{asked_then}
 use Rattle.hub_lane.proofs.greeting.ask_once.Goals as goal
 
 pub listen-requires-clause-few_quiets : goal.listen-requires-clause-few_quiets
@@ -90,3 +91,13 @@ returns-clause-failed g c =
     let faults = g.L.Link.faults in
     λ e. rose_later (faults c.args.link.now) (faults c.send.new.self) (faults c.listen.new.link) c.send.ensures.faults
     (c.listen.ensures.failed e)
+
+pub returns-in_err-send-clause-passed : goal.returns-in_err-send-clause-passed
+returns-in_err-send-clause-passed g c =
+    IfOk-from_err c.from_residual.result _ c.from_residual.ensures.0
+
+pub returns-clause-passed : goal.returns-clause-passed
+returns-clause-passed g c =
+    asked_then c.listen.result (g.L.Link.traffic c.args.link.now) (g.L.Link.traffic c.send.new.self)
+    (g.L.Link.traffic c.listen.new.link)
+    c.write_status_request-request.ensures c.in_ok-send.ensures.traffic c.listen.ensures.passed

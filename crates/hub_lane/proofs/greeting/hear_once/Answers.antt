@@ -8,6 +8,7 @@ use Rattle.hub_lane.specs.Greeting.{HasAskedNothing, IsSaid, StaysFresh}
 use Rattle.hub_lane.proofs.Listened.{got_end, quiet_end}
 use Rattle.hub_lane.proofs.Requests.{receive_asks_none}
 use Rattle.hub_lane.proofs.Greetings.{fresh_on, got_told, handed_quiet, quiet_told, TellsAll}
+use Rattle.hub_lane.proofs.GreetingPasses.{got_answer, quiet_answer}
 use Rattle.hub_lane.proofs.greeting.hear_once.Given.{Over}
 use Rattle.hub_lane.proofs.greeting.hear_once.Goals.{After-receive}
 use Rattle.hub_lane.proofs.greeting.hear_once.Goals as goal
@@ -122,3 +123,19 @@ returns-in-Quiet-clause-held g c =
 pub returns-in-Got-clause-held : goal.returns-in-Got-clause-held
 returns-in-Got-clause-held g c =
     c.receive.ensures.held
+
+pub returns-in-Quiet-clause-passed : goal.returns-in-Quiet-clause-passed
+returns-in-Quiet-clause-passed g c =
+    quiet_answer c.in_ok-receive.field-0 c.receive.new.into.items (g.L.Link.traffic c.args.link.now) c.in-Quiet.is
+    c.in_ok-receive.ensures.traffic
+
+pub returns-in-Got-clause-passed : goal.returns-in-Got-clause-passed
+returns-in-Got-clause-passed g c =
+    got_answer c.tell.result c.in_ok-receive.field-0 c.receive.new.into.items (g.L.Link.traffic c.args.link.now)
+    c.in-Got.is
+    (subst (λ (bytes : List ℕ). IsSaid (to_hub bytes) c.tell.result) c.deref.ensures.value c.tell.ensures.said)
+    c.in_ok-receive.ensures.traffic
+
+pub returns-in_err-receive-clause-passed : goal.returns-in_err-receive-clause-passed
+returns-in_err-receive-clause-passed g c =
+    IfOk-from_err c.from_residual.result _ c.from_residual.ensures.0

@@ -3,6 +3,7 @@ use Rattle.hub_lane.specs.Greeting.{HasAskedNothing, StaysFresh}
 use Rattle.hub_lane.proofs.Listening.{begins_so_far, counts_heard, counts_others, counts_unheard, ends_others}
 use Rattle.hub_lane.proofs.Listening.{ends_quiet, ends_told, fresh_so_far, listening_first, none_asked, on_err}
 use Rattle.hub_lane.proofs.Listening.{others_came, round_nothing, round_others, round_told, same_later}
+use Rattle.hub_lane.proofs.GreetingPasses.{heard_none, heard_others, heard_status}
 use Rattle.hub_lane.proofs.greeting.listen.Goals as goal
 
 pub loop-other-init : goal.loop-other-init
@@ -21,7 +22,7 @@ pub loop-other-preserved : goal.loop-other-preserved
 loop-other-preserved g c =
     others_came c.loop-other.invariant c.args.settings c.in-Other.is c.requires.few_gots c.loop-other-test.true
     c.in_ok-status.ensures.receives c.in_ok-status.ensures.told c.in_ok-status.ensures.counted
-    c.hear_once.ensures.faults c.hear_once.ensures.held
+    c.hear_once.ensures.faults c.hear_once.ensures.held c.in_ok-status.ensures.passed
 
 pub returns-in_err-status-clause-fresh : goal.returns-in_err-status-clause-fresh
 returns-in_err-status-clause-fresh g c =
@@ -111,3 +112,18 @@ returns-clause-ended g c =
 pub returns-clause-counts : goal.returns-clause-counts
 returns-clause-counts g c =
     counts_others c.loop-other.invariant c.loop-other.auto.other-end
+
+pub returns-in_err-status-clause-passed : goal.returns-in_err-status-clause-passed
+returns-in_err-status-clause-passed g c = IfOk-from_err c.from_residual.result _ c.from_residual.ensures.0
+
+pub returns-in-Told-clause-passed : goal.returns-in-Told-clause-passed
+returns-in-Told-clause-passed g c =
+    heard_status c.loop-other.invariant.passed c.loop-other-test.true c.in-Told.is c.in_ok-status.ensures.passed
+
+pub returns-in-Nothing-clause-passed : goal.returns-in-Nothing-clause-passed
+returns-in-Nothing-clause-passed g c =
+    heard_none c.loop-other.invariant.passed c.loop-other-test.true c.in-Nothing.is c.in_ok-status.ensures.passed
+
+pub returns-clause-passed : goal.returns-clause-passed
+returns-clause-passed g c =
+    heard_others c.loop-other.invariant.passed c.loop-other-test.false c.loop-other.auto.other-end

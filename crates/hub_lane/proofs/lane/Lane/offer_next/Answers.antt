@@ -15,11 +15,15 @@ use Rattle.hub_lane.specs.Rounds.{HasPaid, RoundAfter, Sends, round_of}
 use Rattle.hub_lane.proofs.Links.{on_any_err, same_entries}
 use Rattle.hub_lane.proofs.InRounds.{offered_round, same_lane_sends}
 use Rattle.ipb_base.specs.Numbers.{payload_of}
-use Rattle.hub_lane.proofs.Lanes.{body_sendable, found_fits, lane_asks, lane_still}
+use Rattle.hub_lane.proofs.Lanes.{asked_claims, body_sendable, claim_of, found_fits, lane_asks, lane_still}
 use Rattle.hub_lane.proofs.Rounds.{pays_asked}
 use Rattle.hub_lane.proofs.Datagrams.{asked_unheard, heard_asked}
 use Rattle.hub_lane.proofs.Listened.{listened_asked}
 use Rattle.lane_tables.specs.OutcomeTable.{TableState}
+use Rattle.lane_record.specs.Claims.{claims}
+use Rattle.reliable_engine.specs.MachineRuns.{Offer}
+use Rattle.hub_lane.specs.Run.{HasRun}
+use Rattle.hub_lane.proofs.LaneRuns.{run_asked, run_claims}
 use Rattle.hub_lane.proofs.lane.Lane.offer_next.Goals as goal
 
 pub invariant_of-self-2 : goal.invariant_of-self-2
@@ -78,6 +82,13 @@ invariant_of-self-2 g c =
           (record { tag = length l.outcomes.items; body = c.in_ok-body.body }) l.outcomes.items
           c.offer.new.self.items l.outcomes.lates c.offer.new.self.lates l.give_ups (receives_in (g.L.Link.traffic l.link)) hub_is
           c.in_ok-offer.ensures.items c.in_ok-offer.ensures.lates c.self.invariant.3,
+      run_asked c.laws_of_runs.ensures l.down (claim_of client seq l.give_ups c.in_ok-body.body)
+          (length l.outcomes.items) c.if-self.false
+          (ap claims entry ∙ asked_claims items client seq l.give_ups c.in_ok-body.body there)
+          c.self.invariant.0.agrees.counts.each hub_is
+          (c.add_ask.ensures ∙ (ap (λ (n : ℕ). if l.down then l.run else l.run ++ Offer n c.of-offered.result.value ∷ [])
+          c.len-tag.ensures.count ∙ ap (λ (body : List ℕ). if l.down then l.run
+          else l.run ++ Offer (length l.outcomes.items) body ∷ []) c.of-offered.ensures)) can c.self.invariant.4,
     )
 
 pub offer-requires : goal.offer-requires
@@ -118,6 +129,7 @@ invariant_of-self g c = (
   c.self.invariant.1,
   c.self.invariant.2,
   c.self.invariant.3,
+  run_claims (ap claims c.reserve.ensures.items) c.self.invariant.4,
 )
 
 pub invariant_of-self-in_err-offer : goal.invariant_of-self-in_err-offer
@@ -131,7 +143,8 @@ invariant_of-self-in_err-offer g c =
     × IfSome (link.telling l.link) (HasPaid (l.down || l.spent) l.mtu l.settings.rounds l.give_ups hub
     (link.held l.link))
     × HasHeard table.items (link.gots l.link)
-    × HasListened status hub table.items table.lates l.give_ups (receives_in (link.traffic l.link)) in
+    × HasListened status hub table.items table.lates l.give_ups (receives_in (link.traffic l.link))
+    × HasRun l.settings status hub items l.down l.spent l.run (link.traffic l.link) in
     subst (λ (hub : Hub). holds hub c.offer.new.self c.reserve.new.self.items) (sym c.in_err-offer.ensures.same_engine)
     (subst (λ (table : TableState). holds l.engine table c.reserve.new.self.items)
     (sym c.in_err-offer.ensures.unchanged)
@@ -154,6 +167,7 @@ returns-in_err-offer-clause-round g c =
       outcomes = c.offer.new.self.items;
       lates = c.offer.new.self.lates;
       give_ups = l.give_ups;
+      run = l.run;
       down = l.down;
       spent = l.spent;
     }) c.in_ok-reserve.ensures.items ∙ (ap (λ (table : TableState). record {
@@ -165,6 +179,7 @@ returns-in_err-offer-clause-round g c =
       outcomes = table.items;
       lates = table.lates;
       give_ups = l.give_ups;
+      run = l.run;
       down = l.down;
       spent = l.spent;
     }) c.in_err-offer.ensures.unchanged ∙ (ap (λ (hub : Hub). record {
@@ -176,6 +191,7 @@ returns-in_err-offer-clause-round g c =
       outcomes = l.outcomes.items;
       lates = l.outcomes.lates;
       give_ups = l.give_ups;
+      run = l.run;
       down = l.down;
       spent = l.spent;
     }) c.in_err-offer.ensures.same_engine ∙ c.self.view_is)))

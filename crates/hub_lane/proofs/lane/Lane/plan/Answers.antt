@@ -7,6 +7,9 @@ use Rattle.hub_lane.specs.Lanes.{BoardStatus, IsLane, LaneState}
 use Rattle.hub_lane.specs.Plans.{CanPlan}
 use Rattle.hub_lane.proofs.Lanes.{lane_entry, lane_still}
 use Rattle.hub_lane.proofs.Links.{on_any_err, same_entries}
+use Rattle.lane_record.specs.Claims.{claims}
+use Rattle.lane_tables.proofs.AskedRows.{same_claims}
+use Rattle.hub_lane.proofs.LaneRuns.{run_claims}
 use Rattle.hub_lane.proofs.lane.Lane.plan.Goals as goal
 
 -- what is refused leaves the lane the same
@@ -16,6 +19,7 @@ invariant_of-self g c = (
   c.self.invariant.1,
   c.self.invariant.2,
   c.self.invariant.3,
+  run_claims (ap claims c.make_room.ensures.items) c.self.invariant.4,
 )
 
 pub invariant_of-self-in_err-plan : goal.invariant_of-self-in_err-plan
@@ -24,6 +28,7 @@ invariant_of-self-in_err-plan g c = (
   c.self.invariant.1,
   c.self.invariant.2,
   c.self.invariant.3,
+  run_claims (ap claims (c.in_err-plan.ensures.unchanged ∙ c.make_room.ensures.items)) c.self.invariant.4,
 )
 
 pub returns-in_err-make_room-clause-unchanged : goal.returns-in_err-make_room-clause-unchanged
@@ -60,4 +65,5 @@ invariant_of-self-2 g c =
       c.self.invariant.1,
       c.self.invariant.2,
       c.self.invariant.3,
+      run_claims (ap claims entry ∙ same_claims items x refl) c.self.invariant.4,
     )

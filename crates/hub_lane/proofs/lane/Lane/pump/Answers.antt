@@ -23,6 +23,7 @@ use Rattle.hub_lane.proofs.InRounds.{lane_round, same_lane_idle}
 use Rattle.hub_lane.proofs.Links.{did_not_go_down, if_both, is_spent, nothing_counted, pumps_as, same_opening}
 use Rattle.hub_lane.proofs.Links.{same_record, still_as_down, went_down}
 use Rattle.hub_lane.proofs.Steps.{same_record as same_lane}
+use Rattle.hub_lane.proofs.LaneRuns.{runs_on}
 use Rattle.hub_lane.proofs.lane.Lane.pump.Goals as goal
 
 pub invariant_of-self : goal.invariant_of-self
@@ -49,6 +50,9 @@ invariant_of-self g c =
       pump_listened laws c.if-self-2.false c.if-self.false c.self.invariant.0 c.exchange.new.buffer.items
           c.in-Ok.pumped (sym c.waiting.ensures ∙ c.if-not-waiting.false) settled.event settled.hub settled.outcomes
           settled.lates settled.give_ups c.in-Ok.ensures.received.receives c.self.invariant.3,
+      runs_on c.laws_of_runs.ensures c.if-self-2.false c.if-self.false
+          (ap (λ (b : Bool). b || l.spent) c.if-self-2.false ∙ c.if-self.false) c.self.invariant.4
+          c.in-Ok.ensures.ran,
     )
 
 pub invariant_of-self-in-Err-Failed : goal.invariant_of-self-in-Err-Failed
@@ -72,6 +76,7 @@ invariant_of-self-in-Err-Failed g c =
       listened_sent unsettled.sent unsettled.give_ups
           (lost_answers laws.lost_adds c.sent.result unsettled.outcomes c.lose_all.ensures.outcomes
           (c.lose_all.ensures.lates ∙ unsettled.lates)) c.exchange.ensures.counts.receives c.self.invariant.3,
+      runs_on c.laws_of_runs.ensures c.if-self-2.false c.if-self.false refl c.self.invariant.4 c.in-Err-Failed.ensures.cut,
     )
 
 pub invariant_of-self-in-Err-NoMemory : goal.invariant_of-self-in-Err-NoMemory
@@ -94,6 +99,8 @@ invariant_of-self-in-Err-NoMemory g c =
           c.exchange.ensures.counts.gots unsettled.outcomes c.self.invariant.2,
       listened_sent unsettled.sent unsettled.give_ups (same_answers unsettled.outcomes unsettled.lates)
           c.exchange.ensures.counts.receives c.self.invariant.3,
+      runs_on c.laws_of_runs.ensures c.if-self-2.false c.if-self.false
+          (ap (λ (b : Bool). b || true) c.if-self-2.false) c.self.invariant.4 c.in-Err-NoMemory.ensures.cut,
     )
 
 pub returns-in-Ok-clause-same : goal.returns-in-Ok-clause-same

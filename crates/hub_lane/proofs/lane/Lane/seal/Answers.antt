@@ -1,8 +1,11 @@
-use Rattle.std.proofs.Common.{◌∙◌, List, sym, subst, refl}
+use Rattle.std.proofs.Common.{◌∙◌, List, ap, sym, subst, refl}
 use Rattle.lane_record.specs.declared.item.Item.{Item}
 use Rattle.lane_record.specs.NextEntry.{the_seal}
 use Rattle.hub_lane.specs.Lanes.{BoardStatus, IsLane}
 use Rattle.hub_lane.proofs.Lanes.{lane_entry}
+use Rattle.lane_record.specs.Claims.{claims}
+use Rattle.lane_tables.proofs.AskedRows.{same_claims}
+use Rattle.hub_lane.proofs.LaneRuns.{run_claims}
 use Rattle.hub_lane.proofs.lane.Lane.seal.Goals as goal
 
 pub invariant_of-self : goal.invariant_of-self
@@ -20,4 +23,5 @@ invariant_of-self g c =
       c.self.invariant.1,
       c.self.invariant.2,
       c.self.invariant.3,
+      run_claims (ap claims c.seal.ensures ∙ same_claims l.book.items the_seal refl) c.self.invariant.4,
     )

@@ -12,6 +12,7 @@ use Rattle.hub_lane.proofs.Pumps.{lost_keeps, pump_down, pump_sent, pump_spent}
 use Rattle.hub_lane.proofs.Rounds.{pays_pumped, pays_stopped, still_up}
 use Rattle.hub_lane.proofs.InRounds.{lane_round}
 use Rattle.hub_lane.proofs.Links.{did_not_go_down, same_opening, same_record, went_down}
+use Rattle.hub_lane.proofs.LaneRuns.{runs_on}
 use Rattle.hub_lane.proofs.lane.Lane.send_wanted.Goals as goal
 
 pub invariant_of-self : goal.invariant_of-self
@@ -33,6 +34,8 @@ invariant_of-self g c =
       heard_still l.outcomes.items (g.L.Link.gots l.link) (g.L.Link.gots c.send_all.new.link)
           (let same = sent.unreceived.gots in omega (arith, same)) refl c.self.invariant.2,
       listened_sent sent.some refl (same_answers refl refl) (same_prefix sent.unreceived.receives) c.self.invariant.3,
+      runs_on c.laws_of_runs.ensures c.if-self-2.false up (ap (λ (b : Bool). b || l.spent) c.if-self-2.false ∙ up)
+          c.self.invariant.4 c.in-Ok.ensures.ran,
     )
 
 pub invariant_of-self-in-Err-Failed : goal.invariant_of-self-in-Err-Failed
@@ -52,6 +55,7 @@ invariant_of-self-in-Err-Failed g c =
       listened_sent sent.some refl
           (lost_answers laws.lost_adds c.sent.result refl c.lose_all.ensures.outcomes c.lose_all.ensures.lates)
           (same_prefix sent.unreceived.receives) c.self.invariant.3,
+      runs_on c.laws_of_runs.ensures c.if-self-2.false up refl c.self.invariant.4 c.in-Err-Failed.ensures.cut,
     )
 
 pub invariant_of-self-in-Err-NoMemory : goal.invariant_of-self-in-Err-NoMemory
@@ -71,6 +75,8 @@ invariant_of-self-in-Err-NoMemory g c =
       heard_still l.outcomes.items (g.L.Link.gots l.link) (g.L.Link.gots c.send_all.new.link)
           (let same = sent.unreceived.gots in omega (arith, same)) refl c.self.invariant.2,
       listened_sent sent.some refl (same_answers refl refl) (same_prefix sent.unreceived.receives) c.self.invariant.3,
+      runs_on c.laws_of_runs.ensures c.if-self-2.false up (ap (λ (b : Bool). b || true) c.if-self-2.false)
+          c.self.invariant.4 c.in-Err-NoMemory.ensures.cut,
     )
 
 pub returns-in-Ok-clause-round : goal.returns-in-Ok-clause-round

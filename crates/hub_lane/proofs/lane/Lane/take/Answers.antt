@@ -12,6 +12,8 @@ use Rattle.hub_lane.specs.Lanes.{BoardStatus, IsLane, LaneState}
 use Rattle.hub_lane.proofs.Lanes.{lane_entry, lane_still}
 use Rattle.hub_lane.proofs.Links.{on_any_err, same_entries}
 use Rattle.hub_lane.proofs.Steps.{asked_below}
+use Rattle.lane_tables.proofs.AskedRows.{same_claims}
+use Rattle.hub_lane.proofs.LaneRuns.{run_claims}
 use Rattle.hub_lane.proofs.lane.Lane.take.Goals as goal
 
 -- a body that was asked has an Ask
@@ -67,6 +69,7 @@ invariant_of-self g c = (
   c.self.invariant.1,
   c.self.invariant.2,
   c.self.invariant.3,
+  run_claims (ap claims c.reserve.ensures.items) c.self.invariant.4,
 )
 
 pub invariant_of-self-2 : goal.invariant_of-self-2
@@ -98,6 +101,7 @@ invariant_of-self-2 g c =
       c.self.invariant.1,
       c.self.invariant.2,
       c.self.invariant.3,
+      run_claims (ap claims entry ∙ same_claims items x refl) c.self.invariant.4,
     )
 
 pub returns-clause-taken : goal.returns-clause-taken
@@ -128,6 +132,7 @@ returns-clause-taken g c =
       outcomes = outcomes;
       lates = l.outcomes.lates;
       give_ups = l.give_ups;
+      run = l.run;
       down = l.down;
       spent = l.spent;
     }) answer) c.self.view_is (record {
@@ -144,6 +149,7 @@ returns-clause-taken g c =
         outcomes = outcomes;
         lates = l.outcomes.lates;
         give_ups = l.give_ups;
+        run = l.run;
         down = l.down;
         spent = l.spent;
       }) entry;
