@@ -4,3 +4,5 @@ mod Reading
 mod States
 mod Receives
 mod Calls
+pub mod Sockets
+mod GonePast

@@ -6,3 +6,5 @@ pub mod Handed
 pub mod States
 pub mod Racks
 pub mod Waits
+pub mod Sockets
+pub mod Finds

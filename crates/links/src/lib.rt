@@ -6,6 +6,7 @@
 //! `world_model`.
 #![tactic(auto)]
 
+mod finding;
 mod found;
 pub mod laws;
 mod link;
@@ -13,10 +14,12 @@ mod message;
 mod rack;
 mod receive_log;
 mod sending;
+mod socket;
 mod spec_log;
 mod waiter;
 
 pub use board_specs::{BoardSpec, LinkSpec};
+pub use finding::{Sight, find_next};
 pub use found::{Found, what_was_found_is_read_back};
 pub use ipb_base::{NoMemory, Words};
 pub use link::{LIFETIME, Link, LinkFault, MAX_DATAGRAM, Received};
@@ -25,6 +28,7 @@ pub use rack::{Rack, RackFault};
 pub use receive_log::ReceiveLog;
 pub use reliable_engine::{Engine, Sending};
 pub use sending::{append_sending, write_sending};
+pub use socket::DatagramSocket;
 pub use spec_log::SpecLog;
 pub use status_packet::Status;
 pub use waiter::{MOST_FROM_ELSEWHERE, Sighting, Waiter};
