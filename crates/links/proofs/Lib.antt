@@ -5,3 +5,5 @@ mod Reading
 mod States
 mod Receives
 mod Calls
+pub mod Sockets
+mod GonePast

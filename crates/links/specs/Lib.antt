@@ -9,3 +9,5 @@ pub mod Racks
 pub mod Waits
 pub mod GhostLists
 pub mod TrafficLogs
+pub mod Sockets
+pub mod Finds

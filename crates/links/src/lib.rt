@@ -6,6 +6,7 @@
 //! `world_model`.
 #![tactic(auto)]
 
+mod finding;
 mod found;
 mod ghost_list;
 pub mod laws;
@@ -13,11 +14,13 @@ mod link;
 mod message;
 mod rack;
 mod sending;
+mod socket;
 mod spec_log;
 mod traffic_log;
 mod waiter;
 
 pub use board_specs::{BoardSpec, LinkSpec};
+pub use finding::{Sight, find_next};
 pub use found::{Found, what_was_found_is_read_back};
 pub use ghost_list::GhostList;
 pub use ipb_base::{NoMemory, Words};
@@ -26,6 +29,7 @@ pub use message::{Message, read_for_hub};
 pub use rack::{Rack, RackFault};
 pub use reliable_engine::{Engine, Sending};
 pub use sending::{append_sending, write_sending};
+pub use socket::DatagramSocket;
 pub use spec_log::SpecLog;
 pub use status_packet::Status;
 pub use traffic_log::TrafficLog;

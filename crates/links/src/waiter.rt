@@ -1,9 +1,9 @@
 //! What waits for the next datagram of a link beside it, so that a thread can wait for a board and hold no lane
 //! meanwhile. It stands below all that knows of a link, since each says that a link may have it; only a link over UDP
 //! makes one.
+use crate::finding::find_next;
 use crate::found::Found;
 use std::alloc::{AllocError, Global};
-use std::io::ErrorKind;
 use std::net::{SocketAddr, UdpSocket};
 use std::sync::Arc;
 use std::sync::atomic::{AtomicU64, Ordering};
@@ -89,18 +89,9 @@ impl Waiter {
     /// time that the link waits and nothing was sent in that time. False where it still cannot; then it is asked again.
     pub fn wait(&self) -> bool {
         self.sighting.see(Found::Nothing);
-        let silence = Found::Silence {
-            sends: self.sighting.sends(),
-        };
-        for _ in 0..MOST_FROM_ELSEWHERE {
-            match self.peek() {
-                Peeked::Arrival => return self.sighting.see(Found::Arrival),
-                Peeked::Nothing => return self.sighting.see(silence),
-                Peeked::Elsewhere => self.drop_next(),
-                Peeked::Signal => {}
-            }
-        }
-        self.sighting.see(silence)
+        let sends = self.sighting.sends();
+        let mut socket = &self.socket;
+        self.sighting.see(find_next(&mut socket, self.board, sends))
     }
 
     /// Whether the link's next receive can still answer at once. A receive uses up what `wait` found, and a send makes
@@ -108,38 +99,4 @@ impl Waiter {
     pub fn is_ready(&self) -> bool {
         self.sighting.is_ready()
     }
-
-    // Looks for the next datagram, as long as the socket waits.
-    fn peek(&self) -> Peeked {
-        let mut first = [0; 1];
-        match self.socket.peek_from(&mut first) {
-            Ok((_, from)) if from == self.board => Peeked::Arrival,
-            Ok(_) => Peeked::Elsewhere,
-            Err(error) => match error.kind() {
-                ErrorKind::Interrupted => Peeked::Signal,
-                ErrorKind::WouldBlock | ErrorKind::TimedOut => Peeked::Nothing,
-                // the link's receive meets it too, and counts it
-                _ => Peeked::Arrival,
-            },
-        }
-    }
-
-    // Drops the datagram that is there. It is from elsewhere, unless another thread received that one meanwhile; then
-    // a datagram of the board may be lost, as the network may lose any.
-    fn drop_next(&self) {
-        let mut first = [0; 1];
-        let _ = self.socket.recv_from(&mut first);
-    }
-}
-
-// What one look of the socket came to.
-enum Peeked {
-    // a datagram from the board, or an error
-    Arrival,
-    // a datagram from another address or port
-    Elsewhere,
-    // a signal interrupted the look
-    Signal,
-    // none in the time that the socket waits
-    Nothing,
 }

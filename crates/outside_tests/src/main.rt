@@ -5,6 +5,8 @@
 #[cfg(test)]
 mod bytes;
 #[cfg(test)]
+mod fake_tests;
+#[cfg(test)]
 mod kept_tests;
 #[cfg(test)]
 mod notes_tests;

@@ -1,4 +1,5 @@
 pub mod Numbers
+pub mod Listeners
 pub mod Places
 pub mod States
 pub mod Errors

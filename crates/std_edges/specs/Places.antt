@@ -1,22 +1,17 @@
 -- Where sockets stand: an IPv4 address and a port. Profile.
 use Rattle.std.specs.Prelude.{◌≡◌, ℕ, List, [], ◌∷◌, Option, Some, None}
-use Rattle.std.specs.Net.Addr.{ipv4_octets}
-use Rattle.std.specs.Net.Socket.{v4_ip, socket_port}
+use Rattle.std.specs.Net.Socket.{socket_port}
 use Rattle.std.specs.declared.net.socket_addr.SocketAddr.{SocketAddr}
-use Rattle.std.specs.declared.net.socket_addr.SocketAddr.TheVariants.{V4, V6}
+use Rattle.links.specs.Sockets.{At, place_of}
+use Rattle.std_edges.specs.Listeners.{ListenerState}
 
--- the four numbers of an IPv4 address, the most significant first; no socket here has an IPv6 address
-abbrev pub octets_of : SocketAddr → List ℕ
-octets_of (V4 place) = ipv4_octets (v4_ip place)
-octets_of (V6 place) = []
-
--- the place is this port of this IPv4 address
+-- the place is this port of this IPv4 address, whose most significant number is the first
 abbrev pub IsAt : List ℕ → ℕ → SocketAddr → Type 0
-IsAt address port place = (octets_of place ≡ address) × (socket_port place ≡ port)
+IsAt address port place = place_of place ≡ At address port
 
--- the ports of a door that listens at this place, if it does
-abbrev pub ports_at : Option SocketAddr → List ℕ
-ports_at (Some place) = socket_port place ∷ []
+-- the ports of a door that has this listener, if it has one
+abbrev pub ports_at : Option ListenerState → List ℕ
+ports_at (Some listener) = socket_port listener.place ∷ []
 ports_at None = []
 
 -- 0.0.0.0, which stands for every IPv4 address of the machine

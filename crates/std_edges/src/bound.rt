@@ -1,10 +1,15 @@
-//! Sockets, and where and how they were bound. No clause sees what std does: these few lines hand it what clauses say.
+//! Sockets, and where and how they were bound.
 
-ghost use Rattle.std.specs.Prelude.{◌≡◌, IfOk};
+ghost use Rattle.std.specs.Prelude.{◌≡◌, ◌≤◌, [], ◌∷◌, IfOk, IfSome, MatchResult, length};
 ghost use Rattle.std.specs.Duration.{as_nanos};
+ghost use Rattle.links.specs.Sockets.{At, came_of, place_of, Receive, SendTo};
+ghost use Rattle.std_edges.specs.Listeners.{LetsIn};
 ghost use Rattle.std_edges.specs.Numbers.{wait_nanos};
 ghost use Rattle.std_edges.specs.Places.{IsAt, every_address, any_port};
+ghost use Rattle.std_edges.specs.States.{socket_after, told_at_first};
 
+use crate::link_socket::LinkSocket;
+use crate::listener::Listener;
 use crate::places::port_everywhere;
 use std::io;
 use std::marker::Model;
@@ -13,28 +18,32 @@ use std::time::Duration;
 
 /// A UDP socket that was bound here, of which one receive waits for so long. Contracts see a `SocketState`.
 #[derive(Drop)]
-pub(crate) struct BoundSocket {
-    socket: UdpSocket,
+pub(crate) struct BoundSocket<S: LinkSocket + Drop> {
+    socket: S,
     place: SocketAddr,
     wait: Duration,
 }
 
-impl Model for BoundSocket {
+impl<S: LinkSocket + Drop> Model for BoundSocket<S> {
     ghost use Rattle.std.specs.Duration.{as_nanos};
     ghost use Rattle.std_edges.specs.States.{SocketState};
 
     ghost Value = { SocketState };
 
-    ghost view = { λ bound. record { place = bound.place; wait = as_nanos bound.wait } };
+    ghost view = { λ bound. record { place = bound.place; wait = as_nanos bound.wait; told = S.told bound.socket } };
 }
 
-impl BoundSocket {
-    // Hands both to std.
-    fn new<R: Net>(rt: &R, place: SocketAddr, wait: Duration) -> io::Result<BoundSocket>
-        ensures { IfOk result (λ bound. bound ≡ record { place = place; wait = as_nanos wait }) }
+impl<S: LinkSocket + Drop> BoundSocket<S> {
+    // Hands both to the socket.
+    fn new<R: Net>(rt: &R, place: SocketAddr, wait: Duration) -> io::Result<BoundSocket<S>>
+        ensures { IfOk result (λ bound. bound ≡ record {
+          place = place;
+          wait = as_nanos wait;
+          told = told_at_first S.tells (place_of place) (as_nanos wait);
+        }) }
     {
-        let socket = UdpSocket::bind(rt, place)?;
-        socket.set_read_timeout(Some(wait))?;
+        let mut socket = S::bind_at(rt, place)?;
+        socket.set_wait(wait)?;
         Ok(BoundSocket {
             socket,
             place,
@@ -42,17 +51,37 @@ impl BoundSocket {
         })
     }
 
-    /// The socket that is bound.
-    pub(crate) fn socket(&self) -> &UdpSocket {
-        &self.socket
+    /// Hands a datagram over that is to go to this place.
+    pub(crate) fn send(&mut self, bytes: &[u8], to: SocketAddr) -> io::Result<usize>
+        ensures { self.new ≡ socket_after (SendTo (place_of to) bytes.now ∷ []) self.old }
+    {
+        self.socket.send_datagram(bytes, to)
+    }
+
+    /// Takes the next datagram.
+    pub(crate) fn receive(&mut self, into: &mut [u8]) -> io::Result<(usize, SocketAddr)>
+        ensures within { IfOk result (λ got. got.0 ≤ length into.new) }
+        ensures called { self.new ≡ socket_after (Receive (came_of result into.new) ∷ []) self.old }
+    {
+        self.socket.receive_datagram(into)
+    }
+
+    /// Another handle of it.
+    pub(crate) fn other_handle(&self) -> Option<UdpSocket> {
+        self.socket.other_handle()
     }
 }
 
 /// A socket of any port at every IPv4 address, of which one receive waits for so many milliseconds, and for 1 where
 /// that is 0.
-pub(crate) fn socket_that_waits<R: Net>(rt: &R, milliseconds: u32) -> io::Result<BoundSocket>
+pub(crate) fn socket_that_waits<S: LinkSocket + Drop, R: Net>(
+    rt: &R,
+    milliseconds: u32,
+) -> io::Result<BoundSocket<S>>
     ensures place { IfOk result (λ bound. IsAt every_address any_port bound.place) }
     ensures wait { IfOk result (λ bound. bound.wait ≡ wait_nanos milliseconds) }
+    ensures told { IfOk result (λ bound. bound.told
+        ≡ told_at_first S.tells (At every_address any_port) (wait_nanos milliseconds)) }
 {
     BoundSocket::new(rt, port_everywhere(0), time_of(milliseconds))
 }
@@ -64,45 +93,52 @@ fn time_of(milliseconds: u32) -> Duration
     Duration::from_millis(u64::from(milliseconds.max(1)))
 }
 
-/// A TCP listener that was bound here. Contracts see where.
+/// A TCP listener that was bound here. Contracts see a `ListenerState`.
 #[derive(Drop)]
-pub(crate) struct BoundListener {
-    listener: TcpListener,
+pub(crate) struct BoundListener<A: Listener + Drop> {
+    listener: A,
     place: SocketAddr,
 }
 
-impl Model for BoundListener {
-    ghost use Rattle.std.specs.declared.net.socket_addr.SocketAddr.{SocketAddr};
+impl<A: Listener + Drop> Model for BoundListener<A> {
+    ghost use Rattle.std_edges.specs.Listeners.{ListenerState};
 
-    ghost Value = { SocketAddr };
+    ghost Value = { ListenerState };
 
-    ghost view = { λ bound. bound.place };
+    ghost view = { λ bound. record { place = bound.place; told = A.told bound.listener } };
 }
 
-impl BoundListener {
-    // Hands the place to std.
+impl<A: Listener + Drop> BoundListener<A> {
+    // Hands the place to the listener.
     fn new<R: Net<Listener = TcpListener, Stream = TcpStream>>(
         rt: &R,
         place: SocketAddr,
-    ) -> io::Result<BoundListener>
-        ensures { IfOk result (λ bound. bound ≡ place) }
+    ) -> io::Result<BoundListener<A>>
+        ensures place { IfOk result (λ bound. bound.place ≡ place) }
+        ensures told { IfOk result (λ bound. IfSome bound.told (λ seen. seen.place ≡ place_of place)) }
     {
-        let listener = TcpListener::bind(rt, place)?;
+        let listener = A::listen_at(rt, place)?;
         Ok(BoundListener { listener, place })
     }
 
-    /// The listener that is bound.
-    pub(crate) fn listener(&self) -> &TcpListener {
-        &self.listener
+    /// Lets the next connection in.
+    pub(crate) fn let_in(&mut self) -> io::Result<A::Stream>
+        ensures place { self.new.place ≡ self.old.place }
+        ensures told { MatchResult result
+            (λ stream. LetsIn (A.Stream.remaining stream) self.old.told self.new.told)
+            (λ _. self.new.told ≡ self.old.told) }
+    {
+        self.listener.let_in()
     }
 }
 
 /// A listener of this port at every IPv4 address.
-pub(crate) fn listener_of_port<R: Net<Listener = TcpListener, Stream = TcpStream>>(
+pub(crate) fn listener_of_port<A: Listener + Drop, R: Net<Listener = TcpListener, Stream = TcpStream>>(
     rt: &R,
     port: u16,
-) -> io::Result<BoundListener>
-    ensures { IfOk result (λ place. IsAt every_address port place) }
+) -> io::Result<BoundListener<A>>
+    ensures place { IfOk result (λ bound. IsAt every_address port bound.place) }
+    ensures told { IfOk result (λ bound. IfSome bound.told (λ seen. seen.place ≡ At every_address port)) }
 {
     BoundListener::new(rt, port_everywhere(port))
 }

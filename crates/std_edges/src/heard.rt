@@ -1,16 +1,20 @@
 //! What a receive of a socket came to.
 
-ghost use Rattle.std.specs.Prelude.{◌≡◌, ◌≢◌, ◌≤◌, ℕ, length, false, IfOk, IfErr, OnOk, OnErr, []};
+ghost use Rattle.std.specs.Prelude.{◌≡◌, ◌≤◌, ℕ, List, [], ◌∷◌, length, false, IsOkAnd, MatchOption, OnOk, OnErr};
 ghost use Rattle.std.specs.IoError.{raw_os_error};
+ghost use Rattle.links.specs.Sockets.{Came, came_of, place_of, Receive};
 ghost use Rattle.std_edges.specs.Errors.{is_passing, number_in};
-ghost use Rattle.std_edges.specs.Heard.{heard_by, datagram_in};
+ghost use Rattle.std_edges.specs.Heard.{datagram_in, Hears, IsHeardAs, IsLast, IsPassedOver, IsUnheardAs};
+ghost use Rattle.std_edges.specs.States.{socket_after};
 ghost use Rattle.std.specs.declared.io.Error.{Error};
 
+use crate::bound::BoundSocket;
 use crate::errors::is_passing_error;
+use crate::link_socket::LinkSocket;
 use ipb_base::NoMemory;
 use links::MOST_FROM_ELSEWHERE;
 use std::io::{self, ErrorKind};
-use std::net::{SocketAddr, UdpSocket};
+use std::net::SocketAddr;
 
 /// What one call of the socket came to, or those of one receive.
 #[derive(Drop)]
@@ -27,8 +31,8 @@ pub(crate) enum Heard {
 
 /// The next datagram from the board, past those from elsewhere and errors that pass, of which there may be 64. `passed`
 /// is the last such error.
-pub(crate) fn hear_board(
-    socket: &UdpSocket,
+pub(crate) fn hear_board<S: LinkSocket + Drop>(
+    socket: &mut BoundSocket<S>,
     board: SocketAddr,
     buf: &mut [u8],
     passed: &mut Option<io::Error>,
@@ -36,30 +40,48 @@ pub(crate) fn hear_board(
     ensures room { length buf.new ≡ length buf.old }
     ensures within { (count : ℕ) → result ≡ Heard.Board count → count ≤ length buf.new }
     ensures fault { (error : Error) → result ≡ Heard.Fault error → is_passing (number_in (raw_os_error error)) ≡ false }
+    ensures hears { Hears (place_of board) socket.old socket.new result buf.new }
 {
-    for _ in 0..MOST_FROM_ELSEWHERE {
-        match hear(socket, board, buf) {
-            Heard::Elsewhere => {}
-            Heard::Fault(error) if is_passing_error(&error) => *passed = Some(error),
-            heard => return heard,
+    for _past in 0..MOST_FROM_ELSEWHERE {
+        if let Some(heard) = last_of(hear(socket, board, buf), passed) {
+            return heard;
         }
     }
     Heard::Elsewhere
 }
 
+// What ends a receive. `None` for what it goes past: what is from elsewhere, and an error that passes.
+fn last_of(heard: Heard, passed: &mut Option<io::Error>) -> Option<Heard>
+    ensures { MatchOption result (IsPassedOver heard) (λ last. (last ≡ heard) × IsLast heard) }
+{
+    match heard {
+        Heard::Elsewhere => None,
+        Heard::Fault(error) if is_passing_error(&error) => {
+            *passed = Some(error);
+            None
+        }
+        heard => Some(heard),
+    }
+}
+
 // One call of the socket.
-fn hear(socket: &UdpSocket, board: SocketAddr, buf: &mut [u8]) -> Heard
+fn hear<S: LinkSocket + Drop>(
+    socket: &mut BoundSocket<S>,
+    board: SocketAddr,
+    buf: &mut [u8],
+) -> Heard
     ensures room { length buf.new ≡ length buf.old }
     ensures within { (count : ℕ) → result ≡ Heard.Board count → count ≤ length buf.new }
+    ensures heard { (came : Came) × (socket.new ≡ socket_after (Receive came ∷ []) socket.old)
+        × IsHeardAs (place_of board) came result buf.new }
 {
-    heard_as(socket.recv_from(buf), board)
+    heard_as(socket.receive(buf), board)
 }
 
 // What an answer of the socket is.
 fn heard_as(answer: io::Result<(usize, SocketAddr)>, board: SocketAddr) -> Heard
-    ensures board { IfOk answer (λ got. got.1 ≡ board → result ≡ Heard.Board got.0) }
-    ensures elsewhere { IfOk answer (λ got. got.1 ≢ board → result ≡ Heard.Elsewhere) }
-    ensures refused { IfErr answer (λ error. result ≡ heard_by error) }
+    ensures heard { (buffer : List ℕ) → IsHeardAs (place_of board) (came_of answer buffer) result buffer }
+    ensures count { (count : ℕ) → result ≡ Heard.Board count → IsOkAnd answer (λ got. count ≡ got.0) }
 {
     match answer {
         Ok((count, from)) => {
@@ -75,7 +97,7 @@ fn heard_as(answer: io::Result<(usize, SocketAddr)>, board: SocketAddr) -> Heard
 
 // What an error is.
 fn unheard(error: io::Error) -> Heard
-    ensures { result ≡ heard_by error }
+    ensures { IsUnheardAs error result }
 {
     match error.kind() {
         // a process that is stopped and goes on has lost nothing

@@ -1,7 +1,7 @@
 //! Standard input as a source, standard output as a sink. Neither tells its bytes to the layers above, since a reader
 //! or a writer may tell nothing and then something; what those of a test tell is handed on by clauses of their own.
 
-ghost use Rattle.std.specs.Prelude.{◌≡◌, ◌<◌, ◌≤◌, false, true, Ok, None, IfOk, length, IsErr};
+ghost use Rattle.std.specs.Prelude.{◌≡◌, ◌<◌, ◌≤◌, ℕ, List, Option, false, true, Ok, None, IfOk, length, IsErr};
 ghost use Rattle.std.specs.Io.KnownBytes.{IsAtEnd, ReadConsumes, WriteAppends};
 ghost use Rattle.ipb_outside.specs.Faults.{RisesExactlyIf};
 ghost use Rattle.ipb_outside.specs.Told.{Reads, Writes};
@@ -56,15 +56,43 @@ impl<R: Input> Source for StdinSource<R> {
     }
 }
 
-/// Standard output of a runtime, as a writer of std, which does not tell what it wrote.
+/// What bytes are printed to. It may tell them, as one of a test does. Standard output tells nothing.
+pub trait Output {
+    /// The bytes that were printed so far, where it tells them.
+    ghost printed: { Self → Option (List ℕ) };
+
+    /// Prints some bytes from the front of these, and answers how many. An error printed none.
+    fn print_some(&mut self, bytes: &[u8]) -> io::Result<usize>
+        ensures within { IfOk result (λ count. count ≤ length bytes.now) }
+        ensures printed { WriteAppends (printed self.old) (printed self.new) result bytes.now };
+}
+
+/// Standard output of a runtime.
 #[derive(Drop)]
-pub struct Printed<R: Print + Drop> {
+pub struct StandardOutput<R: Print + Drop> {
     rt: R,
 }
 
-impl<R: Print + Drop> Write for Printed<R> {
+// What follows is what no contract sees: the call of std.
+impl<R: Print + Drop> Output for StandardOutput<R> {
+    ghost printed = { λ _. None };
+
+    fn print_some(&mut self, bytes: &[u8]) -> io::Result<usize> {
+        self.rt.write_some(bytes)
+    }
+}
+
+/// An output as a writer of std: each of its writes is one print of the same bytes.
+#[derive(Drop)]
+pub struct Printed<W: Output + Drop> {
+    to: W,
+}
+
+impl<W: Output + Drop> Write for Printed<W> {
+    ghost contents = { λ printed. W.printed printed.to };
+
     fn write(&mut self, buf: &[u8]) -> io::Result<usize> {
-        self.rt.write_some(buf)
+        self.to.print_some(buf)
     }
 
     /// Nothing is held back.
@@ -90,12 +118,21 @@ impl<W: Write + Drop> Model for StdoutSink<W> {
     ghost view = { λ sink. record { contents = W.contents sink.writer; faults = sink.faults; ended = sink.ended } };
 }
 
-impl<R: Print + Drop> StdoutSink<Printed<R>> {
+impl<R: Print + Drop> StdoutSink<Printed<StandardOutput<R>>> {
     /// Standard output of the runtime, as a sink that met no error yet and was not ended.
-    pub fn new(rt: R) -> StdoutSink<Printed<R>>
+    pub fn new(rt: R) -> StdoutSink<Printed<StandardOutput<R>>>
         ensures { result ≡ record { contents = None; faults = 0; ended = false } }
     {
-        StdoutSink::over(Printed { rt })
+        StdoutSink::printing(StandardOutput { rt })
+    }
+}
+
+impl<W: Output + Drop> StdoutSink<Printed<W>> {
+    /// An output in place of standard output, as a sink that met no error yet and was not ended.
+    pub fn printing(to: W) -> StdoutSink<Printed<W>>
+        ensures { result ≡ record { contents = W.printed to; faults = 0; ended = false } }
+    {
+        StdoutSink::over(Printed { to })
     }
 }
 

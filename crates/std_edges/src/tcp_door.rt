@@ -1,15 +1,18 @@
 //! A TCP port that lets connections in.
 
-ghost use Rattle.std.specs.Prelude.{◌≡◌, ◌≤◌, None, IfOk, OnOk, OnErr, IsSomeAnd, IsErr};
+ghost use Rattle.std.specs.Prelude.{◌≡◌, ◌≤◌, ◌+◌, None, IfOk, IfSome, OnOk, OnErr, IsSomeAnd, IsErr, MatchResult};
 ghost use Rattle.ipb_outside.specs.Faults.{RisesExactlyIf};
 ghost use Rattle.ipb_base.specs.Faults.{one_more};
-ghost use Rattle.ipb_outside.specs.Doors.{Opens};
+ghost use Rattle.ipb_outside.specs.Doors.{Accepts, Opens};
+ghost use Rattle.links.specs.Sockets.{At};
+ghost use Rattle.std_edges.specs.Listeners.{LetsIn, LosesOneAtMost, told_by};
 ghost use Rattle.std_edges.specs.Places.{IsAt, every_address, ports_at};
 
 use crate::bound::{BoundListener, listener_of_port};
 use crate::console::Console;
 use crate::counting::incremented;
 use crate::door_notes::{DoorNotes, SinkNotes};
+use crate::listener::{ClientStream, Listener};
 use crate::tcp::{TcpSink, TcpSource};
 use ipb_outside::{Door, Failed};
 use std::io::{self, ErrorKind};
@@ -17,42 +20,57 @@ use std::marker::Model;
 use std::net::{Net, TcpListener, TcpStream};
 
 /// A door on one TCP port of every IPv4 address of the machine. It does not tell its connections, and drops those that
-/// it takes back. Contracts see a `DoorState`.
+/// it takes back. It stands on any listener, so that a clause says what is handed on of one that tells its connections, as
+/// one of a test does. Contracts see a `DoorState`.
 #[derive(Drop)]
-pub struct TcpDoor<R: Net<Listener = TcpListener, Stream = TcpStream> + Drop> {
+pub struct TcpDoor<
+    R: Net<Listener = TcpListener, Stream = TcpStream> + Drop,
+    A: Listener + Drop = TcpListener,
+> {
     rt: R,
-    listener: Option<BoundListener>,
+    listener: Option<BoundListener<A>>,
     notes: Option<DoorNotes>,
     out: u64,
     faults: u64,
 }
 
-impl<R: Net<Listener = TcpListener, Stream = TcpStream> + Drop> Model for TcpDoor<R> {
+impl<R: Net<Listener = TcpListener, Stream = TcpStream> + Drop, A: Listener + Drop> Model
+    for TcpDoor<R, A>
+{
     ghost use Rattle.std_edges.specs.States.{DoorState};
 
     ghost Value = { DoorState };
 
-    ghost view = { λ door. record { place = door.listener; out = door.out; faults = door.faults } };
+    ghost view = { λ door. record { listener = door.listener; out = door.out; faults = door.faults } };
 }
 
-impl<R: Net<Listener = TcpListener, Stream = TcpStream> + Drop> TcpDoor<R> {
+impl<R: Net<Listener = TcpListener, Stream = TcpStream> + Drop> TcpDoor<R, TcpListener> {
     /// A door that does not listen yet.
-    pub fn new(rt: R) -> TcpDoor<R>
-        ensures { result ≡ record { place = None; out = 0; faults = 0 } }
+    pub fn new(rt: R) -> TcpDoor<R, TcpListener>
+        ensures { result ≡ record { listener = None; out = 0; faults = 0 } }
     {
-        TcpDoor::made(rt, None)
+        TcpDoor::over(rt)
     }
 
     /// A door that does not listen yet, is to let so many connections in, and says on standard error that it listens
     /// or why it cannot, that the last connection is there, and that the hub takes no more packets for a board.
-    pub fn with_notes(rt: R, console: Console, connections: u32) -> TcpDoor<R>
-        ensures { result ≡ record { place = None; out = 0; faults = 0 } }
+    pub fn with_notes(rt: R, console: Console, connections: u32) -> TcpDoor<R, TcpListener>
+        ensures { result ≡ record { listener = None; out = 0; faults = 0 } }
     {
         TcpDoor::made(rt, Some(DoorNotes::new(console, connections)))
     }
+}
 
-    fn made(rt: R, notes: Option<DoorNotes>) -> TcpDoor<R>
-        ensures { result ≡ record { place = None; out = 0; faults = 0 } }
+impl<R: Net<Listener = TcpListener, Stream = TcpStream> + Drop, A: Listener + Drop> TcpDoor<R, A> {
+    /// A door over a listener of any kind, that does not listen yet.
+    pub fn over(rt: R) -> TcpDoor<R, A>
+        ensures { result ≡ record { listener = None; out = 0; faults = 0 } }
+    {
+        TcpDoor::made(rt, None)
+    }
+
+    fn made(rt: R, notes: Option<DoorNotes>) -> TcpDoor<R, A>
+        ensures { result ≡ record { listener = None; out = 0; faults = 0 } }
     {
         TcpDoor {
             rt,
@@ -64,9 +82,10 @@ impl<R: Net<Listener = TcpListener, Stream = TcpStream> + Drop> TcpDoor<R> {
     }
 
     // A listener of the port, of a door that does not listen yet.
-    fn first_listener(&self, port: u16) -> io::Result<BoundListener>
-        ensures place { IfOk result (IsAt every_address port) }
-        ensures first { OnOk result (self.now.place ≡ None) }
+    fn first_listener(&self, port: u16) -> io::Result<BoundListener<A>>
+        ensures place { IfOk result (λ bound. IsAt every_address port bound.place) }
+        ensures told { IfOk result (λ bound. IfSome bound.told (λ seen. seen.place ≡ At every_address port)) }
+        ensures first { OnOk result (self.now.listener ≡ None) }
     {
         if self.listener.is_some() {
             return Err(io::Error::from(ErrorKind::AlreadyExists));
@@ -84,10 +103,14 @@ impl<R: Net<Listener = TcpListener, Stream = TcpStream> + Drop> TcpDoor<R> {
     }
 }
 
-impl<R: Net<Listener = TcpListener, Stream = TcpStream> + Drop> Door for TcpDoor<R> {
-    type Incoming = TcpSource;
+impl<R: Net<Listener = TcpListener, Stream = TcpStream> + Drop, A: Listener + Drop> Door
+    for TcpDoor<R, A>
+where
+    A::Stream: Send,
+{
+    type Incoming = TcpSource<A::Stream>;
 
-    type Outgoing = TcpSink;
+    type Outgoing = TcpSink<A::Stream>;
 
     ghost coming = { λ _. None };
 
@@ -95,18 +118,19 @@ impl<R: Net<Listener = TcpListener, Stream = TcpStream> + Drop> Door for TcpDoor
 
     ghost out = { λ door. door.out };
 
-    ghost ports = { λ door. ports_at door.place };
+    ghost ports = { λ door. ports_at door.listener };
 
     ghost faults = { λ door. door.faults };
 
     /// Listens on the port of the IPv4 address 0.0.0.0. `Failed` where the machine refuses that, as for a port in use, and
     /// where the door listens already.
     fn listen(&mut self, port: u16) -> Result<(), Failed>
-        ensures listens { OnOk result (IsSomeAnd self.new.place (IsAt every_address port)) }
-        ensures opened { Opens port (ports_at self.old.place) (ports_at self.new.place) result }
+        ensures listens { OnOk result (IsSomeAnd self.new.listener (λ bound. IsAt every_address port bound.place)) }
+        ensures handed { OnOk result (IfSome (told_by self.new.listener) (λ seen. seen.place ≡ At every_address port)) }
+        ensures opened { Opens port (ports_at self.old.listener) (ports_at self.new.listener) result }
         ensures faults { RisesExactlyIf (IsErr result) self.old.faults self.new.faults }
         ensures out_kept { self.new.out ≡ self.old.out }
-        ensures not_opened { OnErr result (self.new.place ≡ self.old.place) }
+        ensures not_opened { OnErr result (self.new.listener ≡ self.old.listener) }
     {
         match self.first_listener(port) {
             Ok(listener) => {
@@ -127,11 +151,20 @@ impl<R: Net<Listener = TcpListener, Stream = TcpStream> + Drop> Door for TcpDoor
 
     /// Waits for the next connection, for as long as that takes. `Failed` at an error, and where the door does not
     /// listen.
-    fn accept(&mut self) -> Result<(TcpSource, TcpSink), Failed> {
+    fn accept(&mut self) -> Result<(TcpSource<A::Stream>, TcpSink<A::Stream>), Failed>
+        ensures faults { RisesExactlyIf (IsErr result) self.old.faults self.new.faults }
+        ensures first { Accepts None None result }
+        ensures ports_kept { ports_at self.new.listener ≡ ports_at self.old.listener }
+        ensures counted { OnOk result (self.new.out ≡ self.old.out + 1) }
+        ensures not_counted { OnErr result (self.new.out ≡ self.old.out) }
+        ensures handed_on { MatchResult result
+            (λ connection. LetsIn connection.0.remaining (told_by self.old.listener) (told_by self.new.listener))
+            (λ _. LosesOneAtMost (told_by self.old.listener) (told_by self.new.listener)) }
+    {
         let Some(out) = self.out.checked_add(1) else {
             return Err(self.count_fault());
         };
-        match next_connection(self.listener.as_ref()) {
+        match next_connection(&mut self.listener) {
             Ok((incoming, outgoing)) => {
                 self.out = out;
                 let notes = note_accepted(&mut self.notes);
@@ -150,7 +183,7 @@ impl<R: Net<Listener = TcpListener, Stream = TcpStream> + Drop> Door for TcpDoor
     }
 
     /// Drops the two sides, which closes the connection.
-    fn keep(&mut self, incoming: TcpSource, outgoing: TcpSink) {
+    fn keep(&mut self, incoming: TcpSource<A::Stream>, outgoing: TcpSink<A::Stream>) {
         drop(incoming);
         drop(outgoing);
         self.out -= 1;
@@ -165,14 +198,33 @@ fn note_accepted(notes: &mut Option<DoorNotes>) -> Option<SinkNotes> {
 }
 
 // The next connection, as a handle of its stream for each of its two sides.
-fn next_connection(listener: Option<&BoundListener>) -> io::Result<(TcpStream, TcpStream)> {
-    let Some(listener) = listener else {
-        return Err(io::Error::from(ErrorKind::NotConnected));
-    };
-    let (stream, _) = listener.listener().accept()?;
+fn next_connection<A: Listener + Drop>(
+    listener: &mut Option<BoundListener<A>>,
+) -> io::Result<(A::Stream, A::Stream)>
+    ensures ports_kept { ports_at listener.new ≡ ports_at listener.old }
+    ensures handed_on { MatchResult result
+        (λ handles. LetsIn (A.Stream.remaining handles.0) (told_by listener.old) (told_by listener.new))
+        (λ _. LosesOneAtMost (told_by listener.old) (told_by listener.new)) }
+{
+    match listener {
+        Some(listener) => both_handles(listener),
+        None => Err(io::Error::from(ErrorKind::NotConnected)),
+    }
+}
+
+// The next connection of a listener.
+fn both_handles<A: Listener + Drop>(
+    listener: &mut BoundListener<A>,
+) -> io::Result<(A::Stream, A::Stream)>
+    ensures place { listener.new.place ≡ listener.old.place }
+    ensures handed_on { MatchResult result
+        (λ handles. LetsIn (A.Stream.remaining handles.0) listener.old.told listener.new.told)
+        (λ _. LosesOneAtMost listener.old.told listener.new.told) }
+{
+    let stream = listener.let_in()?;
     // An answer is sent at once, also behind one that the client has not acknowledged. Where the machine refuses that,
     // answers are slower, and no less right.
-    let _ = stream.set_nodelay(true);
-    let other = stream.try_clone()?;
+    stream.send_at_once();
+    let other = stream.other_handle()?;
     Ok((stream, other))
 }

@@ -1,17 +1,20 @@
 //! A link to a board over UDP.
 
-ghost use Rattle.std.specs.Prelude.{◌≡◌, ◌≤◌, ℕ, [], length, IfOk, IfSome, OnOk, OnErr, None};
-ghost use Rattle.ipb_base.specs.Faults.{one_more};
+ghost use Rattle.std.specs.Prelude.{◌≡◌, ◌≤◌, ℕ, true, [], ◌∷◌, length, IfOk, IfSome, OnOk, OnErr, None};
+ghost use Rattle.ipb_base.specs.Faults.{one_more, Rose};
 ghost use Rattle.links.specs.declared.link.TheConstants.{MAX_DATAGRAM};
-ghost use Rattle.links.specs.Traffic.{received_after};
-ghost use Rattle.std_edges.specs.Heard.{datagram_in, told_of, with_heard_counted};
-ghost use Rattle.std_edges.specs.States.{new_udp};
+ghost use Rattle.links.specs.Traffic.{received_after, sent_after};
+ghost use Rattle.links.specs.Sockets.{AreCalls, SendTo};
+ghost use Rattle.links.specs.Telling.{gots_after, IsCarried, quiets_after};
+ghost use Rattle.std_edges.specs.Heard.{datagram_in, ReceivesOver, told_of, with_heard_counted};
+ghost use Rattle.std_edges.specs.States.{new_link, new_udp};
 
 use crate::bound::{BoundSocket, socket_that_waits};
 use crate::counting::incremented;
 use crate::errors::{SendOutcome, sent_as};
 use crate::heard::{Heard, copy_heard, hear_board};
 use crate::link_notes::{LinkNotes, Voice};
+use crate::link_socket::LinkSocket;
 use crate::places::place_of_board;
 use ipb_base::NoMemory;
 use ipb_outside::Failed;
@@ -19,16 +22,17 @@ use links::{Link, LinkFault, MAX_DATAGRAM, Received, Sighting, TrafficLog, Waite
 use std::alloc::Global;
 use std::io;
 use std::marker::Model;
-use std::net::{Net, SocketAddr};
+use std::net::{Net, SocketAddr, UdpSocket};
 use std::sync::Arc;
 
 /// A link to a board at an IPv4 address and a UDP port. It does not tell what it carries, and knows of no datagram that
-/// was lost. Contracts see a `UdpState`.
+/// was lost. It stands on any socket, so that a clause says what it hands to one that tells its calls, and is handed by it,
+/// as one of a test does. Contracts see a `UdpState`.
 ///
 /// The socket is bound to no peer, so that a board that is not there is quiet and makes no error.
 #[derive(Drop)]
-pub struct UdpLink {
-    socket: BoundSocket,
+pub struct UdpLink<S: LinkSocket + Drop = UdpSocket> {
+    socket: BoundSocket<S>,
     board: SocketAddr,
     // room for one datagram, from the first receive on; so it is filled once
     buffer: Vec<u8>,
@@ -41,25 +45,26 @@ pub struct UdpLink {
     notes: LinkNotes,
 }
 
-impl Model for UdpLink {
-    ghost use Rattle.std.specs.Net.Socket.{socket_port};
-    ghost use Rattle.std_edges.specs.Places.{octets_of};
+impl<S: LinkSocket + Drop> Model for UdpLink<S> {
+    ghost use Rattle.std.specs.Prelude.{is_some};
+    ghost use Rattle.links.specs.Sockets.{place_of};
     ghost use Rattle.std_edges.specs.States.{UdpState};
 
     ghost Value = { UdpState };
 
     ghost view = { λ link. record {
-      address = octets_of link.board;
-      port = socket_port link.board;
+      board = place_of link.board;
       wait = link.socket.wait;
       faults = link.faults;
       quiets = link.quiets;
       gots = link.gots;
       traffic = link.traffic;
+      is_watched = is_some link.sighting;
+      told = link.socket.told;
     } };
 }
 
-impl UdpLink {
+impl UdpLink<UdpSocket> {
     /// A link to the board at this address, the most significant number first, and this port. One receive waits for
     /// `wait` milliseconds, and for 1 where that is 0. `Failed` where the machine refuses the socket.
     pub fn new<R: Net + AllocGlobal>(
@@ -67,22 +72,25 @@ impl UdpLink {
         address: [u8; 4],
         port: u16,
         wait: u32,
-    ) -> Result<UdpLink, Failed>
+    ) -> Result<UdpLink<UdpSocket>, Failed>
         ensures { IfOk result (λ link. link ≡ new_udp address port wait) }
     {
         UdpLink::with_notes(rt, address, port, wait, None)
     }
+}
 
-    /// A link of which a voice, where it is given, says on standard error what the board told at its greeting, its first
-    /// error, that the board does not answer, that it answers again, and that it is out of step.
+impl<S: LinkSocket + Drop> UdpLink<S> {
+
+    /// A link over a socket of any kind, of which a voice, where it is given, says on standard error what the board told at
+    /// its greeting, its first error, that the board does not answer, that it answers again, and that it is out of step.
     pub fn with_notes<R: Net + AllocGlobal>(
         rt: &R,
         address: [u8; 4],
         port: u16,
         wait: u32,
         voice: Option<Voice>,
-    ) -> Result<UdpLink, Failed>
-        ensures { IfOk result (λ link. link ≡ new_udp address port wait) }
+    ) -> Result<UdpLink<S>, Failed>
+        ensures { IfOk result (λ link. link ≡ new_link S.tells address port wait) }
     {
         let board = place_of_board(address, port);
         let mut notes = LinkNotes::new(voice);
@@ -107,7 +115,9 @@ impl UdpLink {
     }
 
     // Whether the waiter waited as long as a receive does, and found nothing, and nothing was sent since.
-    fn is_silent(&self) -> bool {
+    fn is_silent(&self) -> bool
+        ensures { result ≡ true → self.now.is_watched ≡ true }
+    {
         match &self.sighting {
             Some(sighting) => sighting.take_silence(),
             None => false,
@@ -182,7 +192,7 @@ impl UdpLink {
     }
 }
 
-impl Link for UdpLink {
+impl<S: LinkSocket + Drop> Link for UdpLink<S> {
     ghost telling = { λ _. None };
 
     ghost faults = { λ link. link.faults };
@@ -197,8 +207,15 @@ impl Link for UdpLink {
 
     /// One datagram to the board. An error, of any kind, is counted, and so is a datagram of which a part alone went.
     /// After an error that passes (`is_passing`) the datagram counts as sent: it is lost, as on the network.
-    fn send(&mut self, bytes: &[u8]) -> Result<(), LinkFault> {
-        let sent = self.socket.socket().send_to(bytes, self.board);
+    fn send(&mut self, bytes: &[u8]) -> Result<(), LinkFault>
+        ensures failed { result ≡ Err LinkFault.Failed → Rose self.old.faults self.new.faults }
+        ensures faults { self.old.faults ≤ self.new.faults }
+        ensures quiets { self.new.quiets ≡ self.old.quiets }
+        ensures gots { self.new.gots ≡ self.old.gots }
+        ensures traffic { self.new.traffic ≡ sent_after result bytes.now self.old.traffic }
+        ensures handed { AreCalls (SendTo self.old.board bytes.now ∷ []) self.old.told self.new.told }
+    {
+        let sent = self.socket.send(bytes, self.board);
         self.notes.sent(bytes);
         // behind the send, so that a wait that begins between them does not take it for an earlier one
         if let Some(sighting) = &self.sighting {
@@ -228,7 +245,18 @@ impl Link for UdpLink {
     /// none came in the time that the link waits, which begins again at each datagram from elsewhere, where a signal
     /// interrupts it and at an error that passes, and after 64 of those. Quiet at once where the waiter found that none
     /// came in that time. An error, of any kind, is counted, those that pass once for the receive.
-    fn receive(&mut self, into: &mut Vec<u8>) -> Result<Received, LinkFault> {
+    fn receive(&mut self, into: &mut Vec<u8>) -> Result<Received, LinkFault>
+        ensures datagram { IsCarried result into.new.items }
+        ensures failed { result ≡ Err LinkFault.Failed → Rose self.old.faults self.new.faults }
+        ensures faults { self.old.faults ≤ self.new.faults }
+        ensures quiets { self.new.quiets ≡ quiets_after result self.old.quiets }
+        ensures quiets_rise { self.old.quiets ≤ self.new.quiets }
+        ensures gots { self.new.gots ≡ gots_after result self.old.gots }
+        ensures gots_rise { self.old.gots ≤ self.new.gots }
+        ensures traffic { self.new.traffic ≡ received_after result into.new.items self.old.traffic }
+        ensures handed {
+            ReceivesOver self.old.board self.old.is_watched self.old.told self.new.told result into.new.items }
+    {
         into.clear();
         if self.is_silent() {
             self.traffic.add_quiet();
@@ -238,7 +266,7 @@ impl Link for UdpLink {
         make_rooms(&mut self.buffer, into)?;
         let mut passed = None;
         let buffer = self.buffer.as_mut_slice();
-        let heard = hear_board(self.socket.socket(), self.board, buffer, &mut passed);
+        let heard = hear_board(&mut self.socket, self.board, buffer, &mut passed);
         count_passed(passed, &mut self.faults, &mut self.notes);
         keep_heard(&heard, &self.buffer, into, &mut self.traffic)?;
         note_heard(&heard, into, &mut self.notes);
@@ -247,9 +275,7 @@ impl Link for UdpLink {
 
     /// It waits at another handle of the same socket. `None` too where the machine has no handle or memory for it.
     fn waiter(&mut self, alloc: Global) -> Option<Waiter> {
-        let Ok(socket) = self.socket.socket().try_clone() else {
-            return None;
-        };
+        let socket = self.socket.other_handle()?;
         match Waiter::new(alloc, socket, self.board) {
             Ok((waiter, sighting)) => {
                 self.sighting = Some(sighting);
