@@ -44,7 +44,11 @@ fn the_pace_is_that_of_late(rt: HostRuntime) -> Result<(), Fail> {
 /// Operations done and in all, silent boards, the milliseconds left, and what a line says.
 const ROWS: [((u64, u64, u32), Option<u64>, &str); 4] = [
     ((0, 9, 0), None, "0 of 9 operations"),
-    ((3, 9, 1), None, "3 of 9 operations, 1 board does not answer"),
+    (
+        (3, 9, 1),
+        None,
+        "3 of 9 operations, 1 board does not answer",
+    ),
     (
         (120, 1000, 2),
         Some(870_000),
@@ -219,7 +223,13 @@ fn operations_are_done_as_their_packets(rt: HostRuntime) -> Result<(), Fail> {
         if *taken > 0 {
             tally.took(1, 0, Taken::Reply);
         }
-        assert!(rt; tally.counts().operations == (Share { done: *done, all: 12 }));
+        assert!(rt;
+            tally.counts().operations
+                == (Share {
+                    done: *done,
+                    all: 12
+                })
+        );
     }
     let _ = tally.answered(1);
     assert!(rt; tally.counts().operations.done == 10);

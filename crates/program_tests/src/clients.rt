@@ -98,6 +98,7 @@ fn is_text_of_both(text: &[u8]) -> bool {
 
 /// What `planned` counts for each dispatch of a client, and for each operation.
 const A_DISPATCH: u64 = 100;
+
 const AN_OPERATION: u64 = 10_000;
 
 impl<R: Wait + Sync + Drop> Gate for MakesThemMeet<R> {
