@@ -25,7 +25,11 @@ use Rattle.hub_lane.specs.declared.greeting.Greeted.TheVariants.{Ready, Silent, 
 use Rattle.hub_lane.specs.Greeting.{CanBegin, IfDown, IfReady, IfSilent, StaysFresh, link_of}
 use Rattle.hub_lane.specs.Lanes.{IsGreeted, new_lane}
 use Rattle.board_history.specs.Links.{IsBoardOf, IsUntouched, LinkReport, board_there}
-use Rattle.board_greeting.specs.Boards.{AreFreshLinks, AreReached, LeavesRoom, IsGreetedAs, IsReached}
+use Rattle.board_greeting.specs.Boards.{AreFreshLinks, AreReached, HasMemory, LeavesRoom, IsFreshAt, IsGreetedAs}
+use Rattle.board_greeting.specs.Boards.{IsReached, OfFirst, StandsAsTold}
+use Rattle.board_greeting.specs.Standings.{links_in, standing_of}
+use Rattle.board_greeting.specs.declared.standing.Standing.{Standing}
+use Rattle.board_greeting.specs.declared.standing.Standing.TheVariants as standing
 use Rattle.board_greeting.specs.Reports.{shown_by}
 use Rattle.board_greeting.specs.Links.{AreMadeFor, link_specs}
 use Rattle.board_history.specs.Links.{CanBeMade}
@@ -158,28 +162,77 @@ pub room_for_less : (kept kept_now made made_now count : ℕ) → kept_now ≡ k
 room_for_less kept kept_now made made_now count one same (inl none) = absurd (omega (arith, none))
 room_for_less kept kept_now made made_now count one same (inr room) = inr (omega (arith, room, one, same))
 
-pub one_kept : {L : Type 0} (before old new : List L) (link : L) (rest all : List L) → new ≡ old ++ link ∷ []
-    → old ++ link ∷ rest ≡ before ++ all → new ++ rest ≡ before ++ all
-one_kept before old new link rest all pushed is =
-    ap (λ (l : List _). l ++ rest) pushed ∙ (append_assoc old (link ∷ []) rest ∙ is)
+pub room_in_front : (kept made few more : ℕ) → LeavesRoom kept made (few + more) → LeavesRoom kept made few
+room_in_front kept made few more (inl none) = inl (omega (arith, none))
+room_in_front kept made few more (inr room) = inr (omega (arith, room))
+
+pub room_behind : (kept kept_now made made_now few more : ℕ) → kept_now ≡ kept + few → made_now ≡ made
+    → LeavesRoom kept made (few + more) → LeavesRoom kept_now made_now more
+room_behind kept kept_now made made_now few more grown same (inl none) = inl (omega (arith, none))
+room_behind kept kept_now made made_now few more grown same (inr room) = inr (omega (arith, room, grown, same))
+
+-- the links of one board behind those that were kept
+pub links_kept : {L : Type 0} (before old new links rest all : List L) → new ≡ old ++ links
+    → old ++ (links ++ rest) ≡ before ++ all → new ++ rest ≡ before ++ all
+links_kept before old new links rest all pushed is =
+    ap (λ (l : List _). l ++ rest) pushed ∙ (append_assoc old links rest ∙ is)
 
 -- ---- boards greeted one after another
 
-pub reached_more : {L : Type 0} (shows : L → LinkReport) (settings : Limits)
-    (specs : List BoardSpec) (boards : List (Greeted L)) (spec : BoardSpec) (board : Greeted L)
-    → slice_get specs (length boards) ≡ Some spec → AreReached shows settings specs boards
-    → IsReached settings spec board (shows (link_of board))
-    → AreReached shows settings specs (boards ++ board ∷ [])
-reached_more shows settings [] [] spec board at are is = absurd cc
-reached_more shows settings [] (b ∷ boards) spec board at are is = absurd are
-reached_more shows settings (s ∷ specs) [] spec board at are is =
-    let same : s ≡ spec = cc in (
-      subst (λ (x : BoardSpec). IsReached settings x board (shows (link_of board))) (sym same)
-          is,
-      tt,
-    )
-reached_more shows settings (s ∷ specs) (b ∷ boards) spec board at are is =
-    (are.0, reached_more shows settings specs boards spec board at are.1 is)
+pub stands_as_told : {L : Type 0} (shows : L → LinkReport) (settings : Limits) (spec : BoardSpec) (board : Greeted L)
+    → HasMemory board → IsReached settings spec board (shows (link_of board))
+    → StandsAsTold shows settings spec (standing_of board)
+stands_as_told shows settings spec (Ready lane) memory is = is
+stands_as_told shows settings spec (Silent link rounds) memory is = record { fresh = is.fresh; as_told = is.as_told }
+stands_as_told shows settings spec (Down link) memory is = record { fresh = is.fresh; as_told = is.as_told }
+stands_as_told shows settings spec (NoMemory link) memory is = absurd memory
+
+pub fresh_as_greeted : {L : Type 0} (shows : L → LinkReport) (settings : Limits) (spec : BoardSpec) (board : Greeted L)
+    → IsReached settings spec board (shows (link_of board)) → IsFreshAt shows settings spec (standing_of board)
+fresh_as_greeted shows settings spec (Ready lane) is = is.fresh
+fresh_as_greeted shows settings spec (Silent link rounds) is = is.fresh
+fresh_as_greeted shows settings spec (Down link) is = is.fresh
+fresh_as_greeted shows settings spec (NoMemory link) is = is.fresh
+
+pub first_of_more : {L : Type 0} (holds : BoardSpec → Standing L → Type 0) (specs : List BoardSpec)
+    (boards : List (Standing L)) (spec : BoardSpec) (board : Standing L)
+    → slice_get specs (length boards) ≡ Some spec → OfFirst holds specs boards → holds spec board
+    → OfFirst holds specs (boards ++ board ∷ [])
+first_of_more holds [] [] spec board at are is = absurd cc
+first_of_more holds [] (b ∷ boards) spec board at are is = absurd are
+first_of_more holds (s ∷ specs) [] spec board at are is =
+    let same : s ≡ spec = cc in (subst (λ (x : BoardSpec). holds x board) (sym same) is, tt)
+first_of_more holds (s ∷ specs) (b ∷ boards) spec board at are is =
+    (are.0, first_of_more holds specs boards spec board at are.1 is)
+
+fresh_one : {L : Type 0} (shows : L → LinkReport) (settings : Limits) (spec : BoardSpec) (board : Standing L)
+    → StandsAsTold shows settings spec board → IsFreshAt shows settings spec board
+fresh_one shows settings spec (standing.Live lane) is = is.fresh
+fresh_one shows settings spec standing.AtHub is = absurd is
+fresh_one shows settings spec (standing.Silent link) is = is.fresh
+fresh_one shows settings spec (standing.Down link) is = is.fresh
+
+pub reached_fresh : {L : Type 0} (shows : L → LinkReport) (settings : Limits) (specs : List BoardSpec)
+    (boards : List (Standing L)) → AreReached shows settings specs boards
+    → OfFirst (IsFreshAt shows settings) specs boards
+reached_fresh shows settings specs [] are = tt
+reached_fresh shows settings [] (b ∷ boards) are = absurd are
+reached_fresh shows settings (s ∷ specs) (b ∷ boards) are =
+    (fresh_one shows settings s b are.0, reached_fresh shows settings specs boards are.1)
+
+-- the links of the boards, one for each
+pub fresh_links : {L : Type 0} (shows : L → LinkReport) (settings : Limits)
+    (specs : List BoardSpec) (boards : List (Standing L)) → OfFirst (IsFreshAt shows settings) specs boards
+    → AreFreshLinks settings specs (map shows (links_in boards)) × (length (links_in boards) ≡ length boards)
+fresh_links shows settings specs [] are = (tt, refl)
+fresh_links shows settings [] (b ∷ boards) are = absurd are
+fresh_links shows settings (s ∷ specs) (standing.Live lane ∷ boards) are =
+    let rest = fresh_links shows settings specs boards are.1 in ((are.0, rest.0), ap suc rest.1)
+fresh_links shows settings (s ∷ specs) (standing.AtHub ∷ boards) are = absurd are.0
+fresh_links shows settings (s ∷ specs) (standing.Silent link ∷ boards) are =
+    let rest = fresh_links shows settings specs boards are.1 in ((are.0, rest.0), ap suc rest.1)
+fresh_links shows settings (s ∷ specs) (standing.Down link ∷ boards) are =
+    let rest = fresh_links shows settings specs boards are.1 in ((are.0, rest.0), ap suc rest.1)
 
 -- ---- what links were made of
 
@@ -234,11 +287,3 @@ room_for_more kept kept_now made made_now count within same one (inl none) =
     inr (omega (arith, none, within, same, one))
 room_for_more kept kept_now made made_now count within same one (inr room) =
     inr (omega (arith, room, within, same, one))
-
-pub fresh_links : {L : Type 0} (shows : L → LinkReport) (settings : Limits)
-    (specs : List BoardSpec) (boards : List (Greeted L)) → AreReached shows settings specs boards
-    → AreFreshLinks settings specs (map shows (map (λ board. link_of board) boards))
-fresh_links shows settings specs [] are = tt
-fresh_links shows settings [] (b ∷ boards) are = absurd are
-fresh_links shows settings (s ∷ specs) (b ∷ boards) are =
-    (are.0.fresh, fresh_links shows settings specs boards are.1)

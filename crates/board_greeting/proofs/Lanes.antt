@@ -25,11 +25,12 @@ use Rattle.board_history.specs.Runs.{opens_with}
 use Rattle.board_greeting.specs.Reports.{OpenedWith}
 use Rattle.hub_lane.specs.Heard.{HasHeard, HasListened}
 use Rattle.hub_lane.specs.Lanes.{BoardStatus, HasToldStatus, IsGreeted, IsLane, LaneState, opening_of}
-use Rattle.hub_lane.specs.declared.greeting.Greeted.{Greeted}
-use Rattle.hub_lane.specs.declared.greeting.Greeted.TheVariants.{Ready, Silent, Down, NoMemory}
+use Rattle.hub_lane.specs.declared.greeting.Greeted.TheVariants.{Ready}
 use Rattle.board_greeting.specs.Boards.{AreReached, HasNoEntry, IsEndedLane, IsKnownAs, IsLaneTo, IsReached}
 use Rattle.board_greeting.specs.Boards.{head_shown}
-use Rattle.board_greeting.specs.Places.{lanes_in}
+use Rattle.board_greeting.specs.Standings.{lanes_in}
+use Rattle.board_greeting.specs.declared.standing.Standing.{Standing}
+use Rattle.board_greeting.specs.declared.standing.Standing.TheVariants as standing
 
 -- ---- the board
 
@@ -173,15 +174,14 @@ lane_back {L} tells shown settings spec old new reached same_link head =
 
 -- a lane that was just opened has no entry
 pub lanes_unused : {L : Type 0} (shows : L → LinkReport) (settings : Limits)
-    (specs : List BoardSpec) (boards : List (Greeted L)) → AreReached shows settings specs boards
+    (specs : List BoardSpec) (boards : List (Standing L)) → AreReached shows settings specs boards
     → AllByRecursion HasNoEntry (lanes_in boards)
 lanes_unused shows settings specs [] are = tt
 lanes_unused shows settings [] (b ∷ boards) are = absurd are
-lanes_unused shows settings (s ∷ specs) (Ready lane ∷ boards) are =
+lanes_unused shows settings (s ∷ specs) (standing.Live lane ∷ boards) are =
     (ap (λ (l : LaneState _). l.items) are.0.as_told.opened', lanes_unused shows settings specs boards are.1)
-lanes_unused shows settings (s ∷ specs) (Silent link rounds ∷ boards) are =
+lanes_unused shows settings (s ∷ specs) (standing.AtHub ∷ boards) are = absurd are.0
+lanes_unused shows settings (s ∷ specs) (standing.Silent link ∷ boards) are =
     lanes_unused shows settings specs boards are.1
-lanes_unused shows settings (s ∷ specs) (Down link ∷ boards) are =
-    lanes_unused shows settings specs boards are.1
-lanes_unused shows settings (s ∷ specs) (NoMemory link ∷ boards) are =
+lanes_unused shows settings (s ∷ specs) (standing.Down link ∷ boards) are =
     lanes_unused shows settings specs boards are.1

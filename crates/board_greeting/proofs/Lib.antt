@@ -1,4 +1,4 @@
 pub mod Boards
-pub mod Splitting
+pub mod Standings
 pub mod Lanes
 mod Sound

@@ -9,7 +9,9 @@ use Rattle.lane_record.specs.Coding.{Head}
 use Rattle.hub_lane.specs.Records.{head_of}
 use Rattle.hub_lane.specs.declared.greeting.Greeted.{Greeted}
 use Rattle.hub_lane.specs.declared.greeting.Greeted.TheVariants.{Ready, Silent, Down, NoMemory}
-use Rattle.hub_lane.specs.Greeting.{CanBegin, link_of}
+use Rattle.hub_lane.specs.Greeting.{CanBegin}
+use Rattle.board_greeting.specs.declared.standing.Standing.{Standing}
+use Rattle.board_greeting.specs.declared.standing.Standing.TheVariants as standing
 use Rattle.script_plans.specs.declared.greeting.Greeting.{Greeting}
 use Rattle.script_plans.specs.declared.greeting.Greeting.TheVariants as greeting
 use Rattle.board_bus.specs.Cells.{CellMap}
@@ -53,13 +55,38 @@ pub record IsReached {L : Type 0} (settings : Limits) (spec : BoardSpec) (greete
   pub fresh : IsFreshLink settings spec shown
   pub as_told : IsGreetedAs settings greeted shown
 
--- so of the first boards, in order; there may be fewer than documents
-abbrev pub AreReached : {L : Type 0} → (L → LinkReport) → Limits → List BoardSpec → List (Greeted L) → Type 0
-AreReached shows settings specs [] = Unit {0}
-AreReached shows settings [] (greeted ∷ others) = ⊥
-AreReached shows settings (spec ∷ specs) (greeted ∷ others) =
-    IsReached settings spec greeted (shows (link_of greeted))
-    × AreReached shows settings specs others
+-- a board that is not live, over a link that shows this
+abbrev pub IsIdleAs : Limits → Greeting → LinkReport → Type 0
+IsIdleAs settings (greeting.Live payload) shown = ⊥
+IsIdleAs settings greeting.Silent shown = IsSilentRun settings shown
+IsIdleAs settings greeting.Down shown = IsDownRun shown
+
+pub record IsIdleBoard (settings : Limits) (spec : BoardSpec) (told : Greeting) (shown : LinkReport) : Type 0 where
+  pub fresh : IsFreshLink settings spec shown
+  pub as_told : IsIdleAs settings told shown
+
+-- The board of this document stands in its place as its greeting told.
+abbrev pub StandsAsTold : {L : Type 0} → (L → LinkReport) → Limits → BoardSpec → Standing L → Type 0
+StandsAsTold shows settings spec (standing.Live lane) = IsReached settings spec (Ready lane) (shows lane.link)
+StandsAsTold shows settings spec standing.AtHub = ⊥
+StandsAsTold shows settings spec (standing.Silent link) = IsIdleBoard settings spec greeting.Silent (shows link)
+StandsAsTold shows settings spec (standing.Down link) = IsIdleBoard settings spec greeting.Down (shows link)
+
+-- its link was asked for nothing but the status of the board
+abbrev pub IsFreshAt : {L : Type 0} → (L → LinkReport) → Limits → BoardSpec → Standing L → Type 0
+IsFreshAt shows settings spec (standing.Live lane) = IsFreshLink settings spec (shows lane.link)
+IsFreshAt shows settings spec standing.AtHub = ⊥
+IsFreshAt shows settings spec (standing.Silent link) = IsFreshLink settings spec (shows link)
+IsFreshAt shows settings spec (standing.Down link) = IsFreshLink settings spec (shows link)
+
+-- so of the boards of the first documents, in order; there may be fewer boards than documents
+abbrev pub OfFirst : {L : Type 0} → (BoardSpec → Standing L → Type 0) → List BoardSpec → List (Standing L) → Type 0
+OfFirst holds specs [] = Unit {0}
+OfFirst holds [] (one ∷ boards) = ⊥
+OfFirst holds (spec ∷ specs) (one ∷ boards) = holds spec one × OfFirst holds specs boards
+
+abbrev pub AreReached : {L : Type 0} → (L → LinkReport) → Limits → List BoardSpec → List (Standing L) → Type 0
+AreReached shows settings specs boards = OfFirst (StandsAsTold shows settings) specs boards
 
 -- memory did not run out at the greeting
 abbrev pub HasMemory : {L : Type 0} → Greeted L → Type 0

@@ -1,4 +1,4 @@
 pub mod Links
 pub mod Boards
-pub mod Places
+pub mod Standings
 pub mod Reports

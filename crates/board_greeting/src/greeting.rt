@@ -6,10 +6,12 @@ ghost use Rattle.std.specs.Vec.{vec_capacity, vec_len};
 ghost use Rattle.ipb_outside.specs.Faults.{RisesExactlyIf};
 ghost use Rattle.links.specs.Racks.{made_after};
 ghost use Rattle.hub_lane.specs.Greeting.{link_of};
-ghost use Rattle.board_greeting.specs.Boards.{AreFreshLinks, AreReached, HasMemory, HasRoom, IsReached};
+ghost use Rattle.board_greeting.specs.Boards.{AreFreshLinks, AreReached, HasMemory, HasRoom, IsFreshAt, IsReached, OfFirst};
+ghost use Rattle.board_greeting.specs.Standings.{link_in, links_in};
 ghost use Rattle.board_greeting.specs.Reports.{shown_by};
 ghost use Rattle.board_greeting.specs.Links.{AreMadeFor, CanBeReached, Keeps};
 
+use crate::standing::{Standing, standing_of};
 use board_bus::laws::words_stay_words;
 use board_specs::BoardSpec;
 use hub_lane::{Greeted, Lane};
@@ -17,27 +19,30 @@ use links::{Link, Rack, RackFault};
 use reliable_engine::Settings;
 use std::alloc::Global;
 
-/// The link of a board that was greeted, given back.
-pub fn into_link<L: Link>(board: Greeted<L>) -> L
-    ensures { result ≡ link_of board }
+/// Gives the link of a board back to the rack, unless it is with its lane at a hub.
+fn keep_board<R: Rack>(rack: &mut R, board: Standing<R::L>)
+    requires room { HasRoom R.Rack rack.old (length (link_in board)) }
+    ensures kept { R.kept rack.new ≡ R.kept rack.old ++ link_in board }
+    ensures made { R.made rack.new ≡ R.made rack.old }
+    ensures faults { R.faults rack.new ≡ R.faults rack.old }
 {
     match board {
-        Greeted::Ready(lane) => lane.close(),
-        Greeted::Silent { link, rounds: _ } => link,
-        Greeted::Down { link } => link,
-        Greeted::NoMemory { link } => link,
+        Standing::Live(lane) => rack.keep(lane.close()),
+        Standing::AtHub => (),
+        Standing::Silent(link) => rack.keep(link),
+        Standing::Down(link) => rack.keep(link),
     }
 }
 
-/// Gives all links back to the rack, in order.
-pub fn keep_all<R: Rack>(rack: &mut R, boards: Vec<Greeted<R::L>>)
-    requires room { HasRoom R.Rack rack.old (length boards.items) }
-    ensures kept { R.kept rack.new ≡ R.kept rack.old ++ map (λ board. link_of board) boards.items }
+/// Gives the links of boards back to the rack, in board order.
+pub fn keep_all<R: Rack>(rack: &mut R, boards: Vec<Standing<R::L>>)
+    requires room { HasRoom R.Rack rack.old (length (links_in boards.items)) }
+    ensures kept { R.kept rack.new ≡ R.kept rack.old ++ links_in boards.items }
     ensures made { R.made rack.new ≡ R.made rack.old }
     ensures faults { R.faults rack.new ≡ R.faults rack.old }
 {
     for board in boards {
-        rack.keep(into_link(board));
+        keep_board(rack, board);
     }
 }
 
@@ -75,14 +80,14 @@ fn greet_into<R: Rack>(
     settings: Settings,
     specs: &[BoardSpec],
     rack: &mut R,
-    boards: &mut Vec<Greeted<R::L>>,
+    boards: &mut Vec<Standing<R::L>>,
 ) -> Result<(), RackFault>
     requires reached { AllByRecursion CanBeReached specs.now }
     requires empty { boards.old.items ≡ [] }
     requires room { vec_len boards.old + length specs.now ≤ vec_capacity boards.old }
-    ensures reached { AreReached (shown_by R.L.Link) settings specs.now boards.new.items }
+    ensures fresh { OfFirst (IsFreshAt (shown_by R.L.Link) settings) specs.now boards.new.items }
+    ensures reached { OnOk result (AreReached (shown_by R.L.Link) settings specs.now boards.new.items) }
     ensures all { OnOk result (length boards.new.items ≡ length specs.now) }
-    ensures memory { OnOk result (AllByRecursion HasMemory boards.new.items) }
     ensures faults { RisesExactlyIf (result ≡ Err RackFault.Failed) (R.faults rack.old) (R.faults rack.new) }
     ensures kept { R.kept rack.new ≡ R.kept rack.old }
     ensures made { AreMadeFor specs.now (length boards.new.items) (R.made rack.old) (R.made rack.new) }
@@ -91,7 +96,7 @@ fn greet_into<R: Rack>(
     for spec in specs {
         let board = greet_board(alloc, settings, spec, rack)?;
         let is_last = is_out_of_memory(&board);
-        boards.push_reserved(board);
+        boards.push_reserved(standing_of(board));
         if is_last {
             return Err(RackFault::NoMemory);
         }
@@ -99,18 +104,17 @@ fn greet_into<R: Rack>(
     Ok(())
 }
 
-/// Makes a link for each board and greets it, in order. Where that fails the links that were made are given back to the
-/// rack, in order.
+/// Makes a link for each board and greets it, in order: how each board stands. If that fails, the links that were made
+/// are given back to the rack, in order.
 pub fn greet_boards<R: Rack>(
     alloc: Global,
     settings: Settings,
     specs: &[BoardSpec],
     rack: &mut R,
-) -> Result<Vec<Greeted<R::L>>, RackFault>
+) -> Result<Vec<Standing<R::L>>, RackFault>
     requires reached { AllByRecursion CanBeReached specs.now }
     ensures reached { IfOk result (λ boards. AreReached (shown_by R.L.Link) settings specs.now boards.items) }
     ensures all { IfOk result (λ boards. length boards.items ≡ length specs.now) }
-    ensures memory { IfOk result (λ boards. AllByRecursion HasMemory boards.items) }
     ensures kept { OnOk result (R.kept rack.new ≡ R.kept rack.old) }
     ensures made { OnOk result (AreMadeFor specs.now (length specs.now) (R.made rack.old) (R.made rack.new)) }
     ensures room { OnOk result (HasRoom R.Rack rack.new (length specs.now)) }

@@ -1,5 +1,5 @@
-//! The boards of a document over the links of a rack: they are greeted in order, the lanes of the live ones go to a hub
-//! together, and when these came back each board is put together again.
+//! The boards of a document over the links of a rack. They are greeted in order, and from then on each stands in its
+//! place (`Standing`): live, silent or down. The lanes of the live ones go to a hub together, and come back together.
 //!
 //! What a lane keeps at the exit of every call is all that the history of its board rests on (`sound_lanes`). The
 //! definitions that contracts cite are in `specs/`.
@@ -7,11 +7,11 @@
 
 mod closing;
 mod greeting;
-mod rejoined;
 pub mod sound_lanes;
-mod split;
+mod standing;
 
 pub use closing::close_lane;
-pub use greeting::{greet_boards, into_link, is_out_of_memory, keep_all};
-pub use rejoined::{Board, Rejoined};
-pub use split::{Place, Split, split_boards};
+pub use greeting::{greet_boards, is_out_of_memory, keep_all};
+pub use standing::{
+    Standing, is_at_hub, put_back, standing_of, states_of, take_lanes,
+};

@@ -16,13 +16,17 @@ use Rattle.board_specs.specs.declared.spec.LinkSpec.{LinkSpec}
 use Rattle.board_specs.specs.declared.spec.LinkSpec.TheVariants.{Sim, Udp}
 use Rattle.links.specs.Racks.{telling_for}
 use Rattle.hub_lane.specs.declared.greeting.Greeted.{Greeted}
+use Rattle.hub_lane.specs.declared.greeting.Greeted.TheVariants.{Ready, Silent, Down, NoMemory}
 use Rattle.hub_lane.specs.Greeting.{link_of}
 use Rattle.hub_lane.specs.Standing.{IsStanding}
 use Rattle.lane_record.specs.declared.outcome.Outcome.{Outcome}
 use Rattle.board_history.specs.Links.{IsBoardOf, LinkReport, board_there}
 use Rattle.board_history.specs.LinkRuns.{AreRunsOver, IsMergeOfAsked}
 use Rattle.board_history.proofs.LaneShown.{at_some}
-use Rattle.board_greeting.specs.Boards.{AreReached, IsFreshLink, IsReached}
+use Rattle.board_greeting.specs.Boards.{AreReached, HasMemory, IsFreshLink, IsReached}
+use Rattle.board_greeting.specs.Standings.{links_in, standing_of}
+use Rattle.board_greeting.specs.declared.standing.Standing.{Standing}
+use Rattle.board_greeting.proofs.Boards.{stands_as_told}
 use Rattle.script_steps.specs.declared.operation.Step.{Step}
 use Rattle.script_lang.specs.declared.session.Session.{Session}
 use Rattle.script_plans.specs.declared.board_run.BoardRun.{BoardRun}
@@ -70,12 +74,13 @@ left_alone law settings (spec ∷ []) scripts shown one reached =
 left_alone law settings (spec ∷ other ∷ specs) scripts shown one reached = absurd (omega (arith, one))
 
 pub reached_alone : {L : Type 0} (shows : L → LinkReport) (settings : Limits) (specs : List BoardSpec)
-    (board : Greeted L) → length specs ≡ 1
+    (board : Greeted L) → length specs ≡ 1 → HasMemory board
     → ((spec : BoardSpec) → specs ≡ spec ∷ [] → IsReached settings spec board (shows (link_of board)))
-    → AreReached shows settings specs (board ∷ [])
-reached_alone shows settings [] board one reached = absurd (omega (arith, one))
-reached_alone shows settings (spec ∷ []) board one reached = (reached spec refl, tt)
-reached_alone shows settings (spec ∷ other ∷ specs) board one reached = absurd (omega (arith, one))
+    → AreReached shows settings specs (standing_of board ∷ [])
+reached_alone shows settings [] board one memory reached = absurd (omega (arith, one))
+reached_alone shows settings (spec ∷ []) board one memory reached =
+    (stands_as_told shows settings spec board memory (reached spec refl), tt)
+reached_alone shows settings (spec ∷ other ∷ specs) board one memory reached = absurd (omega (arith, one))
 
 -- one that is put where none is
 pub pushed_alone : {A : Type 0} (before now : List A) (item : A) → now ≡ before ++ item ∷ [] → before ≡ []
@@ -83,10 +88,16 @@ pub pushed_alone : {A : Type 0} (before now : List A) (item : A) → now ≡ bef
 pushed_alone before now item is none = is ∙ ap (λ (l : List _). l ++ item ∷ []) none
 
 -- and one that is given back alone
-pub back_alone : {A B : Type 0} (link : A → B) (old : List B) (items : List A) (now : List B) (item : A)
-    → now ≡ old ++ map link items → old ≡ [] → items ≡ item ∷ [] → now ≡ link item ∷ []
-back_alone link old items now item is none one =
-    is ∙ ap₂ (λ (before : List _) (given : List _). before ++ map link given) none one
+pub link_alone : {L : Type 0} (board : Greeted L) → links_in (standing_of board ∷ []) ≡ link_of board ∷ []
+link_alone (Ready lane) = refl
+link_alone (Silent link rounds) = refl
+link_alone (Down link) = refl
+link_alone (NoMemory link) = refl
+
+pub back_alone : {L : Type 0} (old : List L) (boards : List (Standing L)) (now : List L) (board : Greeted L)
+    → now ≡ old ++ links_in boards → old ≡ [] → boards ≡ standing_of board ∷ [] → now ≡ link_of board ∷ []
+back_alone old boards now board is none one =
+    is ∙ (ap₂ (λ (before : List _) (given : List (Standing _)). before ++ links_in given) none one ∙ link_alone board)
 
 pub same_alone : {A : Type 0} (one other : A) → one ∷ [] ≡ other ∷ [] → one ≡ other
 same_alone one other same = ap (λ (l : List _). slice_index_or l 0 one) same

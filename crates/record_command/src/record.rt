@@ -28,7 +28,7 @@ use crate::capture_laws::a_capture_of_a_lane_proves_what_was_executed;
 use crate::tap::TapLink;
 use crate::taps::Taps;
 use board_bus::laws::words_stay_words;
-use board_greeting::{is_out_of_memory, keep_all};
+use board_greeting::{Standing, is_out_of_memory, keep_all, standing_of};
 use board_history::records::a_lane_sends_a_merge_at_any_moment;
 use board_specs::{BoardSpec, LinkSpec};
 use capture_reader::{Capture, Id, proved, write_capture};
@@ -170,7 +170,7 @@ fn run_tapped<L: Link + Send + Drop, T: Threads + Wait + Sync, G: Gate>(
     settings: Settings,
     specs: &[BoardSpec],
     steps: &[Steps],
-    room: Vec<Greeted<TapLink<L>>>,
+    room: Vec<Standing<TapLink<L>>>,
     greeted: Greeted<TapLink<L>>,
     taps: Taps<L>,
     gate: &G,
@@ -191,7 +191,7 @@ fn run_tapped<L: Link + Send + Drop, T: Threads + Wait + Sync, G: Gate>(
     let no_memory = is_out_of_memory(&greeted);
     let mut boards = room;
     let mut taps = taps;
-    boards.push_reserved(greeted);
+    boards.push_reserved(standing_of(greeted));
     if no_memory {
         keep_all(&mut taps, boards);
         return (taps.into_tap(), Err(NoMemory));

@@ -1,6 +1,6 @@
 -- Lanes that came back from a hub, and the parts of the clients that ran there.
 use Rattle.std.proofs.Common.{◌≡◌, inl, inr, ℕ, suc, ◌+◌, ◌∙◌, List, [], ◌∷◌, ◌++◌, length, map}
-use Rattle.std.proofs.Common.{drop, sum, take}
+use Rattle.std.proofs.Common.{sum}
 use Rattle.std.proofs.Common.{Option, Some, refl, sym, ap, subst}
 use Rattle.std.specs.List.{AllByRecursion, slice_get}
 use Rattle.std.proofs.lemmas.List.{length-map}
@@ -37,7 +37,6 @@ use Rattle.session_run.specs.Hubs.{CameBack, HoldsAll, RanAtHub}
 use Rattle.board_greeting.specs.Boards.{head_shown}
 use Rattle.session_run.specs.Lanes.{AllFour, AllThree, HasGoneOn, IsPlannedOn, IsRunOn, plans_over}
 use Rattle.session_run.proofs.DispatchParts.{each_counts, parts_of_dispatches}
-use Rattle.session_run.proofs.Sides.{three_long, written_back}
 
 -- ---- the laws of a lane at a hub
 
@@ -361,7 +360,7 @@ results_lanes lanes (p ∷ plans) (r ∷ results) are = (are.0.1, results_lanes 
 
 -- ---- all of it
 
-all_gone : {L : Type 0} → TellsLaw → BackLaw → PartlyLaw → (tells : L → Option Telling) (scripts : List (List Step))
+pub all_gone : {L : Type 0} → TellsLaw → BackLaw → PartlyLaw → (tells : L → Option Telling) (scripts : List (List Step))
     (plans : List ClientPlan) (positions : List ℕ) (olds mids news : List (LaneState L)) → AreOfClientsFrom 1 plans
     → length plans ≡ length scripts → AllThree (HasGoneOn tells scripts) positions olds mids
     → CameBack tells plans mids news → AllThree (HasGoneOn tells scripts) positions olds news
@@ -373,53 +372,18 @@ all_gone law back partly tells scripts plans positions olds mids news of' many g
     (subst (λ (knows : List Knowledge). OnEachLane 0 (λ on. HaveGoneOn plans at.taken_in.made) knows at.hub.after.knows)
     at.hub.opened at.taken_in.lanes) at.hub.ended
 
--- what was planned on a slice of all lanes, which was written back
-pub record PlannedLanes {L : Type 0} (tells : L → Option Telling) (scripts : List (List Step)) (positions : List ℕ)
-    (olds mids back : List (LaneState L)) (all : List (List ClientBodies)) : Type 0 where
-  pub planned : AllFour (IsPlannedOn scripts) positions olds mids all
-  pub gone : AllThree (HasGoneOn tells scripts) positions olds mids
-  pub written : back ≡ mids
-
-pub planned_lanes : {L : Type 0} {olds slice : List (LaneState L)} {many : ℕ} (tells : L → Option Telling)
-    (scripts : List (List Step)) (positions : List ℕ) (mids : List (LaneState L)) (all : List (List ClientBodies))
-    → length slice ≡ many → slice ≡ olds → AllFour (IsPlannedOn scripts) positions slice mids all
-    → AllThree (HasGoneOn tells scripts) positions slice mids
-    → PlannedLanes tells scripts positions olds mids (take many (mids ++ drop (length mids) olds)) all
-planned_lanes {L} {olds} {slice} {many} tells scripts positions mids all len same planned gone =
-    let here = subst (λ (l : List (LaneState L)). AllThree (HasGoneOn tells scripts) positions l mids) same gone in
-    record {
-      planned = subst (λ (l : List (LaneState L)). AllFour (IsPlannedOn scripts) positions l mids all) same planned;
-      gone = here;
-      written = written_back many olds mids (sym len ∙ ap (λ (l : List (LaneState L)). length l) same)
-          (three_long (HasGoneOn tells scripts) positions olds mids here);
-    }
-
--- the lanes that came back
-pub lanes_gone : {L : Type 0} {tells : L → Option Telling} {scripts : List (List Step)} {plans asked : List ClientPlan}
-    {positions : List ℕ} {olds mids back : List (LaneState L)} {all : List (List ClientBodies)} → TellsLaw → BackLaw
-    → PartlyLaw → PlannedLanes tells scripts positions olds mids back all → asked ≡ plans → (news : List (LaneState L))
-    → AreOfClientsFrom 1 plans → length plans ≡ length scripts → CameBack tells asked back news
-    → AllThree (HasGoneOn tells scripts) positions olds news
-lanes_gone {L} {tells} {scripts} {plans} {asked} {positions} {olds} {mids} law back_law partly on same news of' many
-    came =
-    all_gone law back_law partly tells scripts plans positions olds mids news of' many on.gone
-    (subst (λ (l : List ClientPlan). CameBack tells l mids news) same
-    (subst (λ (l : List (LaneState L)). CameBack tells asked l news) on.written came))
-
 -- the parts of clients that ran there to their end
-pub parts_ran : {L : Type 0} {tells : L → Option Telling} {scripts : List (List Step)} {plans asked : List ClientPlan}
-    {results : List ClientResult} {positions : List ℕ} {olds mids back news : List (LaneState L)}
-    {all : List (List ClientBodies)} → BackLaw → RunLaw → PlannedLanes tells scripts positions olds mids back all
-    → asked ≡ plans → (parts : List (List ClientPart)) → AreOfClientsFrom 1 plans
-    → AllByRecursion (λ (l : LaneState L). l.items ≡ []) olds → AskAllFrom 0 plans all
-    → AllThree (HasGoneOn tells scripts) positions olds news → RanAtHub tells asked results back news
-    → parts ≡ parts_from 0 all results → AllThree (IsRunOn scripts) positions news parts
-parts_ran {L} {tells} {scripts} {plans} {asked} {results} {positions} {olds} {mids} {back} {news} {all} back_law run on
-    same parts of' none counts gone came is =
-    let ran = subst (λ (l : List ClientPlan). RanAtHub tells l results mids news) same
-    (subst (λ (l : List (LaneState L)). RanAtHub tells asked results l news) on.written came) in
+pub parts_ran : {L : Type 0} → BackLaw → RunLaw → (tells : L → Option Telling) (scripts : List (List Step))
+    (plans : List ClientPlan) (results : List ClientResult) (positions : List ℕ) (olds mids news : List (LaneState L))
+    (all : List (List ClientBodies)) (parts : List (List ClientPart)) → AreOfClientsFrom 1 plans
+    → AllByRecursion (λ (l : LaneState L). l.items ≡ []) olds → AllFour (IsPlannedOn scripts) positions olds mids all
+    → AskAllFrom 0 plans all → AllThree (HasGoneOn tells scripts) positions olds news
+    → RanAtHub tells plans results mids news → parts ≡ parts_from 0 all results
+    → AllThree (IsRunOn scripts) positions news parts
+parts_ran back_law run tells scripts plans results positions olds mids news all parts of' none planned counts gone ran
+    is =
     subst (AllThree (IsRunOn scripts) positions news) (sym is)
     (ran_at_hub back_law run tells scripts plans results 0 positions olds mids news all ran.hub.after.knows of' none
-    on.planned counts gone
+    planned counts gone
     (subst (λ (knows : List Knowledge). OnEachLane 0 (HaveRunOn plans results) knows ran.hub.after.knows) ran.hub.opened
     ran.ran.lanes) ran.hub.ended)

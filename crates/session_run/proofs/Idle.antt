@@ -16,7 +16,7 @@ use Rattle.script_plans.specs.Plan.{plans_on}
 use Rattle.board_history.specs.Lates.{AreLateExactly, AreLateOnlyIfTimedOut}
 use Rattle.board_history.specs.Links.{LinkReport}
 use Rattle.board_history.specs.LinkRuns.{IsAsTold, IsRunOver, ShowsLates, ShowsScripts}
-use Rattle.board_greeting.specs.Places.{IsIdleAs, IsIdleBoard}
+use Rattle.board_greeting.specs.Boards.{IsIdleAs, IsIdleBoard}
 use Rattle.session_run.proofs.DispatchParts.{plan_in_part}
 
 -- a client that asked nothing

@@ -10,7 +10,7 @@ pub mod LateAnswers
 pub mod Idle
 pub mod PlanningLanes
 pub mod HubRuns
-pub mod Rejoining
+pub mod Returning
 pub mod Sessions
 pub mod Pairs
 pub mod Plans

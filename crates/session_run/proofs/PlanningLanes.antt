@@ -1,6 +1,6 @@
 -- Lanes planned one after another.
 use Rattle.std.proofs.Common.{◌≡◌, ℕ, zero, suc, ◌+◌, ◌≤◌, ◌<◌, ◌∙◌, List, [], ◌∷◌, ◌++◌, length, take, drop, get_or}
-use Rattle.std.proofs.Common.{set}
+use Rattle.std.proofs.Common.{set, true, false}
 use Rattle.std.proofs.Common.{Option, Some, None, refl, sym, ap, subst, arith, append_assoc, append-nil, length-append}
 use Rattle.std.specs.List.{AllByRecursion}
 use Rattle.std.proofs.lemmas.List.{drop_all, drop_more, length-drop, length-map, set_at, take-append-drop, take_all}
@@ -19,6 +19,9 @@ use Rattle.session_run.proofs.PartLists.{get_behind}
 use Rattle.board_history.specs.Records.{IsPartlyPlanned}
 use Rattle.session_run.specs.Clients.{KeepsLane, bodies_of_plans}
 use Rattle.board_greeting.specs.Boards.{HasNoEntry, head_shown}
+use Rattle.board_greeting.specs.Standings.{is_at_hub, positions_at_hub}
+use Rattle.board_greeting.specs.declared.standing.Standing.{Standing}
+use Rattle.board_greeting.specs.declared.standing.Standing.TheVariants as standing
 use Rattle.session_run.specs.Lanes.{AllFour, AllThree, HasGoneOn, IsPlannedOn, plans_over}
 use Rattle.session_run.proofs.PlansMade.{PartlyAll, PartlyFront, partly_none}
 use Rattle.session_run.proofs.Sides.{four_append, last_of_four, three_append}
@@ -83,6 +86,22 @@ pub none_planned : {L : Type 0} (tells : L → Option Telling) (scripts : List (
     (olds : List (LaneState L)) → PlannedSoFar tells scripts 0 positions olds olds []
 none_planned tells scripts positions olds =
     record { front = []; whole = refl; long = refl; planned = tt; gone = tt }
+
+pub so_far_at : {L : Type 0} {tells : L → Option Telling} {scripts : List (List Step)} {at k : ℕ} {positions : List ℕ}
+    {olds nows : List (LaneState L)} {all : List (List ClientBodies)} → at ≡ k
+    → PlannedSoFar tells scripts k positions olds nows all → PlannedSoFar tells scripts at positions olds nows all
+so_far_at {L} {tells} {scripts} {at} {k} {positions} {olds} {nows} {all} same so_far =
+    subst (λ (n : ℕ). PlannedSoFar tells scripts n positions olds nows all) (sym same) so_far
+
+pub still_long : {L : Type 0} {tells : L → Option Telling} {scripts : List (List Step)} {k : ℕ} {positions : List ℕ}
+    {olds nows : List (LaneState L)} {all : List (List ClientBodies)}
+    → PlannedSoFar tells scripts k positions olds nows all → k < length olds → length nows ≡ length olds
+still_long {k = k} {olds = olds} so_far within =
+    let whole = ap (λ (l : List (LaneState _)). length l) so_far.whole in
+    let both = length-append so_far.front (drop k olds) in
+    let long = so_far.long in
+    let rest = length-drop k olds in
+    omega (arith, whole, both, long, rest, within)
 
 -- the lane that is planned next is as it was, and nobody asked anything of it
 pub record NextLane {L : Type 0} (tells : L → Option Telling) (scripts : List (List Step)) (k : ℕ) (positions : List ℕ)
@@ -262,3 +281,89 @@ boards_of_clients scripts positions olds news all many planned same =
     last_of_four (IsPlannedOn scripts) (HasClients many) positions olds news all
     (λ position old new planned is. ap (λ (l : List ClientBodies). length l) is.plans
     ∙ length-map scripts (planned_on position (Live (payload_of old.status.mtu))) ∙ sym same) planned
+
+-- ---- the boards at a hub, one after another
+
+front_of_drop : (k : ℕ) (xs rest : List ℕ) (x : ℕ) → x ∷ rest ≡ drop k xs
+    → (k < length xs) × (get_or xs k 0 ≡ x) × (rest ≡ drop (suc k) xs)
+front_of_drop k [] rest x is =
+    let none = ap (λ (l : List ℕ). length l) (is ∙ drop_all k [] (omega arith)) in absurd (omega (arith, none))
+front_of_drop zero (y ∷ xs) rest x is = (omega arith, sym (ap (λ (l : List ℕ). get_or l 0 0) is), ap (λ (l : List ℕ). drop 1 l) is)
+front_of_drop (suc k) (y ∷ xs) rest x is =
+    let there = front_of_drop k xs rest x is in (omega (arith, there.0), there.1, there.2)
+
+-- the next board is at a hub, and has the next lane
+pub record NextAtHub {L : Type 0} (boards : List (Standing L)) (position k : ℕ) : Type 0 where
+  pub there : k < length (positions_at_hub 0 boards)
+  pub position' : get_or (positions_at_hub 0 boards) k 0 ≡ position
+  pub later : positions_at_hub (position + 1) (drop (position + 1) boards)
+      ≡ drop (k + 1) (positions_at_hub 0 boards)
+
+begins_with : {L : Type 0} (boards : List (Standing L)) (position : ℕ) (board : Standing L) → position < length boards
+    → board ≡ get_or boards position board → drop position boards ≡ board ∷ drop (position + 1) boards
+begins_with boards position board within is =
+    drop_more boards position board within ∙ ap (λ (b : Standing _). b ∷ drop (position + 1) boards) (sym is)
+
+at_hub_first : {L : Type 0} (position : ℕ) (board : Standing L) (rest : List (Standing L)) → is_at_hub board ≡ true
+    → positions_at_hub position (board ∷ rest) ≡ position ∷ positions_at_hub (position + 1) rest
+at_hub_first position (standing.Live lane) rest is = absurd cc
+at_hub_first position standing.AtHub rest is = refl
+at_hub_first position (standing.Silent link) rest is = absurd cc
+at_hub_first position (standing.Down link) rest is = absurd cc
+
+not_at_hub : {L : Type 0} (position : ℕ) (board : Standing L) (rest : List (Standing L)) → is_at_hub board ≡ false
+    → positions_at_hub position (board ∷ rest) ≡ positions_at_hub (position + 1) rest
+not_at_hub position (standing.Live lane) rest is = refl
+not_at_hub position standing.AtHub rest is = absurd cc
+not_at_hub position (standing.Silent link) rest is = refl
+not_at_hub position (standing.Down link) rest is = refl
+
+pub next_at_hub : {L : Type 0} (boards : List (Standing L)) (position k : ℕ) (board : Standing L)
+    → position < length boards → board ≡ get_or boards position board → is_at_hub board ≡ true
+    → positions_at_hub position (drop position boards) ≡ drop k (positions_at_hub 0 boards)
+    → NextAtHub boards position k
+next_at_hub {L} boards position k board within is at left =
+    let rest = drop (position + 1) boards in
+    let here = front_of_drop k (positions_at_hub 0 boards) (positions_at_hub (position + 1) rest) position
+    (sym (at_hub_first position board rest at)
+    ∙ (ap (λ (l : List (Standing L)). positions_at_hub position l) (sym (begins_with boards position board within is))
+    ∙ left)) in
+    let up : suc k ≡ k + 1 = omega arith in
+    record {
+      there = here.0;
+      position' = here.1;
+      later = here.2 ∙ ap (λ (n : ℕ). drop n (positions_at_hub 0 boards)) up;
+    }
+
+pub next_skipped : {L : Type 0} (boards : List (Standing L)) (position k : ℕ) (board : Standing L)
+    → position < length boards → board ≡ get_or boards position board → is_at_hub board ≡ false
+    → positions_at_hub position (drop position boards) ≡ drop k (positions_at_hub 0 boards)
+    → positions_at_hub (position + 1) (drop (position + 1) boards) ≡ drop k (positions_at_hub 0 boards)
+next_skipped {L} boards position k board within is at left =
+    sym (not_at_hub position board (drop (position + 1) boards) at)
+    ∙ (ap (λ (l : List (Standing L)). positions_at_hub position l) (sym (begins_with boards position board within is))
+    ∙ left)
+
+-- no board is left, so no lane is
+pub none_left : {L : Type 0} (boards : List (Standing L)) (position k : ℕ) → length boards ≤ position
+    → positions_at_hub position (drop position boards) ≡ drop k (positions_at_hub 0 boards)
+    → length (positions_at_hub 0 boards) ≤ k
+none_left {L} boards position k over left =
+    let none : drop k (positions_at_hub 0 boards) ≡ [] = sym left
+    ∙ ap (λ (l : List (Standing L)). positions_at_hub position l) (drop_all position boards over) in
+    let long = length-drop k (positions_at_hub 0 boards) in
+    let empty = ap (λ (l : List ℕ). length l) none in
+    omega (arith, long, empty)
+
+-- the plans on the next lane are those of the board at that position
+pub planned_there : {L : Type 0} {scripts : List (List Step)} {position : ℕ} {planned : List ClientBodies}
+    {old new : LaneState L} (at : ℕ) → at ≡ position → IsPlannedOn scripts position old new planned
+    → IsPlannedOn scripts at old new planned
+planned_there {L} {scripts} {planned = planned} {old} {new} at same is =
+    subst (λ (n : ℕ). IsPlannedOn scripts n old new planned) (sym same) is
+
+pub partly_there : {L : Type 0} (scripts : List (List Step)) (at position : ℕ) (old new : LaneState L)
+    → at ≡ position → IsPartlyPlanned (bodies_of_plans (plans_over scripts position old)) new.items
+    → IsPartlyPlanned (bodies_of_plans (plans_over scripts at old)) new.items
+partly_there {L} scripts at position old new same is =
+    subst (λ (n : ℕ). IsPartlyPlanned (bodies_of_plans (plans_over scripts n old)) new.items) (sym same) is

@@ -17,8 +17,8 @@ use Rattle.board_history.specs.Links.{IsUntouched, LinkReport}
 use Rattle.board_history.specs.LinkRuns.{AreRunsOver, IsRunOver}
 use Rattle.board_greeting.specs.Boards.{AreFreshLinks, LeavesRoom, IsFreshLink}
 use Rattle.session_run.specs.Boards.{OnRun}
-use Rattle.session_run.specs.Places.{AreCameOf, IsCameOf}
-use Rattle.board_greeting.specs.declared.rejoined.Board.{Board}
+use Rattle.session_run.specs.Places.{AreCameOf, IsCameOf, parts_after, parts_at}
+use Rattle.board_greeting.specs.declared.standing.Standing.{Standing}
 use Rattle.board_history.proofs.Lists.{begins_at}
 use Rattle.session_run.specs.Faults.{run_fault}
 use Rattle.session_run.specs.Links.{AreLeft, IsLeft}
@@ -78,41 +78,38 @@ none_ran shows settings specs scripts kept = record {
   ran = λ e. tt;
 }
 
-none_of : {L : Type 0} (shows : L → LinkReport) (settings : Limits)
-    (scripts : List (List Step)) (k : ℕ) (specs : List BoardSpec)
-    → AreCameOf shows settings scripts k specs [] → 0 < length specs → ⊥
-none_of shows settings scripts k [] came some = omega (arith, some)
-none_of shows settings scripts k (s ∷ specs) came some = came
+none_of : {L : Type 0} (shows : L → LinkReport) (settings : Limits) (scripts : List (List Step)) (k : ℕ)
+    (specs : List BoardSpec) (parts : List (List ClientPart)) → AreCameOf shows settings scripts k specs [] parts
+    → 0 < length specs → ⊥
+none_of shows settings scripts k [] parts came some = omega (arith, some)
+none_of shows settings scripts k (s ∷ specs) parts came some = came
 
 -- what came of the next board, and of those behind it
-pub record NextBoard {L : Type 0} (shows : L → LinkReport) (settings : Limits)
-    (scripts : List (List Step)) (k : ℕ) (specs : List BoardSpec) (spec : BoardSpec) (board : Board L (List ClientPart))
-    (others : List (Board L (List ClientPart))) : Type 0 where
-  pub came : IsCameOf shows settings scripts k spec board
-  pub later : AreCameOf shows settings scripts (k + 1) (drop (k + 1) specs) others
+pub record NextBoard {L : Type 0} (shows : L → LinkReport) (settings : Limits) (scripts : List (List Step)) (k : ℕ)
+    (specs : List BoardSpec) (spec : BoardSpec) (board : Standing L) (others : List (Standing L))
+    (parts : List (List ClientPart)) : Type 0 where
+  pub came : IsCameOf shows settings scripts k spec board (parts_at board parts)
+  pub later : AreCameOf shows settings scripts (k + 1) (drop (k + 1) specs) others (parts_after board parts)
 
-pub next_board : {L : Type 0} (shows : L → LinkReport) (settings : Limits)
-    (scripts : List (List Step)) (k : ℕ) (specs : List BoardSpec) (spec : BoardSpec) (boards others : List (Board L
-    (List ClientPart)))
-    (board : Board L (List ClientPart)) → AreCameOf shows settings scripts k (drop k specs) boards → k < length
-    specs
-    → spec ≡ get_or specs k spec → boards ≡ board ∷ others
-    → NextBoard shows settings scripts k specs spec board others
-next_board {L} shows settings scripts k specs spec boards others board came within is here =
-    let both = subst (λ (ss : List BoardSpec). AreCameOf shows settings scripts k ss (board ∷ others))
+pub next_board : {L : Type 0} (shows : L → LinkReport) (settings : Limits) (scripts : List (List Step)) (k : ℕ)
+    (specs : List BoardSpec) (spec : BoardSpec) (boards others : List (Standing L)) (board : Standing L)
+    (parts : List (List ClientPart)) → AreCameOf shows settings scripts k (drop k specs) boards parts
+    → k < length specs → spec ≡ get_or specs k spec → boards ≡ board ∷ others
+    → NextBoard shows settings scripts k specs spec board others parts
+next_board {L} shows settings scripts k specs spec boards others board parts came within is here =
+    let both = subst (λ (ss : List BoardSpec). AreCameOf shows settings scripts k ss (board ∷ others) parts)
     (begins_at specs k spec within is)
-    (subst (λ (bs : List (Board L (List ClientPart))). AreCameOf shows settings scripts k (drop k specs) bs)
-    here came) in
+    (subst (λ (bs : List (Standing L)). AreCameOf shows settings scripts k (drop k specs) bs parts) here came) in
     record { came = both.0; later = both.1 }
 
 -- some board is left
-pub some_left : {L : Type 0} (shows : L → LinkReport) (settings : Limits)
-    (scripts : List (List Step)) (k : ℕ) (specs : List BoardSpec) (boards : List (Board L (List ClientPart)))
-    → AreCameOf shows settings scripts k (drop k specs) boards → k < length specs → 0 < length boards
-some_left shows settings scripts k specs [] came within =
+pub some_left : {L : Type 0} (shows : L → LinkReport) (settings : Limits) (scripts : List (List Step)) (k : ℕ)
+    (specs : List BoardSpec) (boards : List (Standing L)) (parts : List (List ClientPart))
+    → AreCameOf shows settings scripts k (drop k specs) boards parts → k < length specs → 0 < length boards
+some_left shows settings scripts k specs [] parts came within =
     let long = length-drop k specs in
-    absurd (none_of shows settings scripts k (drop k specs) came (omega (arith, long, within)))
-some_left shows settings scripts k specs (b ∷ boards) came within = omega arith
+    absurd (none_of shows settings scripts k (drop k specs) parts came (omega (arith, long, within)))
+some_left shows settings scripts k specs (b ∷ boards) parts came within = omega arith
 
 pub room_for_one : {L : Type 0} (shows : L → LinkReport) (settings : Limits) (k : ℕ) (specs : List BoardSpec)
     (scripts : List (List Step)) (runs : List BoardRun) (is_whole : Bool) (kept now : List L) (made : ℕ)

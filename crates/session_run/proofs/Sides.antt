@@ -1,6 +1,6 @@
 -- Lists side by side.
 use Rattle.std.proofs.Common.{◌≡◌, ◌∙◌, ◌⊎◌, inl, inr, subst, sym, ℕ, List, [], ◌∷◌, ◌++◌, length, ap, suc, refl}
-use Rattle.std.proofs.Common.{arith, append-nil, drop, take}
+use Rattle.std.proofs.Common.{arith}
 use Rattle.std.specs.Prelude.{IfOk, IsOkAnd, OnErr, Result, Ok, Err}
 use Rattle.std.proofs.lemmas.List.{drop_all, take_all}
 use Rattle.std.specs.List.{AllByRecursion}
@@ -80,22 +80,6 @@ four_long holds (x ∷ xs) [] zs ws all = absurd all
 four_long holds (x ∷ xs) (y ∷ ys) [] ws all = absurd all
 four_long holds (x ∷ xs) (y ∷ ys) (z ∷ zs) [] all = absurd all
 four_long holds (x ∷ xs) (y ∷ ys) (z ∷ zs) (w ∷ ws) all = ap suc (four_long holds xs ys zs ws all.1)
-
-pub three_long : {A B C : Type 0} (holds : A → B → C → Type 0) (xs : List A) (ys : List B) (zs : List C)
-    → AllThree holds xs ys zs → length zs ≡ length ys
-three_long holds [] [] [] all = refl
-three_long holds [] [] (z ∷ zs) all = absurd all
-three_long holds [] (y ∷ ys) zs all = absurd all
-three_long holds (x ∷ xs) [] zs all = absurd all
-three_long holds (x ∷ xs) (y ∷ ys) [] all = absurd all
-three_long holds (x ∷ xs) (y ∷ ys) (z ∷ zs) all = ap suc (three_long holds xs ys zs all.1)
-
--- a slice of all items that was written is written back whole
-pub written_back : {A : Type 0} (n : ℕ) (old new : List A) → n ≡ length old → length new ≡ length old
-    → take n (new ++ drop (length new) old) ≡ new
-written_back n old new is same =
-    ap (λ l. take n (new ++ l)) (drop_all (length new) old (omega (arith, same)))
-    ∙ (ap (take n) (append-nil new) ∙ take_all n new (omega (arith, same, is)))
 
 -- what is so of both results
 pub ok_then : {A B E F : Type 0} (one : Result A E) (other : Result B F) (Q : A → B → Type 0) (R : B → Type 0)

@@ -2,6 +2,7 @@
 
 ghost use Rattle.std.specs.Prelude.{◌≡◌, ◌<◌, ◌^◌, ◌++◌, ◌∷◌, [], true, length, IfOk, IfSome};
 ghost use Rattle.std.specs.List.{AllByRecursion};
+ghost use Rattle.std.specs.Vec.Iter.{into_iter_items};
 ghost use Rattle.script_steps.specs.Packing.{CanBePacked, HaveFewPieces};
 ghost use Rattle.board_history.specs.Links.{LinkReport};
 ghost use Rattle.board_history.specs.LinkRuns.{AreRunsOver, IsRunOver, ShowsLates, ShowsScripts};
@@ -10,11 +11,11 @@ ghost use Rattle.board_greeting.specs.Reports.{shown_by};
 ghost use Rattle.session_run.specs.Boards.{IsNamed, OnRun};
 ghost use Rattle.session_run.specs.Lanes.{IsRunOn, IsStoppedLane};
 ghost use Rattle.session_run.specs.Links.{AreLeft, IsLeft, Keeps};
-ghost use Rattle.session_run.specs.Places.{AreCameOf, IsCameOf};
+ghost use Rattle.session_run.specs.Places.{AreCameOf, IsCameOf, parts_after, parts_at};
 
 use crate::late_answers::with_late_answers;
 use crate::laws::a_fresh_link_is_left;
-use board_greeting::{Board, Rejoined, close_lane};
+use board_greeting::{Standing, close_lane};
 use board_history::records::{a_finished_lane_is_a_live_run, a_lane_sends_a_merge_at_any_moment};
 use board_specs::BoardSpec;
 use hub_lane::Lane;
@@ -25,6 +26,7 @@ use reliable_engine::Settings;
 use script_plans::{BoardRun, ClientPart, ClientParts, Greeting, Lates, plan_on};
 use script_steps::Steps;
 use std::alloc::Global;
+use std::vec::IntoIter;
 
 /// The run of a board under its name, where it has parts.
 fn named(
@@ -100,31 +102,51 @@ fn run_idle(
     named(alloc, spec, greeting, Some(ClientParts::from_vec(parts)))
 }
 
-/// The run of a board, where there is memory for it, and its link.
+/// The run of a board, if there is memory for it, and its link. `parts` is what came of its clients, if that is known.
 fn finish_board<L: Link>(
     alloc: Global,
     settings: Settings,
-    board: Board<L, ClientParts>,
+    board: Standing<L>,
+    parts: Option<ClientParts>,
     spec: &BoardSpec,
     position: u32,
     scripts: &[Steps],
 ) -> (L, Result<BoardRun, NoMemory>)
     requires can { AllByRecursion (AllByRecursion CanBePacked) scripts.now }
     requires few { AllByRecursion HaveFewPieces scripts.now }
-    requires came { IsCameOf (shown_by L.Link) settings scripts.now position spec.now board }
+    requires came { IsCameOf (shown_by L.Link) settings scripts.now position spec.now board parts }
     ensures ran { IfOk result.1 (λ run. IsRunOver settings spec.now position scripts.now run
         (shown_by L.Link result.0)) }
     ensures left { IsLeft spec.now position scripts.now (shown_by L.Link result.0) }
 {
     a_fresh_link_is_left();
     match board {
-        Board::Live { lane, came } => finish_live(
-            alloc, settings, lane, came, spec, position, scripts,
+        Standing::Live(lane) => finish_live(
+            alloc, settings, lane, parts, spec, position, scripts,
         ),
-        Board::Idle { greeting, link } => (
+        Standing::AtHub => unreachable!(),
+        Standing::Silent(link) => (
             link,
-            run_idle(alloc, spec, position, greeting, scripts),
+            run_idle(alloc, spec, position, Greeting::Silent, scripts),
         ),
+        Standing::Down(link) => (
+            link,
+            run_idle(alloc, spec, position, Greeting::Down, scripts),
+        ),
+    }
+}
+
+/// What came of the clients of a board, if it is live and that is known: the next parts.
+fn next_parts<L: Link>(
+    board: &Standing<L>,
+    parts: &mut IntoIter<ClientParts>,
+) -> Option<ClientParts>
+    ensures parts { result ≡ parts_at board.now (into_iter_items parts.old) }
+    ensures others { into_iter_items parts.new ≡ parts_after board.now (into_iter_items parts.old) }
+{
+    match board {
+        Standing::Live(_) => parts.next(),
+        Standing::AtHub | Standing::Silent(_) | Standing::Down(_) => None,
     }
 }
 
@@ -139,11 +161,13 @@ fn add_run(runs: &mut Vec<BoardRun>, run: Result<BoardRun, NoMemory>, is_whole: 
     }
 }
 
-/// The runs of all boards, in order, and each link is given back to the rack.
+/// The runs of all boards, in order, and each link is given back to the rack. `parts` is what came of the clients of each
+/// live board, or nothing.
 pub(crate) fn finish_boards<R: Rack>(
     alloc: Global,
     settings: Settings,
-    mut boards: Rejoined<R::L, ClientParts>,
+    boards: Vec<Standing<R::L>>,
+    parts: Vec<ClientParts>,
     specs: &[BoardSpec],
     scripts: &[Steps],
     rack: &mut R,
@@ -151,7 +175,7 @@ pub(crate) fn finish_boards<R: Rack>(
     requires few_boards { length specs.now < 2 ^ 32 }
     requires can { AllByRecursion (AllByRecursion CanBePacked) scripts.now }
     requires few { AllByRecursion HaveFewPieces scripts.now }
-    requires came { AreCameOf (shown_by R.L.Link) settings scripts.now 0 specs.now boards }
+    requires came { AreCameOf (shown_by R.L.Link) settings scripts.now 0 specs.now boards.items parts.items }
     requires room { HasRoom R.Rack rack.old (length specs.now) }
     ensures ran { IfOk result (λ runs. Keeps R.Rack R.L.Link rack.old rack.new
         (AreRunsOver settings 0 specs.now scripts.now runs.items)) }
@@ -160,11 +184,17 @@ pub(crate) fn finish_boards<R: Rack>(
     ensures made { R.made rack.new ≡ R.made rack.old }
     ensures faults { R.faults rack.new ≡ R.faults rack.old }
 {
+    let mut boards = boards.into_iter();
+    let mut parts = parts.into_iter();
     let mut runs = Vec::new(alloc);
     let mut is_whole = true;
     for (position, spec) in specs.iter().enumerate() {
-        let board = boards.next();
-        let (link, run) = finish_board(alloc, settings, board, spec, position as u32, scripts);
+        let Some(board) = boards.next() else {
+            unreachable!()
+        };
+        let came = next_parts(&board, &mut parts);
+        let (link, run) =
+            finish_board(alloc, settings, board, came, spec, position as u32, scripts);
         rack.keep(link);
         is_whole = add_run(&mut runs, run, is_whole);
     }

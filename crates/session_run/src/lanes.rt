@@ -1,4 +1,5 @@
-//! All lanes of a session: the clients are planned on each, and then they run at a hub.
+//! All lanes of a session, taken from the places of their boards: the clients are planned on each, and then they run at
+//! a hub.
 
 ghost use Rattle.std.specs.Prelude.{◌≡◌, ◌<◌, ◌^◌, length, IfOk, IsOkAnd};
 ghost use Rattle.std.specs.List.{AllByRecursion};
@@ -7,6 +8,7 @@ ghost use Rattle.session_run.specs.Scripts.{CanBeRun};
 ghost use Rattle.session_run.specs.Parts.{HasClients, HasLanes, parts_from};
 ghost use Rattle.session_run.specs.Plans.{AskAllFrom};
 ghost use Rattle.board_greeting.specs.Boards.{HasNoEntry};
+ghost use Rattle.board_greeting.specs.Standings.{positions_at_hub};
 ghost use Rattle.session_run.specs.Lanes.{AllFour, AllThree, HasGoneOn, IsPlannedOn, IsRunOn};
 
 use crate::asking::client_plans;
@@ -14,6 +16,7 @@ use crate::board_plans::BoardPlans;
 use crate::hub::run_at_hub;
 use crate::parts::client_parts;
 use crate::planning::plan_clients;
+use board_greeting::{Standing, is_at_hub};
 use board_history::building::a_record_is_partly_planned_on_its_way;
 use client_history::clients::{
     a_hub_left_at_any_moment_is_partly_planned, a_lane_comes_back_with_its_record,
@@ -31,51 +34,56 @@ use std::marker::{Send, Sync};
 use std::sync::Wait;
 use std::thread::Threads;
 
-/// Plans the clients on each lane, whose board has the position beside it.
+/// Plans the clients on each lane. These are the lanes of the boards at a hub, in board order.
 fn plan_lanes<L: Link>(
     alloc: Global,
-    lanes: &mut [Lane<L>],
-    positions: &[u32],
+    lanes: &mut Vec<Lane<L>>,
+    boards: &[Standing<L>],
     scripts: &[Steps],
 ) -> Result<Vec<BoardPlans>, NoMemory>
+    requires few_boards { length boards.now < 2 ^ 32 }
     requires can { CanBeRun scripts.now }
-    requires positions { length positions.now ≡ length lanes.old }
-    requires unused { AllByRecursion HasNoEntry lanes.old }
-    ensures planned { IfOk result (λ boards. AllFour (IsPlannedOn scripts.now) positions.now lanes.old lanes.new
-        boards.items) }
-    ensures gone_on { AllThree (HasGoneOn L.telling scripts.now) positions.now lanes.old lanes.new }
+    requires positions { length (positions_at_hub 0 boards.now) ≡ length lanes.old.items }
+    requires unused { AllByRecursion HasNoEntry lanes.old.items }
+    ensures planned { IfOk result (λ made. AllFour (IsPlannedOn scripts.now) (positions_at_hub 0 boards.now) lanes.old.items
+        lanes.new.items made.items) }
+    ensures gone_on { AllThree (HasGoneOn L.telling scripts.now) (positions_at_hub 0 boards.now) lanes.old.items lanes.new.items }
 {
     a_record_is_partly_planned_on_its_way();
-    let mut boards = Vec::with_capacity(alloc, positions.len())?;
-    for (index, lane) in lanes.iter_mut().enumerate() {
-        let planned = plan_clients(alloc, lane, positions[index], scripts)?;
-        boards.push_reserved(BoardPlans::from_vec(planned));
+    let mut made = Vec::with_capacity(alloc, lanes.len())?;
+    for (position, board) in boards.iter().enumerate() {
+        if !is_at_hub(board) {
+            continue;
+        }
+        let at = made.len();
+        let planned = plan_clients(alloc, &mut lanes[at], position as u32, scripts)?;
+        made.push_reserved(BoardPlans::from_vec(planned));
     }
-    Ok(boards)
+    Ok(made)
 }
 
 /// Plans the clients on each lane, and what each then asks of all lanes.
 fn plan_all<L: Link>(
     alloc: Global,
-    lanes: &mut [Lane<L>],
-    positions: &[u32],
+    lanes: &mut Vec<Lane<L>>,
+    boards: &[Standing<L>],
     scripts: &[Steps],
 ) -> Result<(Vec<BoardPlans>, Vec<ClientPlan>), NoMemory>
-    requires few_lanes { length positions.now < 2 ^ 32 }
+    requires few_boards { length boards.now < 2 ^ 32 }
     requires can { CanBeRun scripts.now }
-    requires positions { length positions.now ≡ length lanes.old }
-    requires unused { AllByRecursion HasNoEntry lanes.old }
-    ensures planned { IfOk result (λ made. AllFour (IsPlannedOn scripts.now) positions.now lanes.old lanes.new
-        made.0.items) }
+    requires positions { length (positions_at_hub 0 boards.now) ≡ length lanes.old.items }
+    requires unused { AllByRecursion HasNoEntry lanes.old.items }
+    ensures planned { IfOk result (λ made. AllFour (IsPlannedOn scripts.now) (positions_at_hub 0 boards.now) lanes.old.items
+        lanes.new.items made.0.items) }
     ensures clients { IfOk result (λ made. AreOfClientsFrom 1 made.1.items) }
     ensures all { IfOk result (λ made. length made.1.items ≡ length scripts.now) }
-    ensures for_hub { IfOk result (λ made. AllByRecursion (IsPlanFor (length lanes.new)) made.1.items) }
+    ensures for_hub { IfOk result (λ made. AllByRecursion (IsPlanFor (length lanes.new.items)) made.1.items) }
     ensures counts { IfOk result (λ made. AskAllFrom 0 made.1.items made.0.items) }
-    ensures gone_on { AllThree (HasGoneOn L.telling scripts.now) positions.now lanes.old lanes.new }
+    ensures gone_on { AllThree (HasGoneOn L.telling scripts.now) (positions_at_hub 0 boards.now) lanes.old.items lanes.new.items }
 {
-    let boards = plan_lanes(alloc, lanes, positions, scripts)?;
-    let clients = client_plans(alloc, scripts, &boards)?;
-    Ok((boards, clients))
+    let plans = plan_lanes(alloc, lanes, boards, scripts)?;
+    let clients = client_plans(alloc, scripts, &plans)?;
+    Ok((plans, clients))
 }
 
 /// The parts of the clients on each board, where they ran to their end.
@@ -93,30 +101,30 @@ fn parts_if_ran(
 }
 
 /// Runs the scripts of all clients on lanes that nobody asked anything of, each client in a thread of its own, and
-/// hands the lanes back. The board of each lane has the position beside it.
+/// hands the lanes back. They are the lanes of the boards at a hub, in board order.
 pub(crate) fn run_lanes<L: Link + Send + Drop, T: Threads + Wait + Sync, G: Gate>(
     rt: &T,
     alloc: Global,
     mut lanes: Vec<Lane<L>>,
-    positions: &[u32],
+    boards: &[Standing<L>],
     scripts: &[Steps],
     gate: &G,
 ) -> (Vec<Lane<L>>, Result<Vec<ClientParts>, NoMemory>)
-    requires few_lanes { length positions.now < 2 ^ 32 }
+    requires few_boards { length boards.now < 2 ^ 32 }
     requires can { CanBeRun scripts.now }
-    requires positions { length positions.now ≡ length lanes.items }
+    requires positions { length (positions_at_hub 0 boards.now) ≡ length lanes.items }
     requires unused { AllByRecursion HasNoEntry lanes.items }
-    ensures ran { IfOk result.1 (λ parts. AllThree (IsRunOn scripts.now) positions.now result.0.items parts.items) }
-    ensures gone_on { AllThree (HasGoneOn L.telling scripts.now) positions.now lanes.items result.0.items }
+    ensures ran { IfOk result.1 (λ parts. AllThree (IsRunOn scripts.now) (positions_at_hub 0 boards.now) result.0.items parts.items) }
+    ensures gone_on { AllThree (HasGoneOn L.telling scripts.now) (positions_at_hub 0 boards.now) lanes.items result.0.items }
 {
     a_record_tells_its_lane();
     a_lane_comes_back_with_its_record();
     clients_of_a_hub_leave_a_clients_record();
     a_hub_left_at_any_moment_is_partly_planned();
-    match plan_all(alloc, &mut lanes, positions, scripts) {
-        Ok((boards, clients)) => {
+    match plan_all(alloc, &mut lanes, boards, scripts) {
+        Ok((plans, clients)) => {
             let (lanes, results) = run_at_hub(rt, alloc, lanes, &clients, gate);
-            (lanes, parts_if_ran(alloc, boards, results))
+            (lanes, parts_if_ran(alloc, plans, results))
         }
         Err(NoMemory) => (lanes, Err(NoMemory)),
     }

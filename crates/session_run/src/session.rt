@@ -5,19 +5,17 @@ ghost use Rattle.std.specs.List.{AllByRecursion};
 ghost use Rattle.ipb_outside.specs.Faults.{RisesExactlyIf};
 ghost use Rattle.board_history.specs.Links.{IsUntouched};
 ghost use Rattle.board_history.specs.LinkRuns.{AreRunsOver};
-ghost use Rattle.board_greeting.specs.Boards.{AreReached, HasMemory, HasRoom};
+ghost use Rattle.board_greeting.specs.Boards.{AreReached, HasRoom};
 ghost use Rattle.board_greeting.specs.Reports.{shown_by};
-ghost use Rattle.board_greeting.specs.Places.{IsSplitOf};
 ghost use Rattle.session_run.specs.Scripts.{CanBeRun};
 ghost use Rattle.session_run.specs.Links.{AreLeft, AreMadeFor, CanBeReached, Keeps};
 
 use crate::finish::finish_boards;
 use crate::lanes::run_lanes;
 use crate::laws::a_fresh_link_is_left;
-use board_greeting::{Rejoined, Split, greet_boards, keep_all, split_boards};
+use board_greeting::{Standing, greet_boards, keep_all, put_back, take_lanes};
 use board_specs::BoardSpec;
 use client_threads::Gate;
-use hub_lane::Greeted;
 use ipb_base::NoMemory;
 use links::{Rack, RackFault};
 use reliable_engine::Settings;
@@ -73,44 +71,12 @@ fn parts_or_none(alloc: Global, parts: Result<Vec<ClientParts>, NoMemory>) -> Ve
     }
 }
 
-/// Runs the scripts on boards that were taken apart, and gives each link back to the rack.
-fn run_split<R: Rack, T: Threads + Wait + Sync, G: Gate>(
-    rt: &T,
-    alloc: Global,
-    settings: Settings,
-    split: Split<R::L>,
-    specs: &[BoardSpec],
-    scripts: &[Steps],
-    rack: &mut R,
-    gate: &G,
-) -> Result<Vec<BoardRun>, NoMemory>
-    requires few_boards { length specs.now < 2 ^ 32 }
-    requires can { CanBeRun scripts.now }
-    requires reached { IsSplitOf (shown_by R.L.Link) settings specs.now split }
-    requires room { HasRoom R.Rack rack.old (length specs.now) }
-    ensures ran { IfOk result (λ runs. Keeps R.Rack R.L.Link rack.old rack.new
-        (AreRunsOver settings 0 specs.now scripts.now runs.items)) }
-    ensures left { Keeps R.Rack R.L.Link rack.old rack.new
-        (λ links. AreLeft 0 specs.now scripts.now links × (length links ≡ length specs.now)) }
-    ensures made { R.made rack.new ≡ R.made rack.old }
-    ensures faults { R.faults rack.new ≡ R.faults rack.old }
-{
-    let Split {
-        places,
-        positions,
-        lanes,
-    } = split;
-    let (lanes, parts) = run_lanes(rt, alloc, lanes, &positions, scripts, gate);
-    let boards = Rejoined::of(places, lanes, parts_or_none(alloc, parts));
-    finish_boards(alloc, settings, boards, specs, scripts, rack)
-}
-
 /// Runs the scripts on boards that were greeted, all at once, and gives each link back to the rack.
 pub fn run_greeted<R: Rack, T: Threads + Wait + Sync, G: Gate>(
     rt: &T,
     alloc: Global,
     settings: Settings,
-    boards: Vec<Greeted<R::L>>,
+    mut boards: Vec<Standing<R::L>>,
     specs: &[BoardSpec],
     scripts: &[Steps],
     rack: &mut R,
@@ -119,7 +85,6 @@ pub fn run_greeted<R: Rack, T: Threads + Wait + Sync, G: Gate>(
     requires few_boards { length specs.now < 2 ^ 32 }
     requires can { CanBeRun scripts.now }
     requires all { length boards.items ≡ length specs.now }
-    requires memory { AllByRecursion HasMemory boards.items }
     requires reached { AreReached (shown_by R.L.Link) settings specs.now boards.items }
     requires room { HasRoom R.Rack rack.old (length specs.now) }
     ensures ran { IfOk result (λ runs. Keeps R.Rack R.L.Link rack.old rack.new
@@ -130,13 +95,14 @@ pub fn run_greeted<R: Rack, T: Threads + Wait + Sync, G: Gate>(
     ensures faults { R.faults rack.new ≡ R.faults rack.old }
 {
     a_fresh_link_is_left();
-    match split_boards(alloc, boards) {
-        Ok(split) => run_split(rt, alloc, settings, split, specs, scripts, rack, gate),
-        Err(boards) => {
-            keep_all(rack, boards);
-            Err(NoMemory)
-        }
-    }
+    let Ok(lanes) = take_lanes(alloc, &mut boards) else {
+        keep_all(rack, boards);
+        return Err(NoMemory);
+    };
+    let (lanes, parts) = run_lanes(rt, alloc, lanes, &boards, scripts, gate);
+    put_back(&mut boards, lanes);
+    let parts = parts_or_none(alloc, parts);
+    finish_boards(alloc, settings, boards, parts, specs, scripts, rack)
 }
 
 /// Runs the clients of a session over the links that a rack makes: all boards are greeted, and then each client runs

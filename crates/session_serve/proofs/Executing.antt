@@ -23,25 +23,22 @@ use Rattle.board_history.specs.Lanes.{IsSoundLane, IsTrueOf}
 use Rattle.board_history.specs.Links.{IsUntouched, LinkReport, board_there}
 use Rattle.board_history.proofs.Told.{some_then}
 use Rattle.hub_framing.specs.Frames.{RequestFrame}
-use Rattle.hub_lane.specs.Greeting.{link_of}
 use Rattle.hub_lane.specs.Lanes.{LaneState}
 use Rattle.hub_lane.specs.declared.answers.BoardState.{BoardState}
 use Rattle.hub_lane.specs.declared.answers.BoardState.TheVariants as stands
-use Rattle.hub_lane.specs.declared.greeting.Greeted.{Greeted}
-use Rattle.hub_lane.specs.declared.greeting.Greeted.TheVariants.{Ready, Silent, Down, NoMemory}
+use Rattle.board_greeting.specs.declared.standing.Standing.{Standing}
+use Rattle.board_greeting.specs.declared.standing.Standing.TheVariants.{Live, AtHub, Silent, Down}
 use Rattle.hub_session.specs.Answers.{control_packet}
 use Rattle.hub_session.specs.Exchanges.{LaneRequest, request_in}
 use Rattle.script_plans.specs.declared.greeting.Greeting.{Greeting}
 use Rattle.script_plans.specs.declared.greeting.Greeting.TheVariants as greeting
 use Rattle.client_threads.specs.Running.{AtEach}
-use Rattle.board_greeting.specs.Boards.{AreReached, HasMemory}
+use Rattle.board_greeting.specs.Boards.{AreReached}
 use Rattle.board_greeting.specs.Reports.{shown_by}
-use Rattle.board_greeting.specs.Places.{lanes_in, place_of, boards_in_order}
-use Rattle.board_greeting.specs.declared.rejoined.Board.{Board as Rejoined}
-use Rattle.board_greeting.specs.declared.split.Split.{Split}
+use Rattle.board_greeting.specs.Standings.{all_at_hub, lanes_in, links_in, with_lanes}
 use Rattle.board_greeting.proofs.Lanes.{lane_back}
 use Rattle.session_serve.specs.Boards.{states_from}
-use Rattle.session_serve.specs.Finish.{IsSound, link_in}
+use Rattle.session_serve.specs.Finish.{IsSound}
 use Rattle.session_serve.specs.Executed.{CameInFrames, HasExecutedOnly, HaveExecutedOnly, bodies_for, body_in}
 use Rattle.session_serve.specs.Hubs.{KeepsHead}
 use Rattle.session_serve.specs.Plans.{ArePlannedAt, IsLaneAt, PlansFrames}
@@ -50,6 +47,7 @@ use Rattle.session_serve.specs.declared.prepared.Prepared.{Prepared}
 use Rattle.session_serve.specs.ReportLaws.{ReportLaws}
 use Rattle.session_serve.proofs.Lists.{zip_long}
 use Rattle.session_serve.proofs.Planned.{sub_trans}
+use Rattle.session_serve.proofs.Standing.{ready_states}
 use Rattle.session_serve.proofs.Reporting.{BoardsBack, SideBySide, first_of, from_each, rest_of}
 
 -- ---- a merge of some of the bodies
@@ -167,9 +165,9 @@ lane_of_board told lane position at frame body is =
 -- ---- all boards
 
 -- from this position on the boards stand as if the first of their lanes had this number
-abbrev StandFrom : {L : Type 0} → List Greeting → ℕ → ℕ → List (Greeted L) → Type 0
+abbrev StandFrom : {L : Type 0} → List Greeting → ℕ → ℕ → List (Standing L) → Type 0
 StandFrom {L} told position lane boards = (i : ℕ) → slice_get (states_from 0 told) (position + i)
-    ≡ slice_get (states_from lane (map (λ (b : Greeted L). told_by b) boards)) i
+    ≡ slice_get (states_from lane (map (λ (b : Standing L). told_by b) boards)) i
 
 one_later : {A : Type 0} (xs ys : List A) (position : ℕ) (y : A)
     → ((i : ℕ) → slice_get xs (position + i) ≡ slice_get (y ∷ ys) i) → (i : ℕ)
@@ -182,24 +180,24 @@ abbrev PlansAt : {L : Type 0} → List Greeting → List (List RequestFrame) →
 PlansAt told connections lane old new = (position : ℕ) → IsLaneAt (states_from 0 told) lane position
     → PlansFrames position connections new.items
 
-module _ (L C : Type 0) (seen : Ghosts L) (settings : Limits) (laws : ReportLaws) (told : List Greeting)
+module _ (L : Type 0) (seen : Ghosts L) (settings : Limits) (laws : ReportLaws) (told : List Greeting)
     (connections : List (List RequestFrame)) where
   abbrev shows : L → LinkReport
   shows = shown_by seen
 
-  executed_only : (position lane : ℕ) (specs : List BoardSpec) (boards : List (Greeted L)) (news : List (LaneState L))
-      → length boards ≡ length specs → AllByRecursion HasMemory boards → AreReached shows settings specs boards
+  executed_only : (position lane : ℕ) (specs : List BoardSpec) (boards : List (Standing L)) (news : List (LaneState L))
+      → length boards ≡ length specs → AreReached shows settings specs boards
       → StandFrom told position lane boards → SideBySide lane (lanes_in boards) news (λ n. KeepsHead seen.telling)
       → SideBySide lane (lanes_in boards) news (PlansAt told connections)
-      → AllByRecursion (IsSound seen) (boards_in_order {P = C} (map place_of boards) news [])
+      → AllByRecursion (IsSound seen) (with_lanes (all_at_hub boards) news)
       → HaveExecutedOnly position connections (map shows
-      (map (λ (b : Rejoined L C). link_in b) (boards_in_order (map place_of boards) news [])))
-  executed_only position lane [] [] news long memory are stand heads plans sound = tt
-  executed_only position lane [] (b ∷ boards) news long memory are stand heads plans sound = absurd cc
-  executed_only position lane (s ∷ specs) [] news long memory are stand heads plans sound = absurd cc
-  executed_only position lane (s ∷ specs) (Ready old ∷ boards) [] long memory are stand heads plans sound =
+      (links_in (with_lanes (all_at_hub boards) news)))
+  executed_only position lane [] [] news long are stand heads plans sound = tt
+  executed_only position lane [] (b ∷ boards) news long are stand heads plans sound = absurd cc
+  executed_only position lane (s ∷ specs) [] news long are stand heads plans sound = absurd cc
+  executed_only position lane (s ∷ specs) (Live old ∷ boards) [] long are stand heads plans sound =
       absurd (let l = heads.long in omega (arith, l))
-  executed_only position lane (s ∷ specs) (Ready old ∷ boards) (n ∷ news) long memory are stand heads plans sound =
+  executed_only position lane (s ∷ specs) (Live old ∷ boards) (n ∷ news) long are stand heads plans sound =
       let to = lane_back seen.telling (shows old.link) settings s old n are.0 refl
       (first_of lane old (lanes_in boards) n news (λ k. KeepsHead seen.telling) heads) in
       let here : slice_get (states_from 0 told) position ≡ Some (stands.Lane lane) =
@@ -208,44 +206,44 @@ module _ (L C : Type 0) (seen : Ghosts L) (settings : Limits) (laws : ReportLaws
       (lane_of_board told lane position here) in (
         lane_only laws settings s position connections (payload_of n.status.mtu) (shows n.link) n.items n.outcomes n.lates
             n.give_ups (sound.0.1 settings s to).sound planned,
-        executed_only (position + 1) (lane + 1) specs boards news (omega (arith, long)) memory.1 are.1
+        executed_only (position + 1) (lane + 1) specs boards news (omega (arith, long)) are.1
             (one_later (states_from 0 told) _ position _ stand)
             (rest_of lane old (lanes_in boards) n news (λ k. KeepsHead seen.telling) heads)
             (rest_of lane old (lanes_in boards) n news (PlansAt told connections) plans) sound.1,
       )
-  executed_only position lane (s ∷ specs) (Silent link rounds ∷ boards) news long memory are stand heads plans sound = (
+  executed_only position lane (s ∷ specs) (Silent link ∷ boards) news long are stand heads plans sound = (
     untouched_only position connections (shows link) are.0.fresh.untouched,
-    executed_only (position + 1) lane specs boards news (omega (arith, long)) memory.1 are.1
+    executed_only (position + 1) lane specs boards news (omega (arith, long)) are.1
         (one_later (states_from 0 told) _ position _ stand) heads plans sound.1,
   )
-  executed_only position lane (s ∷ specs) (Down link ∷ boards) news long memory are stand heads plans sound = (
+  executed_only position lane (s ∷ specs) (Down link ∷ boards) news long are stand heads plans sound = (
     untouched_only position connections (shows link) are.0.fresh.untouched,
-    executed_only (position + 1) lane specs boards news (omega (arith, long)) memory.1 are.1
+    executed_only (position + 1) lane specs boards news (omega (arith, long)) are.1
         (one_later (states_from 0 told) _ position _ stand) heads plans sound.1,
   )
-  executed_only position lane (s ∷ specs) (NoMemory link ∷ boards) news long memory are stand heads plans sound =
-      absurd memory.0
+  executed_only position lane (s ∷ specs) (AtHub ∷ boards) news long are stand heads plans sound =
+      absurd are.0
 
 -- what the boards of lanes that came back executed came in frames
-pub came_in_frames : {L C : Type 0} {settings : Limits} {specs : List BoardSpec} {split : Split L}
-    {prepared : Prepared} {news : List (LaneState L)} {ended : List (Rejoined L C)} (laws : ReportLaws)
-    (seen : Ghosts L) (ready : IsReady (shown_by seen) settings specs split prepared) (came back : List PairReport)
-    → BoardsBack seen settings specs ready.apart.boards news ended → AllByRecursion (IsSound seen) ended
-    → ArePlannedAt prepared.states split.lanes.items news came back
-    → CameInFrames (map (shown_by seen) (map (λ (b : Rejoined L C). link_in b) ended)) came back
-came_in_frames {L} {C} {settings} {specs} {split} {prepared} {news} laws seen ready came back again sound at =
-    let boards = ready.apart.boards in
-    let told = map (λ (b : Greeted L). told_by b) boards in
+pub came_in_frames : {L : Type 0} {settings : Limits} {specs : List BoardSpec} {left : List (Standing L)}
+    {prepared : Prepared L} {news : List (LaneState L)} {ended : List (Standing L)} (laws : ReportLaws)
+    (seen : Ghosts L) (ready : IsReady (shown_by seen) settings specs left prepared) (came back : List PairReport)
+    → BoardsBack seen settings specs ready.boards news ended → AllByRecursion (IsSound seen) ended
+    → ArePlannedAt prepared.states prepared.lanes.items news came back
+    → CameInFrames (map (shown_by seen) (links_in ended)) came back
+came_in_frames {L} {settings} {specs} {left} {prepared} {news} laws seen ready came back again sound at =
+    let boards = ready.boards in
+    let told = map (λ (b : Standing L). told_by b) boards in
     let shows = shown_by seen in
-    let on = subst (λ (l : List (LaneState L)). AtEach l news (PlansAt told at.connections)) ready.apart.apart.lanes'
-    (subst (λ (a : List BoardState). AtEach split.lanes.items news (λ lane old new. (position : ℕ)
-    → IsLaneAt a lane position → PlansFrames position at.connections new.items)) ready.prepared'.states' at.lanes) in
+    let on = subst (λ (l : List (LaneState L)). AtEach l news (PlansAt told at.connections)) ready.prepared'.lanes'
+    (subst (λ (a : List BoardState). AtEach prepared.lanes.items news (λ lane old new. (position : ℕ)
+    → IsLaneAt a lane position → PlansFrames position at.connections new.items)) (ready_states ready) at.lanes) in
     record {
       connections = at.connections;
       sent = at.sent;
-      executed' = subst (λ (e : List (Rejoined L C)). HaveExecutedOnly 0 at.connections
-          (map shows (map (λ (b : Rejoined L C). link_in b) e))) (sym again.is)
-          (executed_only L C seen settings laws told at.connections 0 0 specs boards news again.all again.memory
+      executed' = subst (λ (e : List (Standing L)). HaveExecutedOnly 0 at.connections
+          (map shows (links_in e))) (sym again.is)
+          (executed_only L seen settings laws told at.connections 0 0 specs boards news again.all
           again.reached
           (λ i. ap (λ n. slice_get (states_from 0 told) n) (let same : 0 + i ≡ i = omega arith in same)) again.heads
           (from_each (lanes_in boards) news (PlansAt told at.connections) on)
@@ -263,15 +261,6 @@ all_only position (link ∷ links) untouched =
 pub none_executed : (links : List LinkReport) → AllByRecursion IsUntouched links → CameInFrames links [] []
 none_executed links untouched =
     record { connections = []; sent = tt; executed' = all_only 0 links untouched }
-
--- boards that were greeted executed nothing yet
-pub greeted_untouched : {L : Type 0} (shows : L → LinkReport) (settings : Limits) (specs : List BoardSpec)
-    (boards : List (Greeted L)) → AreReached shows settings specs boards
-    → AllByRecursion IsUntouched (map shows (map (λ (b : Greeted L). link_of b) boards))
-greeted_untouched shows settings specs [] are = tt
-greeted_untouched shows settings [] (b ∷ boards) are = absurd are
-greeted_untouched shows settings (s ∷ specs) (b ∷ boards) are =
-    (are.0.fresh.untouched, greeted_untouched shows settings specs boards are.1)
 
 -- ---- where no frame had a body
 

@@ -1,24 +1,24 @@
-//! What the report of boards takes of memory, and how the boards stand, before the door listens.
+//! What the report of boards takes of memory, how the boards stand, and their lanes, before the door listens.
 
-ghost use Rattle.std.specs.Prelude.{◌≡◌, ◌<◌, ◌-◌, ◌^◌, length, map, IfOk};
-ghost use Rattle.session_serve.specs.Boards.{states_from};
-ghost use Rattle.session_serve.specs.Prepared.{IsPrepared, lane_after, state_at, told_by};
+ghost use Rattle.std.specs.Prelude.{◌≡◌, ◌<◌, ◌^◌, length, map, IfOk, OnErr, OnOk};
+ghost use Rattle.board_greeting.specs.Standings.{all_at_hub};
+ghost use Rattle.session_serve.specs.Prepared.{IsPrepared};
 
 use crate::states::BoardStates;
+use board_greeting::{Standing, states_of, take_lanes};
 use board_specs::BoardSpec;
-use hub_lane::Greeted;
-use hub_session::BoardState;
+use hub_lane::Lane;
 use ipb_base::{NoMemory, Text};
 use links::Link;
 use std::alloc::Global;
 use transcript::BoardLine;
 
-/// The names of the boards, room for their lines, and how they stand.
-#[derive(Drop)]
-pub(crate) struct Prepared {
+/// The names of the boards, room for their lines, how they stand, and the lanes of the live ones.
+pub(crate) struct Prepared<L: Link> {
     pub(crate) names: Vec<Text>,
     pub(crate) lines: Vec<BoardLine>,
     pub(crate) states: BoardStates,
+    pub(crate) lanes: Vec<Lane<L>>,
 }
 
 /// The names of boards.
@@ -32,49 +32,26 @@ fn names_of(alloc: Global, specs: &[BoardSpec]) -> Result<Vec<Text>, NoMemory>
     Ok(names)
 }
 
-/// How a board stands whose lane would have this number, and the number of the next one.
-fn state_of<L: Link>(board: &Greeted<L>, lane: u32) -> (BoardState, u32)
-    requires { lane < 2 ^ 32 - 1 }
-    ensures state { result.0 ≡ state_at lane board.now }
-    ensures next { result.1 ≡ lane_after lane board.now }
-{
-    match board {
-        Greeted::Ready(_) => (BoardState::Lane(lane), lane + 1),
-        Greeted::Silent { .. } => (BoardState::Silent, lane),
-        Greeted::Down { .. } | Greeted::NoMemory { .. } => (BoardState::Down, lane),
-    }
-}
-
-/// How boards stand: the lanes of the live ones are numbered in order, from 0.
-fn states_of<L: Link>(alloc: Global, boards: &[Greeted<L>]) -> Result<BoardStates, NoMemory>
-    requires few { length boards.now < 2 ^ 32 }
-    ensures { IfOk result (λ states. states ≡ states_from 0 (map (λ board. told_by board) boards.now)) }
-{
-    let mut states = Vec::with_capacity(alloc, boards.len())?;
-    let mut lane = 0u32;
-    for board in boards {
-        let (state, next) = state_of(board, lane);
-        states.push_reserved(state);
-        lane = next;
-    }
-    Ok(BoardStates::from_vec(states))
-}
-
-/// All that the report of these boards takes of memory, and how they stand.
-pub(crate) fn prepare<L: Link>(
+/// All that the report of these boards takes of memory, how they stand, and their lanes, which are taken out of their
+/// places. If memory runs out nothing changes.
+pub(crate) fn prepare<L: Link + Drop>(
     alloc: Global,
     specs: &[BoardSpec],
-    boards: &[Greeted<L>],
-) -> Result<Prepared, NoMemory>
-    requires few { length boards.now < 2 ^ 32 }
-    ensures { IfOk result (IsPrepared specs.now (map (λ board. told_by board) boards.now)) }
+    boards: &mut [Standing<L>],
+) -> Result<Prepared<L>, NoMemory>
+    requires few { length boards.old < 2 ^ 32 }
+    ensures prepared { IfOk result (IsPrepared specs.now boards.old) }
+    ensures left { OnOk result (boards.new ≡ all_at_hub boards.old) }
+    ensures unchanged { OnErr result (boards.new ≡ boards.old) }
 {
     let names = names_of(alloc, specs)?;
     let lines = Vec::with_capacity(alloc, specs.len())?;
-    let states = states_of(alloc, boards)?;
+    let states = BoardStates::from_vec(states_of(alloc, boards)?);
+    let lanes = take_lanes(alloc, boards)?;
     Ok(Prepared {
         names,
         lines,
         states,
+        lanes,
     })
 }

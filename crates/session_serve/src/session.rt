@@ -1,18 +1,17 @@
 //! Connections of a door served at the boards of a document.
 
-ghost use Rattle.std.specs.Prelude.{◌≡◌, ◌≢◌, ◌^◌, ◌<◌, length, map, Err, IfErr, IfOk, IsOk};
+ghost use Rattle.std.specs.Prelude.{◌≡◌, ◌≢◌, ◌^◌, ◌<◌, length, Err, IfOk, IsOk};
 ghost use Rattle.std.specs.List.{AllByRecursion};
 ghost use Rattle.ipb_outside.specs.Faults.{RisesExactlyIf};
 ghost use Rattle.ipb_outside.specs.Doors.{Listens};
 ghost use Rattle.ipb_outside.specs.Pairs.{GivesBack};
 ghost use Rattle.board_history.specs.Links.{IsUntouched};
-ghost use Rattle.board_greeting.specs.Boards.{AreReached, HasMemory, HasRoom};
-ghost use Rattle.board_greeting.specs.Places.{IsApart};
+ghost use Rattle.board_greeting.specs.Boards.{AreReached, HasRoom};
 ghost use Rattle.board_greeting.specs.Reports.{shown_by};
 ghost use Rattle.board_greeting.specs.Links.{AreMadeFor, CanBeReached, Keeps};
 ghost use Rattle.session_serve.specs.Boards.{AreLinksTo};
 ghost use Rattle.session_serve.specs.Executed.{CameInFrames};
-ghost use Rattle.session_serve.specs.Prepared.{IsPrepared, IsReady, told_by};
+ghost use Rattle.session_serve.specs.Prepared.{IsReady};
 ghost use Rattle.session_serve.specs.Serving.{AreBack, AreServed, HadMemory};
 
 use crate::below::laws_of_reports;
@@ -20,31 +19,31 @@ use crate::finish::finish_boards;
 use crate::hub::serve_at_hub;
 use crate::prepared::{Prepared, prepare};
 use crate::report::{ServeFault, ServeReport};
-use board_greeting::{Rejoined, Split, greet_boards, keep_all, split_boards};
+use board_greeting::{Standing, greet_boards, keep_all, put_back};
 use board_specs::BoardSpec;
-use hub_lane::Greeted;
+use ipb_base::NoMemory;
 use ipb_outside::Door;
-use links::{Link, Rack};
+use links::Rack;
 use reliable_engine::Settings;
 use std::alloc::Global;
 use std::marker::Sync;
 use std::sync::Wait;
 use std::thread::Threads;
 
-/// Serves connections at boards that were taken apart, and gives each link back to the rack.
-fn serve_split<R: Rack, D: Door, T: Threads + Wait + Sync>(
+/// Serves connections at boards whose lanes were taken, and gives each link back to the rack.
+fn serve_prepared<R: Rack, D: Door, T: Threads + Wait + Sync>(
     rt: &T,
     alloc: Global,
     settings: Settings,
-    split: Split<R::L>,
-    prepared: Prepared,
+    mut boards: Vec<Standing<R::L>>,
+    prepared: Prepared<R::L>,
     specs: &[BoardSpec],
     port: u16,
     count: u32,
     rack: &mut R,
     door: &mut D,
 ) -> Result<ServeReport, ServeFault>
-    requires ready { IsReady (shown_by R.L.Link) settings specs.now split prepared }
+    requires ready { IsReady (shown_by R.L.Link) settings specs.now boards.items prepared }
     requires room { HasRoom R.Rack rack.old (length specs.now) }
     ensures served { IfOk result (λ report. Keeps R.Rack R.L.Link rack.old rack.new
         (λ links. GivesBack D.Door D.Incoming.Source D.Outgoing.Sink door.old door.new
@@ -64,18 +63,14 @@ fn serve_split<R: Rack, D: Door, T: Threads + Wait + Sync>(
     ensures not_rack { result ≢ Err ServeFault.Rack }
 {
     laws_of_reports();
-    let Split {
-        places,
-        positions: _,
-        lanes,
-    } = split;
     let Prepared {
         names,
         mut lines,
         states,
+        lanes,
     } = prepared;
     let (lanes, served) = serve_at_hub(rt, alloc, lanes, &states, port, count, door);
-    let boards = Rejoined::of(places, lanes, Vec::new(alloc));
+    put_back(&mut boards, lanes);
     finish_boards(boards, names, &mut lines, rack);
     match served {
         Ok(connections) => Ok(ServeReport {
@@ -86,33 +81,12 @@ fn serve_split<R: Rack, D: Door, T: Threads + Wait + Sync>(
     }
 }
 
-/// Boards that were greeted taken apart, and what their report takes. Where memory runs out the boards are given back.
-fn take_apart<L: Link + Drop>(
-    alloc: Global,
-    specs: &[BoardSpec],
-    boards: Vec<Greeted<L>>,
-) -> Result<(Split<L>, Prepared), Vec<Greeted<L>>>
-    requires few_boards { length boards.items < 2 ^ 32 }
-    requires memory { AllByRecursion HasMemory boards.items }
-    ensures apart { IfOk result (λ made. IsApart boards.items made.0) }
-    ensures told { IfOk result (λ made. IsPrepared specs.now (map (λ board. told_by board) boards.items) made.1) }
-    ensures given_back { IfErr result (λ back. back ≡ boards) }
-{
-    let Ok(prepared) = prepare(alloc, specs, &boards) else {
-        return Err(boards);
-    };
-    match split_boards(alloc, boards) {
-        Ok(split) => Ok((split, prepared)),
-        Err(boards) => Err(boards),
-    }
-}
-
 /// Serves connections at boards that were greeted, and gives each link back to the rack.
 fn serve_greeted<R: Rack, D: Door, T: Threads + Wait + Sync>(
     rt: &T,
     alloc: Global,
     settings: Settings,
-    boards: Vec<Greeted<R::L>>,
+    mut boards: Vec<Standing<R::L>>,
     specs: &[BoardSpec],
     port: u16,
     count: u32,
@@ -121,7 +95,6 @@ fn serve_greeted<R: Rack, D: Door, T: Threads + Wait + Sync>(
 ) -> Result<ServeReport, ServeFault>
     requires few_boards { length specs.now < 2 ^ 32 }
     requires all { length boards.items ≡ length specs.now }
-    requires memory { AllByRecursion HasMemory boards.items }
     requires reached { AreReached (shown_by R.L.Link) settings specs.now boards.items }
     requires room { HasRoom R.Rack rack.old (length specs.now) }
     ensures served { IfOk result (λ report. Keeps R.Rack R.L.Link rack.old rack.new
@@ -141,11 +114,11 @@ fn serve_greeted<R: Rack, D: Door, T: Threads + Wait + Sync>(
     ensures door_faults { RisesExactlyIf (result ≡ Err ServeFault.Door) (D.faults door.old) (D.faults door.new) }
     ensures not_rack { result ≢ Err ServeFault.Rack }
 {
-    match take_apart(alloc, specs, boards) {
-        Ok((split, prepared)) => serve_split(
-            rt, alloc, settings, split, prepared, specs, port, count, rack, door,
+    match prepare(alloc, specs, &mut boards) {
+        Ok(prepared) => serve_prepared(
+            rt, alloc, settings, boards, prepared, specs, port, count, rack, door,
         ),
-        Err(boards) => {
+        Err(NoMemory) => {
             keep_all(rack, boards);
             Err(ServeFault::NoMemory)
         }

@@ -1,8 +1,8 @@
 use Rattle.std.proofs.Common.{◌≤◌, ◌∙◌, ◌++◌, [], ap, append-nil, length, map, subst, sym}
 use Rattle.std.proofs.lemmas.List.{length-map}
 use Rattle.ipb_base.specs.Faults.{Rose}
-use Rattle.hub_lane.specs.Greeting.{link_of}
 use Rattle.board_greeting.specs.Boards.{HasRoom}
+use Rattle.board_greeting.specs.Standings.{links_in}
 use Rattle.board_greeting.specs.Reports.{shown_by}
 use Rattle.board_greeting.proofs.Boards.{fresh_links, made_still, none_made}
 use Rattle.board_greeting.proofs.greeting.greet_boards.Goals as goal
@@ -14,18 +14,25 @@ returns-in_default-clause-left g c = (
   (tt, none_made c.args.specs.now (g.R.Rack.made c.args.rack.now)),
 )
 
+pub keep_all-requires-clause-room : goal.keep_all-requires-clause-room
+keep_all-requires-clause-room g c κs within =
+    let boards = c.greet_into.new.boards.items in
+    subst (HasRoom g.R.Rack c.greet_into.new.rack) (sym (fresh_links (shown_by g.R.L.Link) c.args.settings
+    c.args.specs.now boards c.greet_into.ensures.fresh).1) c.greet_into.ensures.room
+
 pub returns-in-Err-clause-left : goal.returns-in-Err-clause-left
 returns-in-Err-clause-left g c =
     let boards = c.greet_into.new.boards.items in
-    let links = map (λ board. link_of board) boards in
-    let shows = shown_by g.R.L.Link in (
+    let links = links_in boards in
+    let shows = shown_by g.R.L.Link in
+    let fresh = fresh_links shows c.args.settings c.args.specs.now boards c.greet_into.ensures.fresh in (
       links,
       c.keep_all.ensures.kept ∙ ap (λ kept. kept ++ links) c.greet_into.ensures.kept,
       (
-        fresh_links shows c.args.settings c.args.specs.now boards c.greet_into.ensures.reached,
+        fresh.0,
         made_still c.args.specs.now (length boards) (length (map shows links)) (g.R.Rack.made c.args.rack.now)
             (g.R.Rack.made c.greet_into.new.rack) (g.R.Rack.made c.keep_all.new.rack) c.greet_into.ensures.made
-            (length-map links shows ∙ length-map boards (λ board. link_of board)) c.keep_all.ensures.made,
+            (length-map links shows ∙ fresh.1) c.keep_all.ensures.made,
       ),
     )
 

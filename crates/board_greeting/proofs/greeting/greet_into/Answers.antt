@@ -1,25 +1,39 @@
-use Rattle.std.proofs.Common.{◌≡◌, ◌∙◌, ◌∷◌, ◌+◌, ℕ, [], Some, ap, length, length-append, refl, subst, sym, arith}
+use Rattle.std.proofs.Common.{◌≡◌, ◌∙◌, ◌∷◌, ◌++◌, ◌+◌, ℕ, [], Some, ap, length, length-append, refl, subst, sym, arith}
 use Rattle.std.proofs.lemmas.Grind.{common_steps}
-use Rattle.std.specs.List.{AllByRecursion, slice_get}
+use Rattle.std.specs.List.{slice_get}
 use Rattle.std.proofs.lemmas.Option.{slice_get-get_or}
 use Rattle.board_specs.specs.declared.spec.BoardSpec.{BoardSpec}
-use Rattle.ipb_base.proofs.AllLemmas.{AllByRecursion-append}
-use Rattle.board_greeting.specs.Boards.{AreReached, HasMemory, LeavesRoom}
+use Rattle.board_greeting.specs.Boards.{AreReached, IsFreshAt, LeavesRoom, OfFirst, StandsAsTold}
 use Rattle.board_greeting.specs.Reports.{shown_by}
-use Rattle.board_greeting.proofs.Boards.{made_more, made_still, one_more_made, reached_more, room_for_more}
+use Rattle.board_greeting.specs.Standings.{standing_of}
+use Rattle.board_greeting.proofs.Boards.{first_of_more, fresh_as_greeted, made_more, made_still, one_more_made}
+use Rattle.board_greeting.proofs.Boards.{reached_fresh, room_for_more, stands_as_told}
 use Rattle.board_greeting.proofs.greeting.greet_into.Goals as goal
 
-pub returns-then-is_last-clause-reached : goal.returns-then-is_last-clause-reached
-returns-then-is_last-clause-reached g c =
+pub returns-then-is_last-clause-fresh : goal.returns-then-is_last-clause-fresh
+returns-then-is_last-clause-fresh g c =
     let shows = shown_by g.R.L.Link in
-    let there : slice_get c.args.specs.now (length c.loop-spec.boards.items) ≡ Some c.spec-item.result =
-    ap (slice_get c.args.specs.now) c.loop-spec.invariant.many
-    ∙ (slice_get-get_or c.args.specs.now c.loop-spec.spec-index c.spec-item.result (let test = c.loop-spec-test.true in
+    let settings = c.args.settings in
+    let specs = c.args.specs.now in
+    let boards = c.loop-spec.boards.items in
+    let there : slice_get specs (length boards) ≡ Some c.spec-item.result =
+    ap (slice_get specs) c.loop-spec.invariant.many
+    ∙ (slice_get-get_or specs c.loop-spec.spec-index c.spec-item.result (let test = c.loop-spec-test.true in
     let end = c.loop-spec.auto.spec-index-end in omega (arith, test, end))
     ∙ ap (λ (x : BoardSpec). Some x) (sym c.spec-item.is)) in
-    subst (AreReached shows c.args.settings c.args.specs.now) (sym c.push_reserved.ensures.items)
-    (reached_more shows c.args.settings c.args.specs.now c.loop-spec.boards.items c.spec-item.result
-    c.in_ok-board.board there c.loop-spec.invariant.reached c.in_ok-board.ensures.reached)
+    subst (OfFirst (IsFreshAt shows settings) specs)
+    (sym (c.push_reserved.ensures.items ∙ ap (λ one. boards ++ one ∷ []) c.standing_of.ensures))
+    (first_of_more (IsFreshAt shows settings) specs boards c.spec-item.result (standing_of c.in_ok-board.board) there
+    (reached_fresh shows settings specs boards c.loop-spec.invariant.reached)
+    (fresh_as_greeted shows settings c.spec-item.result c.in_ok-board.board c.in_ok-board.ensures.reached))
+
+pub returns-in_err-board-clause-fresh : goal.returns-in_err-board-clause-fresh
+returns-in_err-board-clause-fresh g c = reached_fresh (shown_by g.R.L.Link) c.args.settings c.args.specs.now
+    c.loop-spec.boards.items c.loop-spec.invariant.reached
+
+pub returns-clause-fresh : goal.returns-clause-fresh
+returns-clause-fresh g c = reached_fresh (shown_by g.R.L.Link) c.args.settings c.args.specs.now
+    c.loop-spec.boards.items c.loop-spec.invariant.reached
 
 pub returns-then-is_last-clause-made : goal.returns-then-is_last-clause-made
 returns-then-is_last-clause-made g c =
@@ -27,7 +41,7 @@ returns-then-is_last-clause-made g c =
     let before = g.R.Rack.made c.args.rack.now in
     let new = g.R.Rack.made c.greet_board.new.rack in
     let longer : length c.push_reserved.new.self.items ≡ length boards + 1 =
-    ap length c.push_reserved.ensures.items ∙ length-append boards (c.in_ok-board.board ∷ []) in
+    ap length c.push_reserved.ensures.items ∙ length-append boards (c.standing_of.result ∷ []) in
     let there : slice_get c.args.specs.now (length boards) ≡ Some c.spec-item.result =
     ap (slice_get c.args.specs.now) c.loop-spec.invariant.many
     ∙ (slice_get-get_or c.args.specs.now c.loop-spec.spec-index c.spec-item.result (let test = c.loop-spec-test.true in
@@ -43,7 +57,7 @@ returns-then-is_last-clause-room g c =
     let old = g.R.Rack.made c.loop-spec.rack in
     let new = g.R.Rack.made c.greet_board.new.rack in
     let longer : length c.push_reserved.new.self.items ≡ length boards + 1 =
-    ap length c.push_reserved.ensures.items ∙ length-append boards (c.in_ok-board.board ∷ []) in
+    ap length c.push_reserved.ensures.items ∙ length-append boards (c.standing_of.result ∷ []) in
     subst (LeavesRoom (length (g.R.Rack.kept c.greet_board.new.rack)) (length new)) (sym longer)
     (room_for_more (length (g.R.Rack.kept c.loop-spec.rack)) (length (g.R.Rack.kept c.greet_board.new.rack))
     (length old) (length new) (length boards) c.greet_board.ensures.within (ap length c.greet_board.ensures.kept)
@@ -61,9 +75,9 @@ loop-spec-preserved g c =
     let shows = shown_by g.R.L.Link in
     let boards = c.loop-spec.boards.items in
     let board = c.in_ok-board.board in
-    let pushed = c.push_reserved.ensures.items in
+    let pushed = c.push_reserved.ensures.items ∙ ap (λ one. boards ++ one ∷ []) c.standing_of.ensures in
     let longer : length c.push_reserved.new.self.items ≡ length boards + 1 =
-    ap length pushed ∙ length-append boards (board ∷ []) in
+    ap length pushed ∙ length-append boards (standing_of board ∷ []) in
     let many = c.loop-spec.invariant.many in
     let there : slice_get c.args.specs.now (length boards) ≡ Some c.spec-item.result =
     ap (slice_get c.args.specs.now) many
@@ -76,11 +90,10 @@ loop-spec-preserved g c =
     record {
       many = longer ∙ ap (λ (n : ℕ). n + 1) many;
       reached = subst (AreReached shows c.args.settings c.args.specs.now) (sym pushed)
-          (reached_more shows c.args.settings c.args.specs.now boards c.spec-item.result
-          board there c.loop-spec.invariant.reached c.in_ok-board.ensures.reached);
-      memory = subst (AllByRecursion HasMemory) (sym pushed)
-          (AllByRecursion-append HasMemory boards (board ∷ []) c.loop-spec.invariant.memory
-          (c.is_out_of_memory-is_last.ensures c.if-is_last.false, tt));
+          (first_of_more (StandsAsTold shows c.args.settings) c.args.specs.now boards c.spec-item.result
+          (standing_of board) there c.loop-spec.invariant.reached
+          (stands_as_told shows c.args.settings c.spec-item.result board
+          (c.is_out_of_memory-is_last.ensures c.if-is_last.false) c.in_ok-board.ensures.reached));
       faults = c.in_ok-board.ensures.faults.2 (λ e. cc) ∙ c.loop-spec.invariant.faults;
       kept = c.greet_board.ensures.kept ∙ c.loop-spec.invariant.kept;
       made = made_still c.args.specs.now (length boards + 1) (length c.push_reserved.new.self.items)

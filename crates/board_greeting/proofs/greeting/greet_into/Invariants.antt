@@ -1,7 +1,6 @@
 use Rattle.std.proofs.Common.{◌≡◌, ◌+◌, ◌-◌, ◌≤◌, length}
-use Rattle.std.specs.List.{AllByRecursion}
 use Rattle.std.specs.Vec.{vec_capacity, vec_len}
-use Rattle.board_greeting.specs.Boards.{AreReached, HasMemory, LeavesRoom}
+use Rattle.board_greeting.specs.Boards.{AreReached, LeavesRoom}
 use Rattle.board_greeting.specs.Reports.{shown_by}
 use Rattle.board_greeting.specs.Links.{AreMadeFor}
 use Rattle.board_greeting.proofs.greeting.greet_into.Given as goal
@@ -11,7 +10,6 @@ abbrev pub invariant-loop-spec : goal.invariant-loop-spec
 invariant-loop-spec g l = record {
   many : length l.boards.items ≡ l.spec-index;
   reached : AreReached (shown_by g.R.L.Link) l.settings l.specs l.boards.items;
-  memory : AllByRecursion HasMemory l.boards.items;
   faults : g.R.Rack.faults l.rack ≡ g.R.Rack.faults l.initial.rack;
   kept : g.R.Rack.kept l.rack ≡ g.R.Rack.kept l.initial.rack;
   made : AreMadeFor l.specs (length l.boards.items) (g.R.Rack.made l.initial.rack) (g.R.Rack.made l.rack);

@@ -1,10 +1,12 @@
-use Rattle.std.proofs.Common.{◌∙◌, List, ap, length, map, refl, subst, arith}
+use Rattle.std.proofs.Common.{◌∙◌, ◌+◌, List, ap, drop, length, map, refl, subst, sym, arith}
 use Rattle.std.proofs.lemmas.Grind.{common_steps}
 use Rattle.std.proofs.lemmas.List.{take_all}
 use Rattle.board_specs.specs.declared.spec.BoardSpec.{BoardSpec}
 use Rattle.board_specs.specs.declared.spec.LinkSpec.{LinkSpec}
 use Rattle.board_history.specs.LinkRuns.{AreRunsOver}
+use Rattle.std.specs.Vec.Iter.{into_iter_items}
 use Rattle.board_greeting.specs.Reports.{shown_by}
+use Rattle.session_run.specs.Places.{AreCameOf, IsCameOf}
 use Rattle.session_run.proofs.Sessions.{board_more, next_board, none_ran, room_for_one, some_left}
 use Rattle.session_run.proofs.finish.finish_boards.Goals as goal
 
@@ -14,16 +16,22 @@ loop-position-init g c =
     record {
       so_far = rw c.new-runs.ensures.items (none_ran shows c.args.settings c.args.specs.now c.args.scripts.now
           (g.R.Rack.kept c.args.rack.now));
-      left = c.requires.came;
+      left = subst (λ bs. AreCameOf shows c.args.settings c.args.scripts.now 0 c.args.specs.now bs
+          (into_iter_items c.into_iter-parts.result)) (sym c.into_iter-boards.ensures.rest)
+          (subst (AreCameOf shows c.args.settings c.args.scripts.now 0 c.args.specs.now c.args.boards.items)
+          (sym c.into_iter-parts.ensures.rest) c.requires.came);
       made = refl;
       faults = refl;
     }
 
-pub next-board-requires : goal.next-board-requires
-next-board-requires g c =
+pub unreachable-requires : goal.unreachable-requires
+unreachable-requires g c =
     let shows = shown_by g.R.L.Link in
-    some_left shows c.args.settings c.args.scripts.now c.loop-position.position c.args.specs.now
-    c.loop-position.boards c.loop-position.invariant.left c.loop-position-test.true
+    let some = some_left shows c.args.settings c.args.scripts.now c.loop-position.position c.args.specs.now
+    (into_iter_items c.loop-position.boards) (into_iter_items c.loop-position.parts) c.loop-position.invariant.left
+    c.loop-position-test.true in
+    let none = c.next.ensures.cases in
+    grind (arith, common_steps, some, none)
 
 pub keep-requires : goal.keep-requires
 keep-requires g c =
@@ -38,17 +46,21 @@ keep-requires g c =
 pub finish_board-link-requires-clause-came : goal.finish_board-link-requires-clause-came
 finish_board-link-requires-clause-came g c =
     let shows = shown_by g.R.L.Link in
-    (next_board shows c.args.settings c.args.scripts.now c.loop-position.position c.args.specs.now
-    c.index-specs-position.result c.loop-position.boards c.next-board.new.self c.next-board.result
-    c.loop-position.invariant.left c.loop-position-test.true c.index-specs-position.is c.next-board.ensures).came
+    let next = next_board shows c.args.settings c.args.scripts.now c.loop-position.position c.args.specs.now
+    c.index-specs-position.result (into_iter_items c.loop-position.boards) (into_iter_items c.next.new.self)
+    c.in-Some.board (into_iter_items c.loop-position.parts) c.loop-position.invariant.left c.loop-position-test.true
+    c.index-specs-position.is c.in-Some.ensures.items in
+    subst (IsCameOf shows c.args.settings c.args.scripts.now c.loop-position.position c.index-specs-position.result
+    c.in-Some.board) (sym c.next_parts-came.ensures.parts) next.came
 
 pub loop-position-preserved : goal.loop-position-preserved
 loop-position-preserved g c =
     let shows = shown_by g.R.L.Link in
     let k = c.loop-position.position in
-    let next = next_board shows c.args.settings c.args.scripts.now k c.args.specs.now
-    c.index-specs-position.result c.loop-position.boards c.next-board.new.self c.next-board.result
-    c.loop-position.invariant.left c.loop-position-test.true c.index-specs-position.is c.next-board.ensures in
+    let next = next_board shows c.args.settings c.args.scripts.now c.loop-position.position c.args.specs.now
+    c.index-specs-position.result (into_iter_items c.loop-position.boards) (into_iter_items c.next.new.self)
+    c.in-Some.board (into_iter_items c.loop-position.parts) c.loop-position.invariant.left c.loop-position-test.true
+    c.index-specs-position.is c.in-Some.ensures.items in
     record {
       so_far = board_more shows c.args.settings k c.args.specs.now c.args.scripts.now c.loop-position.runs.items
           c.add_run-is_whole.new.runs.items c.loop-position.is_whole c.add_run-is_whole.result (g.R.Rack.kept
@@ -57,7 +69,8 @@ loop-position-preserved g c =
           c.finish_board-link.result.0 c.finish_board-link.result.1 c.loop-position.invariant.so_far
           c.loop-position-test.true c.index-specs-position.is c.keep.ensures.kept c.finish_board-link.ensures.left
           c.finish_board-link.ensures.ran c.add_run-is_whole.ensures.whole c.add_run-is_whole.ensures.added;
-      left = next.later;
+      left = subst (AreCameOf shows c.args.settings c.args.scripts.now (k + 1) (drop (k + 1) c.args.specs.now)
+          (into_iter_items c.next.new.self)) (sym c.next_parts-came.ensures.others) next.later;
       made = c.keep.ensures.made ∙ c.loop-position.invariant.made;
       faults = c.keep.ensures.faults ∙ c.loop-position.invariant.faults;
     }

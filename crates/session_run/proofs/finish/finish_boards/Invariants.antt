@@ -1,4 +1,5 @@
 use Rattle.std.proofs.Common.{◌≡◌, drop}
+use Rattle.std.specs.Vec.Iter.{into_iter_items}
 use Rattle.board_greeting.specs.Reports.{shown_by}
 use Rattle.session_run.specs.Places.{AreCameOf}
 use Rattle.session_run.proofs.Sessions.{RanBoards}
@@ -11,7 +12,8 @@ invariant-loop-position g l =
     record {
       so_far : RanBoards shows l.settings l.position l.specs l.scripts l.runs.items l.is_whole
           (g.R.Rack.kept l.initial.rack) (g.R.Rack.kept l.rack);
-      left : AreCameOf shows l.settings l.scripts l.position (drop l.position l.specs) l.boards;
+      left : AreCameOf shows l.settings l.scripts l.position (drop l.position l.specs) (into_iter_items l.boards)
+          (into_iter_items l.parts);
       made : g.R.Rack.made l.rack ≡ g.R.Rack.made l.initial.rack;
       faults : g.R.Rack.faults l.rack ≡ g.R.Rack.faults l.initial.rack;
     }

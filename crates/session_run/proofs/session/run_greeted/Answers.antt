@@ -1,75 +1,92 @@
-use Rattle.std.proofs.Common.{◌≡◌, ◌∙◌, ℕ, List, Vec, ap, length, map, subst, sym, arith}
-use Rattle.std.proofs.lemmas.Grind.{common_steps}
+use Rattle.std.proofs.Common.{◌≡◌, ◌∙◌, ◌++◌, ℕ, List, ap, length, map, subst, sym}
 use Rattle.std.proofs.lemmas.List.{length-map}
-use Rattle.hub_lane.specs.declared.greeting.Greeted.{Greeted}
-use Rattle.hub_lane.specs.Greeting.{link_of}
-use Rattle.board_greeting.specs.Boards.{AreReached, LeavesRoom}
+use Rattle.std.specs.List.{AllByRecursion}
+use Rattle.std.specs.Prelude.{IfOk}
+use Rattle.hub_lane.specs.Lanes.{LaneState}
+use Rattle.board_greeting.specs.Boards.{HasNoEntry, LeavesRoom}
 use Rattle.board_greeting.specs.Reports.{shown_by}
-use Rattle.board_greeting.proofs.Boards.{fresh_links}
+use Rattle.board_greeting.specs.Standings.{all_at_hub, lanes_in, links_in, positions_at_hub, with_lanes}
+use Rattle.board_greeting.specs.declared.standing.Standing.{Standing}
+use Rattle.board_greeting.proofs.Boards.{fresh_links, reached_fresh}
+use Rattle.board_greeting.proofs.Lanes.{lanes_unused}
+use Rattle.board_greeting.proofs.Standings.{positions_long, written_whole}
+use Rattle.session_run.specs.Lanes.{AllThree, HasGoneOn, IsRunOn}
+use Rattle.session_run.specs.Places.{AreCameOf}
+use Rattle.session_run.proofs.Returning.{boards_came}
 use Rattle.session_run.proofs.Sessions.{fresh_are_left}
+use Rattle.session_run.proofs.Sides.{items_or_none}
 use Rattle.session_run.proofs.session.run_greeted.Goals as goal
-
-pub run_split-requires-clause-reached : goal.run_split-requires-clause-reached
-run_split-requires-clause-reached g c κs within = record {
-  boards = c.args.boards.items;
-  apart = c.in-Ok.ensures.apart;
-  all = c.requires.all;
-  memory = c.requires.memory;
-  reached = c.requires.reached;
-}
 
 pub keep_all-requires-clause-room : goal.keep_all-requires-clause-room
 keep_all-requires-clause-room g c κs within =
+    let boards = c.args.boards.items in
+    let value = c.deref_mut.ensures.value in
+    let same = written_whole c.take_lanes.new.boards c.deref_mut.ensures.len value c.take_lanes.auto.boards
+    ∙ (c.in_default.ensures.unchanged ∙ value) in
+    let specs = c.args.specs.now in
+    let fresh = fresh_links (shown_by g.R.L.Link) c.args.settings specs boards
+    (reached_fresh (shown_by g.R.L.Link) c.args.settings specs boards c.requires.reached) in
     subst (λ (n : ℕ). LeavesRoom (length (g.R.Rack.kept c.args.rack.now)) (length (g.R.Rack.made c.args.rack.now)) n)
-    (sym (ap (λ (v : Vec (Greeted _) _). length v.items) c.in-Err.ensures.given_back ∙ c.requires.all)) c.requires.room
+    (sym (ap (λ (bs : List (Standing _)). length (links_in bs)) same ∙ (fresh.1 ∙ c.requires.all))) c.requires.room
 
-pub returns-in-Err-clause-left : goal.returns-in-Err-clause-left
-returns-in-Err-clause-left g c =
+pub returns-in_default-clause-left : goal.returns-in_default-clause-left
+returns-in_default-clause-left g c =
     let shows = shown_by g.R.L.Link in
-    let boards = c.in-Err.boards.items in
-    let links = map (λ (b : Greeted _). link_of b) boards in
-    let same : boards ≡ c.args.boards.items =
-    ap (λ (v : Vec (Greeted _) _). v.items) c.in-Err.ensures.given_back in (
+    let settings = c.args.settings in
+    let specs = c.args.specs.now in
+    let boards = c.args.boards.items in
+    let value = c.deref_mut.ensures.value in
+    let same = written_whole c.take_lanes.new.boards c.deref_mut.ensures.len value c.take_lanes.auto.boards
+    ∙ (c.in_default.ensures.unchanged ∙ value) in
+    let fresh = fresh_links shows settings specs boards (reached_fresh shows settings specs boards c.requires.reached) in
+    let links = links_in boards in (
       links,
-      c.keep_all.ensures.kept,
+      c.keep_all.ensures.kept ∙ ap (λ (bs : List (Standing _)). g.R.Rack.kept c.args.rack.now ++ links_in bs) same,
       (
-        fresh_are_left c.a_fresh_link_is_left.ensures c.args.settings 0 c.args.specs.now c.args.scripts.now
-            (map shows links) (fresh_links shows c.args.settings c.args.specs.now boards
-            (subst (AreReached shows c.args.settings c.args.specs.now) (sym same) c.requires.reached)),
-        length-map links shows ∙ (length-map boards (λ (b : Greeted _). link_of b)
-            ∙ (ap (λ (l : List (Greeted _)). length l) same ∙ c.requires.all)),
+        fresh_are_left c.a_fresh_link_is_left.ensures settings 0 specs c.args.scripts.now (map shows links) fresh.0,
+        length-map links shows ∙ (fresh.1 ∙ c.requires.all),
       ),
     )
 
-pub split_boards-requires-clause-few : goal.split_boards-requires-clause-few
-split_boards-requires-clause-few g c = grind (arith, common_steps)
+pub run_lanes-lanes-requires-clause-positions : goal.run_lanes-lanes-requires-clause-positions
+run_lanes-lanes-requires-clause-positions g c κs within =
+    let boards = c.args.boards.items in
+    let value = c.deref_mut.ensures.value in
+    let left = written_whole c.take_lanes.new.boards c.deref_mut.ensures.len value c.take_lanes.auto.boards
+    ∙ (c.in-Ok.ensures.left ∙ ap (λ bs. all_at_hub bs) value) in
+    ap (λ (bs : List (Standing _)). length (positions_at_hub 0 bs)) (c.deref.ensures.value ∙ left)
+    ∙ (positions_long 0 boards (shown_by g.R.L.Link) c.args.settings c.args.specs.now c.requires.reached
+    ∙ sym (ap (λ (l : List (LaneState _)). length l) (c.in-Ok.ensures.lanes ∙ ap (λ bs. lanes_in bs) value)))
 
-pub split_boards-requires-clause-memory : goal.split_boards-requires-clause-memory
-split_boards-requires-clause-memory g c = grind (arith, common_steps)
+pub run_lanes-lanes-requires-clause-unused : goal.run_lanes-lanes-requires-clause-unused
+run_lanes-lanes-requires-clause-unused g c κs within =
+    subst (AllByRecursion HasNoEntry) (sym (c.in-Ok.ensures.lanes ∙ ap (λ bs. lanes_in bs) c.deref_mut.ensures.value))
+    (lanes_unused (shown_by g.R.L.Link) c.args.settings c.args.specs.now c.args.boards.items c.requires.reached)
 
-pub run_split-requires-clause-few_boards : goal.run_split-requires-clause-few_boards
-run_split-requires-clause-few_boards g c = grind (arith, common_steps)
-
-pub run_split-requires-clause-can : goal.run_split-requires-clause-can
-run_split-requires-clause-can g c = grind (arith, common_steps)
-
-pub returns-in-Ok-clause-ran : goal.returns-in-Ok-clause-ran
-returns-in-Ok-clause-ran g c = grind (arith, common_steps)
-
-pub returns-in-Ok-clause-left : goal.returns-in-Ok-clause-left
-returns-in-Ok-clause-left g c = grind (arith, common_steps)
-
-pub returns-in-Ok-clause-made : goal.returns-in-Ok-clause-made
-returns-in-Ok-clause-made g c = grind (arith, common_steps)
-
-pub returns-in-Ok-clause-faults : goal.returns-in-Ok-clause-faults
-returns-in-Ok-clause-faults g c = grind (arith, common_steps)
-
-pub returns-in-Err-clause-ran : goal.returns-in-Err-clause-ran
-returns-in-Err-clause-ran g c = grind (arith, common_steps)
-
-pub returns-in-Err-clause-made : goal.returns-in-Err-clause-made
-returns-in-Err-clause-made g c = grind (arith, common_steps)
-
-pub returns-in-Err-clause-faults : goal.returns-in-Err-clause-faults
-returns-in-Err-clause-faults g c = grind (arith, common_steps)
+pub finish_boards-requires-clause-came : goal.finish_boards-requires-clause-came
+finish_boards-requires-clause-came g c κs within =
+    let link = g.R.L.Link in
+    let scripts = c.args.scripts.now in
+    let specs = c.args.specs.now in
+    let boards = c.args.boards.items in
+    let news = c.run_lanes-lanes.result.0.items in
+    let parts = c.parts_or_none-parts.result.items in
+    let value = c.deref_mut.ensures.value in
+    let left = written_whole c.take_lanes.new.boards c.deref_mut.ensures.len value c.take_lanes.auto.boards
+    ∙ (c.in-Ok.ensures.left ∙ ap (λ bs. all_at_hub bs) value) in
+    let at_hub = c.deref.ensures.value ∙ left in
+    let positions = positions_at_hub 0 (all_at_hub boards) in
+    let gone = subst (λ (l : List (LaneState _)). AllThree (HasGoneOn link.telling scripts) positions l news)
+    (c.in-Ok.ensures.lanes ∙ ap (λ bs. lanes_in bs) value)
+    (subst (λ (bs : List (Standing _)). AllThree (HasGoneOn link.telling scripts) (positions_at_hub 0 bs)
+    c.in-Ok.lanes.items news) at_hub c.run_lanes-lanes.ensures.gone_on) in
+    let ran = subst (λ (bs : List (Standing _)). IfOk c.run_lanes-lanes.result.1
+    (λ there. AllThree (IsRunOn scripts) (positions_at_hub 0 bs) news there.items)) at_hub
+    c.run_lanes-lanes.ensures.ran in
+    let there = items_or_none c.run_lanes-lanes.result.1 (λ there. there.items) parts
+    (AllThree (IsRunOn scripts) positions news) c.parts_or_none-parts.ensures.all c.parts_or_none-parts.ensures.none ran in
+    let back = written_whole c.put_back.new.boards c.deref_mut-2.ensures.len c.deref_mut-2.ensures.value
+    c.put_back.auto.boards
+    ∙ (c.put_back.ensures ∙ ap (λ (bs : List (Standing _)). with_lanes bs news) (c.deref_mut-2.ensures.value ∙ left)) in
+    subst (λ (bs : List (Standing _)). AreCameOf (shown_by link) c.args.settings scripts 0 specs bs parts) (sym back)
+    (boards_came link c.args.settings scripts specs boards news parts c.requires.all c.requires.reached gone there)

@@ -90,8 +90,5 @@ run_greeted-requires-clause-can g c = grind (arith, common_steps)
 pub run_greeted-requires-clause-all : goal.run_greeted-requires-clause-all
 run_greeted-requires-clause-all g c = grind (arith, common_steps)
 
-pub run_greeted-requires-clause-memory : goal.run_greeted-requires-clause-memory
-run_greeted-requires-clause-memory g c = grind (arith, common_steps)
-
 pub run_greeted-requires-clause-reached : goal.run_greeted-requires-clause-reached
 run_greeted-requires-clause-reached g c = grind (arith, common_steps)

@@ -9,9 +9,10 @@ abbrev pub invariant-loop-name : goal.invariant-loop-name
 invariant-loop-name g l =
     let link = g.R.L.Link in
     record {
-      so_far : FinishedSoFar link l.fn.names.items l.fn.boards (into_iter_items l.name-iterator) l.boards l.lines.items
+      so_far : FinishedSoFar link l.fn.names.items l.fn.boards.items (into_iter_items l.name-iterator)
+          (into_iter_items l.boards) l.lines.items
           (g.R.Rack.kept l.fn.rack) (g.R.Rack.kept l.rack);
-      room : LeavesRoom (length (g.R.Rack.kept l.rack)) (length (g.R.Rack.made l.rack)) (length l.boards);
+      room : LeavesRoom (length (g.R.Rack.kept l.rack)) (length (g.R.Rack.made l.rack)) (length (into_iter_items l.boards));
       place : vec_len l.lines + length (into_iter_items l.name-iterator) ≤ vec_capacity l.lines;
       made : g.R.Rack.made l.rack ≡ g.R.Rack.made l.fn.rack;
       faults : g.R.Rack.faults l.rack ≡ g.R.Rack.faults l.fn.rack;

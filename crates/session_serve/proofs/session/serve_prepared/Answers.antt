@@ -1,4 +1,4 @@
-use Rattle.std.proofs.Common.{◌∙◌, ℕ, List, Vec, Global, Err, ap, length, map, refl, subst, sym, arith, true≢false}
+use Rattle.std.proofs.Common.{◌∙◌, ◌++◌, drop, take, ℕ, List, Vec, Global, Err, ap, length, map, refl, subst, sym, arith, true≢false}
 use Rattle.std.specs.List.{AllByRecursion}
 use Rattle.std.specs.Prelude.{IfOk}
 use Rattle.std.proofs.lemmas.List.{length-map}
@@ -7,76 +7,74 @@ use Rattle.hub_session.specs.declared.served.Served.{Served}
 use Rattle.hub_session.specs.Serving.{IsLaneBelow}
 use Rattle.board_greeting.specs.Boards.{HasNoEntry, LeavesRoom}
 use Rattle.board_greeting.specs.Reports.{shown_by}
-use Rattle.board_greeting.specs.Places.{HaveLanes, lanes_in}
+use Rattle.board_greeting.specs.Standings.{lanes_in, links_in}
 use Rattle.board_greeting.proofs.Lanes.{lanes_unused}
-use Rattle.board_greeting.proofs.Splitting.{have_lanes}
-use Rattle.session_serve.specs.Finish.{link_in}
 use Rattle.session_serve.specs.Hubs.{AreServedAt}
 use Rattle.session_serve.specs.Prepared.{told_by}
 use Rattle.session_serve.proofs.EachDone.{err_same, ok_not_err}
 use Rattle.session_serve.proofs.Executing.{came_in_frames}
-use Rattle.session_serve.proofs.Reporting.{are_served, boards_back, boards_long, links_back}
-use Rattle.session_serve.proofs.Standing.{back_as_told, states_within}
-use Rattle.session_serve.proofs.session.serve_split.Goals as goal
+use Rattle.session_serve.proofs.Reporting.{are_served, boards_back, boards_here, boards_long, links_back, put_whole}
+use Rattle.session_serve.proofs.Standing.{all_here, back_as_told, ready_states, states_within}
+use Rattle.session_serve.proofs.session.serve_prepared.Goals as goal
 
 pub serve_at_hub-lanes-requires-clause-unused : goal.serve_at_hub-lanes-requires-clause-unused
 serve_at_hub-lanes-requires-clause-unused g c κs within =
-    let apart = c.requires.ready.apart in
-    subst (AllByRecursion HasNoEntry) (sym apart.apart.lanes')
-    (lanes_unused (shown_by g.R.L.Link) c.args.settings c.args.specs.now apart.boards apart.reached)
+    let ready = c.requires.ready in
+    subst (AllByRecursion HasNoEntry) (sym ready.prepared'.lanes')
+    (lanes_unused (shown_by g.R.L.Link) c.args.settings c.args.specs.now ready.boards ready.reached)
 
 pub serve_at_hub-lanes-requires-clause-lanes : goal.serve_at_hub-lanes-requires-clause-lanes
 serve_at_hub-lanes-requires-clause-lanes g c κs within =
     let ready = c.requires.ready in
-    let boards = ready.apart.boards in
-    subst (λ l. AllByRecursion (IsLaneBelow (length l)) c.args.prepared.states) (sym ready.apart.apart.lanes')
+    let boards = ready.boards in
+    subst (λ l. AllByRecursion (IsLaneBelow (length l)) c.args.prepared.states) (sym ready.prepared'.lanes')
     (subst (AllByRecursion (IsLaneBelow (length (lanes_in boards)))) (sym ready.prepared'.states')
-    (states_within boards))
-
-pub of-boards-requires : goal.of-boards-requires
-of-boards-requires g c =
-    let apart = c.requires.ready.apart in
-    let news = c.serve_at_hub-lanes.result.0.items in
-    subst (λ p. HaveLanes p news) (sym apart.apart.places') (have_lanes apart.boards news
-    (c.serve_at_hub-lanes.ensures.heads.long ∙ ap (λ l. length l) apart.apart.lanes'))
+    (states_within boards (all_here (shown_by g.R.L.Link) c.args.settings c.args.specs.now boards ready.reached)))
 
 pub finish_boards-requires-clause-all : goal.finish_boards-requires-clause-all
 finish_boards-requires-clause-all g c κs within =
     let ready = c.requires.ready in
-    let back = boards_back g.R.L.Link ready.apart c.serve_at_hub-lanes.ensures.heads c.of-boards.ensures
-    c.new.ensures.items in
+    let back = boards_back g.R.L.Link ready c.serve_at_hub-lanes.ensures.heads (put_whole c.serve_at_hub-lanes.result.0.items c.put_back.new.boards c.deref_mut.ensures.len c.deref_mut.ensures.value c.put_back.auto.boards
+    c.put_back.ensures) in
     ap (λ (l : List (List ℕ)). length l) ready.prepared'.names' ∙ (length-map c.args.specs.now (λ s. s.name)
     ∙ sym (boards_long back))
 
+pub finish_boards-requires-clause-here : goal.finish_boards-requires-clause-here
+finish_boards-requires-clause-here g c κs within =
+    boards_here (boards_back g.R.L.Link c.requires.ready c.serve_at_hub-lanes.ensures.heads
+    (put_whole c.serve_at_hub-lanes.result.0.items c.put_back.new.boards c.deref_mut.ensures.len c.deref_mut.ensures.value c.put_back.auto.boards
+    c.put_back.ensures))
+
 pub finish_boards-requires-clause-room : goal.finish_boards-requires-clause-room
 finish_boards-requires-clause-room g c κs within =
-    let back = boards_back g.R.L.Link c.requires.ready.apart c.serve_at_hub-lanes.ensures.heads c.of-boards.ensures
-    c.new.ensures.items in
+    let back = boards_back g.R.L.Link c.requires.ready c.serve_at_hub-lanes.ensures.heads (put_whole c.serve_at_hub-lanes.result.0.items c.put_back.new.boards c.deref_mut.ensures.len c.deref_mut.ensures.value c.put_back.auto.boards
+    c.put_back.ensures) in
     subst (LeavesRoom (length (g.R.Rack.kept c.args.rack.now)) (length (g.R.Rack.made c.args.rack.now)))
     (sym (boards_long back)) c.requires.room
 
 pub returns-in-Err-clause-links : goal.returns-in-Err-clause-links
 returns-in-Err-clause-links g c =
-    let back = boards_back g.R.L.Link c.requires.ready.apart c.serve_at_hub-lanes.ensures.heads c.of-boards.ensures
-    c.new.ensures.items in
-    (map (λ b. link_in b) c.of-boards.result, c.finish_boards.ensures.kept, links_back back c.finish_boards.ensures.sound)
+    let back = boards_back g.R.L.Link c.requires.ready c.serve_at_hub-lanes.ensures.heads (put_whole c.serve_at_hub-lanes.result.0.items c.put_back.new.boards c.deref_mut.ensures.len c.deref_mut.ensures.value c.put_back.auto.boards
+    c.put_back.ensures) in
+    (links_in (take c.args.boards.len (c.put_back.new.boards ++ drop (length c.put_back.new.boards) c.args.boards.items)), c.finish_boards.ensures.kept, links_back back c.finish_boards.ensures.sound)
 
 pub returns-in-Ok-clause-links : goal.returns-in-Ok-clause-links
 returns-in-Ok-clause-links g c =
-    let back = boards_back g.R.L.Link c.requires.ready.apart c.serve_at_hub-lanes.ensures.heads c.of-boards.ensures
-    c.new.ensures.items in
-    (map (λ b. link_in b) c.of-boards.result, c.finish_boards.ensures.kept, links_back back c.finish_boards.ensures.sound)
+    let back = boards_back g.R.L.Link c.requires.ready c.serve_at_hub-lanes.ensures.heads (put_whole c.serve_at_hub-lanes.result.0.items c.put_back.new.boards c.deref_mut.ensures.len c.deref_mut.ensures.value c.put_back.auto.boards
+    c.put_back.ensures) in
+    (links_in (take c.args.boards.len (c.put_back.new.boards ++ drop (length c.put_back.new.boards) c.args.boards.items)), c.finish_boards.ensures.kept, links_back back c.finish_boards.ensures.sound)
 
 pub returns-in-Ok-clause-served : goal.returns-in-Ok-clause-served
 returns-in-Ok-clause-served g c =
     let link = g.R.L.Link in
     let ready = c.requires.ready in
-    let back = boards_back link ready.apart c.serve_at_hub-lanes.ensures.heads c.of-boards.ensures c.new.ensures.items in
+    let back = boards_back link ready c.serve_at_hub-lanes.ensures.heads (put_whole c.serve_at_hub-lanes.result.0.items c.put_back.new.boards c.deref_mut.ensures.len c.deref_mut.ensures.value c.put_back.auto.boards
+    c.put_back.ensures) in
     let given = subst (λ r. IfOk r (λ (served : Vec Served Global). GivesBack g.D.Door g.D.Incoming.Source
     g.D.Outgoing.Sink c.args.door.now c.serve_at_hub-lanes.new.door
-    (λ came back. AreServedAt link.telling c.args.prepared.states c.args.split.lanes.items
+    (λ came back. AreServedAt link.telling c.args.prepared.states c.args.prepared.lanes.items
     c.serve_at_hub-lanes.result.0.items came back served.items))) c.in-Ok.is c.serve_at_hub-lanes.ensures.served in (
-      map (λ b. link_in b) c.of-boards.result,
+      links_in (take c.args.boards.len (c.put_back.new.boards ++ drop (length c.put_back.new.boards) c.args.boards.items)),
       c.finish_boards.ensures.kept,
       (
         given.0,
@@ -102,14 +100,14 @@ returns-in-Ok-clause-pairs g c =
     let ready = c.requires.ready in
     back_as_told g.D.Door g.D.Incoming.Source g.D.Outgoing.Sink c.args.door.now
     c.serve_at_hub-lanes.new.door c.args.prepared.states
-    (map (λ b. told_by b) ready.apart.boards) ready.prepared'.states' c.serve_at_hub-lanes.ensures.pairs
+    (map (λ b. told_by b) ready.boards) (ready_states ready) c.serve_at_hub-lanes.ensures.pairs
 
 pub returns-in-Err-clause-pairs : goal.returns-in-Err-clause-pairs
 returns-in-Err-clause-pairs g c =
     let ready = c.requires.ready in
     back_as_told g.D.Door g.D.Incoming.Source g.D.Outgoing.Sink c.args.door.now
     c.serve_at_hub-lanes.new.door c.args.prepared.states
-    (map (λ b. told_by b) ready.apart.boards) ready.prepared'.states' c.serve_at_hub-lanes.ensures.pairs
+    (map (λ b. told_by b) ready.boards) (ready_states ready) c.serve_at_hub-lanes.ensures.pairs
 
 -- a server that has no report
 pub returns-in-Err-clause-listens : goal.returns-in-Err-clause-listens
@@ -121,9 +119,10 @@ pub returns-in-Ok-clause-in_frames : goal.returns-in-Ok-clause-in_frames
 returns-in-Ok-clause-in_frames g c =
     let link = g.R.L.Link in
     let ready = c.requires.ready in
-    let back = boards_back link ready.apart c.serve_at_hub-lanes.ensures.heads c.of-boards.ensures c.new.ensures.items in
+    let back = boards_back link ready c.serve_at_hub-lanes.ensures.heads (put_whole c.serve_at_hub-lanes.result.0.items c.put_back.new.boards c.deref_mut.ensures.len c.deref_mut.ensures.value c.put_back.auto.boards
+    c.put_back.ensures) in
     let planned = c.serve_at_hub-lanes.ensures.planned in (
-      map (λ b. link_in b) c.of-boards.result,
+      links_in (take c.args.boards.len (c.put_back.new.boards ++ drop (length c.put_back.new.boards) c.args.boards.items)),
       c.finish_boards.ensures.kept,
       (
         planned.0,
@@ -138,9 +137,10 @@ pub returns-in-Err-clause-in_frames : goal.returns-in-Err-clause-in_frames
 returns-in-Err-clause-in_frames g c =
     let link = g.R.L.Link in
     let ready = c.requires.ready in
-    let back = boards_back link ready.apart c.serve_at_hub-lanes.ensures.heads c.of-boards.ensures c.new.ensures.items in
+    let back = boards_back link ready c.serve_at_hub-lanes.ensures.heads (put_whole c.serve_at_hub-lanes.result.0.items c.put_back.new.boards c.deref_mut.ensures.len c.deref_mut.ensures.value c.put_back.auto.boards
+    c.put_back.ensures) in
     let planned = c.serve_at_hub-lanes.ensures.planned in (
-      map (λ b. link_in b) c.of-boards.result,
+      links_in (take c.args.boards.len (c.put_back.new.boards ++ drop (length c.put_back.new.boards) c.args.boards.items)),
       c.finish_boards.ensures.kept,
       (
         planned.0,

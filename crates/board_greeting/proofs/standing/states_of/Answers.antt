@@ -1,7 +1,7 @@
 use Rattle.std.proofs.Common.{arith}
 use Rattle.std.proofs.lemmas.Grind.{common_steps}
-use Rattle.session_serve.proofs.Standing.{lane_fits, one_more_state}
-use Rattle.session_serve.proofs.prepared.states_of.Goals as goal
+use Rattle.board_greeting.proofs.Standings.{lane_fits, one_more_state}
+use Rattle.board_greeting.proofs.standing.states_of.Goals as goal
 
 pub loop-board-preserved : goal.loop-board-preserved
 loop-board-preserved g c =
