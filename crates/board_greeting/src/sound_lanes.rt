@@ -11,6 +11,7 @@ ghost use Rattle.lane_record.specs.declared.item.Item.{Item};
 ghost use Rattle.lane_record.specs.Bounds.{HasReached};
 ghost use Rattle.hub_lane.specs.Heard.{HasHeard, HasListened};
 ghost use Rattle.hub_lane.specs.Lanes.{BoardStatus, IsLane};
+ghost use Rattle.links.specs.Receives.{receives_in};
 ghost use Rattle.board_history.specs.Lanes.{IsSoundLane};
 ghost use Rattle.board_history.specs.Links.{LinkReport};
 ghost use Rattle.board_greeting.specs.Reports.{OpenedWith};
