@@ -203,15 +203,15 @@ pub answered_behind : (view link counted now : UdpState) (old new : SocketState)
     → ReceivesOver link.board link.is_watched link.told now.told result bytes
 answered_behind view link counted now old new same socket still heard buffer hears is_now result is bytes copied =
     let told : new.told ≡ now.told =
-        sym still ∙ sym (told_still heard counted) ∙ ap (λ (l : UdpState). l.told) (sym is_now) in
+    sym still ∙ sym (told_still heard counted) ∙ ap (λ (l : UdpState). l.told) (sym is_now) in
     subst (λ (r : Result Received LinkFault). ReceivesOver link.board link.is_watched link.told now.told r bytes) (sym is)
     (subst (λ (b : List ℕ). ReceivesOver link.board link.is_watched link.told now.told (told_of heard) b) (sym copied)
     (subst (λ (l : UdpState).
-        ReceivesOver l.board l.is_watched l.told now.told (told_of heard) (datagram_in heard buffer)) same
+    ReceivesOver l.board l.is_watched l.told now.told (told_of heard) (datagram_in heard buffer)) same
     (subst (λ (t : Option Socket).
-        ReceivesOver view.board view.is_watched t now.told (told_of heard) (datagram_in heard buffer)) socket
+    ReceivesOver view.board view.is_watched t now.told (told_of heard) (datagram_in heard buffer)) socket
     (subst (λ (t : Option Socket).
-        ReceivesOver view.board view.is_watched old.told t (told_of heard) (datagram_in heard buffer)) told
+    ReceivesOver view.board view.is_watched old.told t (told_of heard) (datagram_in heard buffer)) told
     (answered view.board view.is_watched old new heard buffer hears)))))
 
 -- a buffer that was lent whole is what was written to it

@@ -133,10 +133,10 @@ impl<A: Listener + Drop> BoundListener<A> {
 }
 
 /// A listener of this port at every IPv4 address.
-pub(crate) fn listener_of_port<A: Listener + Drop, R: Net<Listener = TcpListener, Stream = TcpStream>>(
-    rt: &R,
-    port: u16,
-) -> io::Result<BoundListener<A>>
+pub(crate) fn listener_of_port<
+    A: Listener + Drop,
+    R: Net<Listener = TcpListener, Stream = TcpStream>,
+>(rt: &R, port: u16) -> io::Result<BoundListener<A>>
     ensures place { IfOk result (λ bound. IsAt every_address port bound.place) }
     ensures told { IfOk result (λ bound. IfSome bound.told (λ seen. seen.place ≡ At every_address port)) }
 {

@@ -35,8 +35,7 @@ pub struct TcpDoor<
 }
 
 impl<R: Net<Listener = TcpListener, Stream = TcpStream> + Drop, A: Listener + Drop> Model
-    for TcpDoor<R, A>
-{
+    for TcpDoor<R, A> {
     ghost use Rattle.std_edges.specs.States.{DoorState};
 
     ghost Value = { DoorState };

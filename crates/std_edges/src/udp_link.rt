@@ -80,7 +80,6 @@ impl UdpLink<UdpSocket> {
 }
 
 impl<S: LinkSocket + Drop> UdpLink<S> {
-
     /// A link over a socket of any kind, of which a voice, where it is given, says on standard error what the board told at
     /// its greeting, its first error, that the board does not answer, that it answers again, and that it is out of step.
     pub fn with_notes<R: Net + AllocGlobal>(
@@ -251,8 +250,7 @@ impl<S: LinkSocket + Drop> Link for UdpLink<S> {
         ensures gots { self.new.gots ≡ gots_after result self.old.gots }
         ensures gots_rise { self.old.gots ≤ self.new.gots }
         ensures receives { self.new.receives ≡ receives_after result into.new.items self.old.receives }
-        ensures handed {
-            ReceivesOver self.old.board self.old.is_watched self.old.told self.new.told result into.new.items }
+        ensures handed { ReceivesOver self.old.board self.old.is_watched self.old.told self.new.told result into.new.items }
     {
         into.clear();
         self.receives.reserve()?;

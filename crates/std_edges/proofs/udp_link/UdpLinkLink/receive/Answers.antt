@@ -39,9 +39,9 @@ returns-clause-handed g c =
     let copied : c.keep_heard.new.into.items ≡ datagram_in heard c.deref.result.now = c.in_ok-keep_heard.ensures.copied in
     let buf = c.hear_board-heard.new.buf in
     let long : c.make_rooms.new.buffer.len ≡ length buf =
-        omega (arith, c.hear_board-heard.ensures.room, c.as_mut_slice-buffer.ensures.len) in
+    omega (arith, c.hear_board-heard.ensures.room, c.as_mut_slice-buffer.ensures.len) in
     let read : c.deref.result.now ≡ buf =
-        written_back c.deref.result.now buf _ c.make_rooms.new.buffer.len c.deref.ensures.value long in
+    written_back c.deref.result.now buf _ c.make_rooms.new.buffer.len c.deref.ensures.value long in
     answered_behind _ c.args.self.now _ c.count_heard.new.self c.self.inside.socket c.hear_board-heard.new.socket
     c.self.view_is refl refl c.hear_board-heard.result c.hear_board-heard.new.buf c.hear_board-heard.ensures.hears
     c.count_heard.ensures.counted c.count_heard.result c.count_heard.ensures.told c.keep_heard.new.into.items
