@@ -191,7 +191,7 @@ impl EndWriting for Client {
 impl ClientStream for Client {
     fn other_handle(&self) -> io::Result<Client> {
         // the second client has no second handle
-        if self.bytes == b"b" {
+        if self.bytes == b"b".as_slice() {
             return refused(24);
         }
         Ok(Client { bytes: b"" })

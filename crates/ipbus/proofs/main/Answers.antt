@@ -3,12 +3,9 @@
 use denote.Param.Send.{IsSend, sendable}
 use Rattle.circular_buffer.proofs.Crosses.{Cells-send, Deed-send}
 use Rattle.std.proofs.Crossing.{crosses}
-use Rattle.std_edges.specs.contracts.udp_link.UdpLink as UdpLink
+use Rattle.std_edges.proofs.Sends.{udp_link_send}
 use Rattle.net_edges.specs.contracts.any_link.AnyLink as AnyLink
 use Rattle.ipbus.proofs.main.Goals as goal
-
-udp_link_send : IsSend UdpLink.the_row
-udp_link_send = search (sendable, crosses) depth 60 fits 20000
 
 any_link_send : IsSend AnyLink.the_row
 any_link_send = search (udp_link_send, sendable, crosses, Cells-send, Deed-send) depth 60 fits 20000
