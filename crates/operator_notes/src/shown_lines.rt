@@ -47,11 +47,6 @@ pub(crate) fn is_cut(text: &str) -> bool {
 
 /// The places that a line shows, as they are written.
 pub(crate) fn places_of(line: &str) -> Option<&str> {
-    // one character is looked for from the end, and two from the front
-    let (front, places) = line.rsplit_once('@')?;
-    if front.ends_with(' ') {
-        return Some(places);
-    }
     let (_front, places) = line.rsplit_once(" @")?;
     Some(places)
 }
