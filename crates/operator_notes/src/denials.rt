@@ -16,11 +16,20 @@ use toml::Value;
 /// its number, how many it denied, and its text; and behind these how many operations no rule allowed. Nothing where the
 /// document has no policy, or the command refuses it or runs nothing of it.
 pub(crate) fn say_denials(notes: &mut Notes, command: &Command, bytes: &[u8]) {
-    if may_have(bytes, "policy")
+    if is_under_policy(command)
+        && may_have(bytes, "policy")
         && let Some(value) = value_of(notes, bytes, "policy")
     {
         say_denied(notes, &value, command, bytes);
     }
+}
+
+/// Whether a command runs something of a document that a policy can deny.
+fn is_under_policy(command: &Command) -> bool {
+    matches!(
+        command,
+        Command::Run | Command::Save | Command::Apply | Command::Record
+    )
 }
 
 /// Whether the text may have a key, which can be written by escapes too: a document without it is not read again.

@@ -14,7 +14,7 @@ use crate::escaping::{MOST_SHOWN, OneLine};
 use crate::notes::Notes;
 use crate::operations::payload_on;
 use crate::piece_answers::{Reply, result_of};
-use crate::shown_lines::{is_cut, shown_text};
+use crate::shown_lines::is_cut;
 use audit_command::{Audited, read_for_audit};
 use board_bus::Bus;
 use board_specs::LinkSpec;
@@ -29,13 +29,15 @@ use transcript::{OpResult, push_result};
 
 /// Says what the board gives at the places of a line, and where the line differs from that. Of the packets of this board
 /// those that can change a register are executed again, in the order of the places, and those of the line.
-pub(crate) fn say_result(notes: &mut Notes, bytes: &[u8], line: u32, shown: &[u8]) {
+pub(crate) fn say_result(notes: &mut Notes, bytes: &[u8], line: u32, text: &str) {
     if let Some(read) = notes.made(read_for_audit(notes.alloc, bytes)) {
-        say_replayed(notes, &read, line, shown);
+        say_replayed(notes, &read, line, text);
+        // The program ends behind this. Hundreds of thousands of texts are not given back one by one before that.
+        mem::forget(read);
     }
 }
 
-fn say_replayed(notes: &mut Notes, read: &Audited<'_>, line: u32, shown: &[u8])
+fn say_replayed(notes: &mut Notes, read: &Audited<'_>, line: u32, shown: &str)
     requires { CanBeAudited read.now.session read.now.steps.items }
 {
     let Belongs::Operation(asked) = what_belongs(read, u64::from(line)) else {
@@ -44,13 +46,12 @@ fn say_replayed(notes: &mut Notes, read: &Audited<'_>, line: u32, shown: &[u8])
     let Some(given) = notes.made(given_at(notes.alloc, read, asked)) else {
         return;
     };
-    let line = shown_text(shown);
     if let Some(text) = notes.made(text_of(notes.alloc, &given)) {
         say_given(notes, text.as_str(), read.session.settings.rounds());
         if let OpResult::Value(words) = &given
-            && (is_cut(line) || is_cut(text.as_str()))
+            && (is_cut(shown) || is_cut(text.as_str()))
         {
-            say_difference(notes, line, words.as_slice());
+            say_difference(notes, shown, words.as_slice());
         }
     }
 }

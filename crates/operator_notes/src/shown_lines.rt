@@ -25,12 +25,11 @@ pub(crate) fn shown_text(bytes: &[u8]) -> &str {
     str::from_utf8(bytes).unwrap_or("bytes that are no text")
 }
 
-/// Says a line of a text by its number, and the places that it shows where it is cut before them.
-pub(crate) fn say_line(notes: &mut Notes, line: u32, bytes: Option<&[u8]>) {
-    let Some(bytes) = bytes else {
+/// Says a line of a transcript by its number and its text, and the places that it shows where it is cut before them.
+pub(crate) fn say_line(notes: &mut Notes, line: u32, text: Option<&str>) {
+    let Some(text) = text else {
         return notes.say_line(u64::from(line), "the transcript ends before it");
     };
-    let text = shown_text(bytes);
     let shown = OneLine(text);
     notes.say(format_args!("line {line}: {shown}"));
     if is_cut(text)

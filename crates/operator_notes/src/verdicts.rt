@@ -6,7 +6,7 @@ use crate::escaping::OneLine;
 use crate::line_forms::say_operation;
 use crate::notes::Notes;
 use crate::replayed_line::say_result;
-use crate::shown_lines::{line_at, say_line};
+use crate::shown_lines::{line_at, say_line, shown_text};
 use crate::told_verdicts::{Broken, broken_in};
 use audit_command::{AuditWhy, read_for_audit};
 
@@ -17,18 +17,22 @@ pub(crate) fn say_verdict(notes: &mut Notes, bytes: &[u8], answer: &[u8]) {
     if let Some(broken) = broken_in(answer) {
         let (_document, transcript) = parts_in(bytes);
         let line = line_at(transcript, broken.line);
-        say_line(notes, broken.line, line);
-        say_rule(notes, bytes, broken, line);
+        let text = match line {
+            Some(line) => Some(shown_text(line)),
+            None => None,
+        };
+        say_line(notes, broken.line, text);
+        say_rule(notes, bytes, broken, line, text.unwrap_or(""));
     }
 }
 
-/// Says what the rule wants in a line.
-fn say_rule(notes: &mut Notes, bytes: &[u8], broken: Broken, line: Option<&[u8]>) {
+/// Says what the rule wants in a line, which is this text.
+fn say_rule(notes: &mut Notes, bytes: &[u8], broken: Broken, line: Option<&[u8]>, text: &str) {
     match broken.why {
         AuditWhy::Form => say_form(notes, bytes, broken.line, line),
         AuditWhy::Partial => notes.say(PARTIAL),
         AuditWhy::Place => notes.say(PLACE),
-        AuditWhy::Result => say_result(notes, bytes, broken.line, line.unwrap_or(&[])),
+        AuditWhy::Result => say_result(notes, bytes, broken.line, text),
         AuditWhy::Count => notes.say(COUNT),
     }
 }
