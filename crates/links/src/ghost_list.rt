@@ -9,7 +9,7 @@ use std::snapshot::Snapshot;
 /// The items of a list.
 #[derive(Drop)]
 enum Items<T> {
-    /// None.
+    /// There are no items.
     Nothing,
     /// Those before the last one, and the last one.
     More {

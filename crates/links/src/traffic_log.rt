@@ -13,7 +13,7 @@ enum Call {
     Sent(GhostList<u8>),
     /// It received these bytes.
     Got(GhostList<u8>),
-    /// It received nothing.
+    /// A receive was quiet.
     Quiet,
 }
 
