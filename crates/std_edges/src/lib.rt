@@ -1,9 +1,10 @@
 //! The real outside: UDP links to boards and what a rack knows of them, TCP connections and a port that lets them in, and
 //! standard input and output.
 //!
-//! Each is a thin layer over the calls of std, proved against its trait. What the outside carried is told by none of
-//! them: contracts see counts, which stand still at the end of 64 bits. Links and doors may say on standard error what
-//! befalls them; no contract speaks of that.
+//! Each is a thin layer over the calls of std, proved against its trait. It stands on any socket, listener or output: of
+//! one that tells its calls contracts see what it was handed and what it handed on. Std's own meet these traits in a line
+//! a call, and tell nothing: of them contracts see counts, which stand still at the end of 64 bits. Links and doors may
+//! say on standard error what befalls them; no contract speaks of that.
 #![tactic(auto)]
 
 mod board_locks;
