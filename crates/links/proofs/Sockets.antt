@@ -1,26 +1,7 @@
--- Calls of sockets, one behind the other, and places.
-use Rattle.std.proofs.Common.{◌≡◌, ℕ, List, [], ◌∷◌, ◌++◌, map, Option, Some, None, option_map, refl, sym, ap, ◌∙◌, append_assoc, append-nil}
+-- Calls of sockets, one behind the other.
+use Rattle.std.proofs.Common.{◌≡◌, ℕ, List, [], ◌++◌, map, Option, Some, None, option_map, refl, sym, ap, ◌∙◌, append_assoc, append-nil}
 use Rattle.std.proofs.lemmas.List.{map-append}
-use Rattle.std.specs.Net.Addr.{ipv4_octets}
-use Rattle.std.specs.Net.Socket.{v4_ip, v4_port}
-use Rattle.std.specs.declared.net.ipv4_addr.Ipv4Addr.{Ipv4Addr}
-use Rattle.std.specs.declared.net.socket_addr.SocketAddrV4.{SocketAddrV4}
-use Rattle.std.specs.declared.net.socket_addr.SocketAddr.{SocketAddr}
-use Rattle.std.specs.declared.net.socket_addr.SocketAddr.TheVariants.{V4, V6}
-use Rattle.links.specs.Sockets.{AreCalls, At, AtIpv6, Place, Socket, SocketCall, after_calls, place_of}
-
-abbrev ipv4_place : List ℕ → ℕ → SocketAddr
-ipv4_place octets port = V4 (record { ip = record { octets = octets }; port = port })
-
-pub one_place : (a b : SocketAddr) → place_of a ≡ place_of b → a ≡ b
-one_place (V4 a) (V4 b) same =
-    let octets : ipv4_octets (v4_ip a) ≡ ipv4_octets (v4_ip b) = cc in
-    let port : v4_port a ≡ v4_port b = cc in
-    ap (λ (numbers : List ℕ). ipv4_place numbers (v4_port a)) octets
-    ∙ ap (λ (number : ℕ). ipv4_place (ipv4_octets (v4_ip b)) number) port
-one_place (V4 a) (V6 b) same = absurd cc
-one_place (V6 a) (V4 b) same = absurd cc
-one_place (V6 a) (V6 b) same = cc
+use Rattle.links.specs.Sockets.{AreCalls, Socket, SocketCall, after_calls}
 
 pub no_calls : (told : Option Socket) → AreCalls [] told told
 no_calls None = refl
