@@ -32,8 +32,6 @@ use transcript::{OpResult, push_result};
 pub(crate) fn say_result(notes: &mut Notes, bytes: &[u8], line: u32, text: &str) {
     if let Some(read) = notes.made(read_for_audit(notes.alloc, bytes)) {
         say_replayed(notes, &read, line, text);
-        // The program ends behind this. Hundreds of thousands of texts are not given back one by one before that.
-        mem::forget(read);
     }
 }
 
