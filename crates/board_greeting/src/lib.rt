@@ -12,6 +12,4 @@ mod standing;
 
 pub use closing::close_lane;
 pub use greeting::{greet_boards, is_out_of_memory, keep_all};
-pub use standing::{
-    Standing, is_at_hub, put_back, standing_of, states_of, take_lanes,
-};
+pub use standing::{Standing, is_at_hub, put_back, standing_of, states_of, take_lanes};

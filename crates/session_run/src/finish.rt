@@ -121,9 +121,7 @@ fn finish_board<L: Link>(
 {
     a_fresh_link_is_left();
     match board {
-        Standing::Live(lane) => finish_live(
-            alloc, settings, lane, parts, spec, position, scripts,
-        ),
+        Standing::Live(lane) => finish_live(alloc, settings, lane, parts, spec, position, scripts),
         Standing::AtHub => unreachable!(),
         Standing::Silent(link) => (
             link,
@@ -193,8 +191,15 @@ pub(crate) fn finish_boards<R: Rack>(
             unreachable!()
         };
         let came = next_parts(&board, &mut parts);
-        let (link, run) =
-            finish_board(alloc, settings, board, came, spec, position as u32, scripts);
+        let (link, run) = finish_board(
+            alloc,
+            settings,
+            board,
+            came,
+            spec,
+            position as u32,
+            scripts,
+        );
         rack.keep(link);
         is_whole = add_run(&mut runs, run, is_whole);
     }
