@@ -1,10 +1,10 @@
 -- Boards whose lanes go to a hub and come back, one after another.
-use Rattle.std.proofs.Common.{◌≡◌, ◌∙◌, ℕ, zero, suc, ◌+◌, ◌≤◌, ◌<◌, List, [], ◌∷◌, ◌++◌, map, length, drop, take}
-use Rattle.std.proofs.Common.{set, get_or, refl, sym, ap, subst, arith, append_assoc, append-nil, true, false}
+use Rattle.std.proofs.Common.{◌≡◌, ◌∙◌, ℕ, zero, suc, ◌+◌, ◌≤◌, ◌<◌, List, [], ◌∷◌, ◌++◌, length, drop, take}
+use Rattle.std.proofs.Common.{set, get_or, refl, sym, ap, arith, append_assoc, append-nil}
 use Rattle.std.proofs.lemmas.List.{drop_all, drop_more, take_all}
 use Rattle.hub_lane.specs.Lanes.{LaneState}
 use Rattle.hub_lane.specs.declared.answers.BoardState.{BoardState}
-use Rattle.board_greeting.specs.Standings.{all_at_hub, at_hub, is_at_hub, lane_after, lane_in, lanes_in}
+use Rattle.board_greeting.specs.Standings.{all_at_hub, at_hub, lane_after, lane_in, lanes_in}
 use Rattle.board_greeting.specs.Standings.{positions_at_hub, state_at, states_at, with_lanes}
 use Rattle.board_greeting.specs.Boards.{AreReached}
 use Rattle.board_greeting.specs.declared.standing.Standing.{Standing}
@@ -79,47 +79,7 @@ taken_more {L} k olds boards later lanes more was now so_far within is put left 
       long = one.long ∙ long;
     }
 
-pub none_taken : {L : Type 0} (boards : List (Standing L)) (lanes : List (LaneState L)) → lanes ≡ []
-    → TakenSoFar 0 boards boards lanes
-none_taken boards lanes none =
-    record { left = refl; taken = ap (λ (l : List (LaneState _)). l ++ lanes_in boards) none; long = refl }
-
-pub all_taken : {L : Type 0} (k : ℕ) (olds boards : List (Standing L)) (lanes : List (LaneState L))
-    → TakenSoFar k olds boards lanes → length olds ≤ k → (boards ≡ all_at_hub olds) × (lanes ≡ lanes_in olds)
-all_taken {L} k olds boards lanes so_far over =
-    let long = so_far.long in
-    let past : length boards ≤ k = omega (arith, over, long) in
-    let none = drop_all k boards past in (
-      sym (append-nil boards)
-          ∙ (ap (λ (l : List (Standing L)). l ++ []) (sym (take_all k boards past))
-          ∙ (ap (λ (l : List (Standing L)). take k boards ++ all_at_hub l) (sym none) ∙ so_far.left)),
-      sym (append-nil lanes)
-          ∙ (ap (λ (l : List (Standing L)). lanes ++ lanes_in l) (sym none) ∙ so_far.taken),
-    )
-
 -- ---- lanes that are put back
-
-pub put_at_hub : {L : Type 0} (board : Standing L) (rest : List (Standing L)) (lane : LaneState L)
-    (lanes : List (LaneState L)) → is_at_hub board ≡ true
-    → with_lanes (board ∷ rest) (lane ∷ lanes) ≡ Live lane ∷ with_lanes rest lanes
-put_at_hub (Live own) rest lane lanes is = absurd cc
-put_at_hub AtHub rest lane lanes is = refl
-put_at_hub (Silent link) rest lane lanes is = absurd cc
-put_at_hub (Down link) rest lane lanes is = absurd cc
-
-pub put_none : {L : Type 0} (board : Standing L) (rest : List (Standing L)) (lanes : List (LaneState L))
-    → is_at_hub board ≡ false → with_lanes (board ∷ rest) lanes ≡ board ∷ with_lanes rest lanes
-put_none (Live own) rest lanes is = refl
-put_none AtHub rest lanes is = absurd cc
-put_none (Silent link) rest lanes is = refl
-put_none (Down link) rest lanes is = refl
-
-pub none_left : {L : Type 0} (board : Standing L) (rest : List (Standing L))
-    → with_lanes (board ∷ rest) [] ≡ board ∷ with_lanes rest []
-none_left (Live own) rest = refl
-none_left AtHub rest = refl
-none_left (Silent link) rest = refl
-none_left (Down link) rest = refl
 
 pub record PutSoFar {L : Type 0} (k : ℕ) (olds boards : List (Standing L)) (all lanes : List (LaneState L)) : Type 0
   where
@@ -143,15 +103,6 @@ put_more {L} k olds boards later all lanes rest_lanes was now so_far within is w
           ∙ (ap (λ (l : List (Standing L)). take k boards ++ with_lanes l lanes) (sym one.begins) ∙ so_far.put))));
       long = one.long ∙ long;
     }
-
-pub all_put : {L : Type 0} (k : ℕ) (olds boards : List (Standing L)) (all lanes : List (LaneState L))
-    → PutSoFar k olds boards all lanes → length olds ≤ k → boards ≡ with_lanes olds all
-all_put {L} k olds boards all lanes so_far over =
-    let long = so_far.long in
-    let past : length boards ≤ k = omega (arith, over, long) in
-    sym (append-nil boards)
-    ∙ (ap (λ (l : List (Standing L)). l ++ []) (sym (take_all k boards past))
-    ∙ (ap (λ (l : List (Standing L)). take k boards ++ with_lanes l lanes) (sym (drop_all k boards past)) ∙ so_far.put))
 
 -- ---- how boards stand to clients
 

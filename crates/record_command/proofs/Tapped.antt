@@ -1,7 +1,7 @@
 -- A board that was greeted over a tap, and what is given back behind it.
 use Rattle.std.proofs.Common.{◌≡◌, ◌≤◌, ◌∙◌, ℕ, ◌++◌, ◌&&◌, Bool, true, false, List, [], ◌∷◌, length}
 use Rattle.std.proofs.Common.{Result, Ok, Err, IfOk, Option, Some, None, IfSome}
-use Rattle.std.proofs.Common.{ap, ap₂, map, refl, slice_index_or, subst, sym, arith}
+use Rattle.std.proofs.Common.{ap, ap₂, refl, slice_index_or, subst, sym, arith}
 use Rattle.std.proofs.lemmas.List.{length-map}
 use Rattle.std.specs.Global.{Vec}
 use Rattle.ipb_base.specs.Lists.{IsPrefix}

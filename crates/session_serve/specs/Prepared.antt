@@ -1,6 +1,6 @@
 -- What is known of boards before the door listens. What private functions promise one another; no public clause speaks
 -- of these.
-use Rattle.std.specs.Prelude.{◌≡◌, ℕ, ◌≤◌, List, [], length, map}
+use Rattle.std.specs.Prelude.{◌≡◌, ◌≤◌, List, [], length, map}
 use Rattle.std.specs.Vec.{vec_capacity}
 use Rattle.ipb_base.specs.Numbers.{payload_of}
 use Rattle.board_specs.specs.declared.spec.BoardSpec.{BoardSpec}

@@ -1,4 +1,4 @@
-use Rattle.std.proofs.Common.{◌≡◌, ◌≤◌, ◌+◌, ◌-◌, length, vec_len, vec_capacity}
+use Rattle.std.proofs.Common.{◌≤◌, ◌+◌, ◌-◌, length, vec_len, vec_capacity}
 use Rattle.board_greeting.proofs.Standings.{TakenSoFar}
 use Rattle.board_greeting.proofs.standing.take_lanes.Given as goal
 
