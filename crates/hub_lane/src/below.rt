@@ -12,8 +12,8 @@ use lane_record::laws::offers::{
     a_failed_link_loses_what_waits, a_send_settles_nothing, what_a_hub_hears_settles_asks,
 };
 use links::laws::a_send_leaves_the_fates;
-use reliable_engine::laws::machine_runs::handing_out_changes_no_run;
 use packet_codec::laws::reading_is_the_grammar;
+use reliable_engine::laws::machine_runs::handing_out_changes_no_run;
 use world_model::laws::boards::the_last_replies_alone_are_held;
 use world_model::laws::late_answers::a_late_answer_is_of_a_timed_out_body;
 use world_model::laws::links::{a_link_forgets_nothing, each_event_keeps_them_joined};

@@ -197,6 +197,8 @@ pub returns-in_err-receive-clause-lost : goal.returns-in_err-receive-clause-lost
 returns-in_err-receive-clause-lost g c = on_any_err _ (inl c.in_err-receive.ensures.traffic)
 
 pub returns-in_err-hear-in-Got-clause-lost : goal.returns-in_err-hear-in-Got-clause-lost
-returns-in_err-hear-in-Got-clause-lost g c = on_any_err _ (inr (c.receive.new.into.items,
-    got_traffic c.in_ok-receive.field-0 c.receive.new.into.items (g.L.Link.traffic c.args.link.now) c.in-Got.is
-    c.in_ok-receive.ensures.traffic))
+returns-in_err-hear-in-Got-clause-lost g c = on_any_err _ (inr (
+  c.receive.new.into.items,
+  got_traffic c.in_ok-receive.field-0 c.receive.new.into.items (g.L.Link.traffic c.args.link.now) c.in-Got.is
+      c.in_ok-receive.ensures.traffic,
+))
