@@ -42,7 +42,7 @@ impl Model for RunLog {
 }
 
 impl RunLog {
-    /// The log of an engine that nothing was asked of yet.
+    /// A log with no events, before the engine was told or asked anything.
     pub(crate) fn new() -> RunLog
         ensures { result ≡ [] }
     {
@@ -60,7 +60,7 @@ impl RunLog {
         }
     }
 
-    /// Adds that a send was taken from the engine.
+    /// Adds a send that was taken from the engine.
     pub(crate) fn add_send(&mut self)
         ensures { self.new ≡ self.old ++ Send ∷ [] }
     {
@@ -79,7 +79,7 @@ impl RunLog {
         }
     }
 
-    /// Adds an event behind those that are there.
+    /// Adds an event of the engine behind the others.
     fn add(&mut self, event: Event)
         ensures { self.new ≡ self.old ++ event_in event ∷ [] }
     {

@@ -9,9 +9,9 @@ use std::snapshot::Snapshot;
 /// The items of a list.
 #[derive(Drop)]
 enum Items<T> {
-    /// There are no items.
+    /// The list has no items.
     Nothing,
-    /// Those before the last one, and the last one.
+    /// The items before the last one, and the last one.
     More {
         before: Snapshot<Items<T>>,
         last: Snapshot<T>,

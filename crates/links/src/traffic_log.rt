@@ -9,11 +9,11 @@ use std::marker::Model;
 /// What one call of a link came to.
 #[derive(Drop)]
 enum Call {
-    /// It sent these bytes.
+    /// A datagram of these bytes was sent.
     Sent(GhostList<u8>),
-    /// It received these bytes.
+    /// A datagram of these bytes was received.
     Got(GhostList<u8>),
-    /// A receive was quiet.
+    /// The receive was quiet.
     Quiet,
 }
 
