@@ -1,30 +1,23 @@
-use Rattle.std.proofs.Common.{◌≡◌, Err, refl, ap, ◌∙◌, length, arith, rules}
+use Rattle.std.proofs.Common.{◌≡◌, true, Err, refl, ap, ◌∙◌, length, arith, rules}
+use Rattle.std.specs.Option.{is_some}
 use Rattle.links.specs.declared.link.LinkFault.TheVariants.{NoMemory}
 use Rattle.std_edges.specs.Heard.{datagram_in}
 use Rattle.std_edges.specs.States.{UdpState}
 use Rattle.std_edges.proofs.Hearing.{answered_behind, no_memory, no_memory_behind, silent, written_back}
 use Rattle.std_edges.proofs.udp_link.UdpLinkLink.receive.Goals as goal
 
-pub returns-in_err-reserve-clause-handed : goal.returns-in_err-reserve-clause-handed
-returns-in_err-reserve-clause-handed g c =
-    let is : c.from_residual.result ≡ Err NoMemory = search rules in
-    no_memory _ c.args.self.now c.self.view_is c.from_residual.result is c.clear.new.self.items
-
-pub returns-in_err-add_quiet-clause-handed : goal.returns-in_err-add_quiet-clause-handed
-returns-in_err-add_quiet-clause-handed g c =
-    let is : c.from_residual-in_err-add_quiet.result ≡ Err NoMemory = search rules in
-    no_memory _ c.args.self.now c.self.view_is c.from_residual-in_err-add_quiet.result is c.clear.new.self.items
-
 pub returns-then-is_silent-clause-handed : goal.returns-then-is_silent-clause-handed
 returns-then-is_silent-clause-handed g c =
-    silent _ c.args.self.now c.count_quiet.new.self c.self.view_is (c.is_silent.ensures c.if-is_silent.true)
+    let watched : is_some c.self.inside.sighting ≡ true =
+    ap (λ (link : UdpState). link.is_watched) c.self.view_is ∙ c.is_silent.ensures c.if-is_silent.true in
+    silent _ c.args.self.now c.count_quiet.new.self c.self.view_is watched
     (ap (λ (link : UdpState). link.told) c.count_quiet.ensures.counted) c.count_quiet.result c.count_quiet.ensures.quiet
     c.clear.new.self.items
 
 pub returns-in_err-make_rooms-clause-handed : goal.returns-in_err-make_rooms-clause-handed
 returns-in_err-make_rooms-clause-handed g c =
-    let is : c.from_residual-in_err-make_rooms.result ≡ Err NoMemory = search rules in
-    no_memory _ c.args.self.now c.self.view_is c.from_residual-in_err-make_rooms.result is c.make_rooms.new.into.items
+    let is : c.from_residual.result ≡ Err NoMemory = search rules in
+    no_memory _ c.args.self.now c.self.view_is c.from_residual.result is c.make_rooms.new.into.items
 
 pub returns-in_err-keep_heard-clause-handed : goal.returns-in_err-keep_heard-clause-handed
 returns-in_err-keep_heard-clause-handed g c =
