@@ -1,6 +1,6 @@
 -- Connections at three boards, worked by hand: one that is live, one that was silent, one whose link was down. Profile.
 use Rattle.std.specs.Prelude.{ℕ, List, [], ◌∷◌, None, replicate}
-use Rattle.reliable_engine.specs.Traffic.{Got, Quiet}
+use Rattle.reliable_engine.specs.Traffic as passed
 use Rattle.world_model.specs.Settings.{Limits}
 use Rattle.lane_record.specs.declared.outcome.Outcome.TheVariants.{TimedOut}
 use Rattle.board_history.specs.Examples.{read_body, reads_at}
@@ -68,7 +68,7 @@ quiet_link quiets = record {
   quiets = quiets;
   gots = 0;
   held = 0;
-  traffic = replicate quiets Quiet;
+  traffic = replicate quiets passed.Quiet;
   telling = None;
 }
 
@@ -79,6 +79,6 @@ greeted_link quiets = record {
   quiets = quiets;
   gots = 1;
   held = 0;
-  traffic = Got status_datagram ∷ replicate quiets Quiet;
+  traffic = passed.Got status_datagram ∷ replicate quiets passed.Quiet;
   telling = None;
 }
