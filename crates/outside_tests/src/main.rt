@@ -5,7 +5,6 @@
 #[cfg(test)]
 mod bytes;
 #[cfg(test)]
-mod fake_tests;
 #[cfg(test)]
 mod kept_tests;
 #[cfg(test)]
