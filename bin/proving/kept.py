@@ -19,7 +19,8 @@ from proving.sources import PROGRAM, TOP
 STORE = TOP / "out" / "proved"
 OUT = TOP / "crates" / PROGRAM / "out"
 BUILT = OUT / PROGRAM
-# what `bin/ipbus` reads: the names of the sources, their sum, the sum of the program, and by which kit
+# what `bin/ipbus` reads: the names of the code and of what is stated of it, their sum, the sum of the program, by which
+# kit, and the sum with the proofs
 PROVED = OUT / "proved"
 # what the program itself says of its proof, where a word asks for its version
 PROVENANCE = OUT / f"{PROGRAM}.provenance"
@@ -170,22 +171,39 @@ def install(program: pathlib.Path, axioms: str) -> None:
         write(AXIOMS, axioms)
 
 
-def tell_program(total: str, kit: str) -> None:
-    """Says that the program that stands there is the proved one of the sources with this sum."""
-    names = " ".join(sources.all_sources())
+@dataclasses.dataclass(frozen=True)
+class Sums:
+    """The sum of the code and of what is stated of it, and that of these and the proofs."""
+
+    stated: str
+    whole: str
+
+    @classmethod
+    def now(cls) -> "Sums":
+        return cls(sources.sum_of(sources.stated_sources()), sources.sum_of(sources.all_sources()))
+
+
+def tell_program(sums: Sums, kit: str) -> None:
+    """Says that the program that stands there is the proved one of the sources with these sums."""
+    names = " ".join(sources.stated_sources())
     built = sources.sum_of_file(BUILT)
-    write(PROVENANCE, f"proved by bin/prove\nkit sha256 {kit}\nprogram sha256 {built}\nsources sha256 {total}\n")
-    write(PROVED, f"{names}\n{total}\n{built}\n{kit}\n")
+    write(PROVENANCE, f"proved by bin/prove\nkit sha256 {kit}\nprogram sha256 {built}\nsources sha256 {sums.stated}\n")
+    write(PROVED, f"{names}\n{sums.stated}\n{built}\n{kit}\n{sums.whole}\n")
     for old in OUT.glob("unproved*"):
         old.unlink(missing_ok=True)
 
 
-def is_proved(total: str, kit: str | None = None) -> bool:
-    """Whether the program that stands there is the proved one of the sources with this sum, by this kit or by any."""
+def is_proved() -> bool:
+    """Whether the program that stands there was proved, and is that of the code and of what is stated of it here."""
     lines = lines_of(PROVED)
-    if len(lines) != 4 or lines[0].split() != sources.all_sources() or lines[1] != total or kit not in (None, lines[3]):
+    if len(lines) != 5 or lines[:2] != [" ".join(sources.stated_sources()), sources.sum_of(sources.stated_sources())]:
         return False
     return os.access(BUILT, os.X_OK) and sources.sum_of_file(BUILT) == lines[2]
+
+
+def is_proved_by(kit: str, sums: Sums) -> bool:
+    """Whether it was proved by this kit, and by the proofs that stand here."""
+    return lines_of(PROVED)[3:] == [kit, sums.whole] and is_proved()
 
 
 def word_of(*parts: object) -> str:

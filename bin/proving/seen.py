@@ -1,11 +1,10 @@
 """A hint that spares `bin/ipbus` reading the sources: what each file looked like when contents were last compared.
 
-Files beside the stamp hold it. Two have the paths of the sources, of the folders that they stand in, of the program and
-of the stamp, half of them each, so that a start can look at both halves side by side. The other two are what `find`
-prints of these paths: number and time of change. A file that is changed
-later has another time of change, which nobody can set back. So has a folder in which a file is added or removed, and a
-source that is not there is named, so that it has a line once it is. The hint is kept only where all these times were
-older than its making, so that no change can have the time that it lists.
+Two files beside the stamp hold it. One has the paths of the code and of what is stated of it, of the folders that they
+stand in, of the program and of the stamp. The other is what `find` prints of these paths: number and time of change. A
+file that is changed later has another time of change, which nobody can set back. So has a folder in which a file is added
+or removed, and a source that is not there is named, so that it has a line once it is. The hint is kept only where all
+these times were older than its making, so that no change can have the time that it lists.
 """
 import contextlib
 import dataclasses
@@ -21,9 +20,8 @@ from proving.sources import TOP
 
 # as in bin/ipbus
 FORM = "%i %C@\\n"
-# the names of these files begin with that of the stamp, and end with the number of the half
+# the names of these files begin with that of the stamp
 PATHS, SEEN = ".paths", ".seen"
-HALVES = (1, 2)
 
 
 @dataclasses.dataclass
@@ -33,28 +31,21 @@ class Note:
     holds: bool = False
 
 
-def beside(stamp: pathlib.Path, ending: str, half: int) -> pathlib.Path:
+def beside(stamp: pathlib.Path, ending: str) -> pathlib.Path:
     """A file of the hint."""
-    return stamp.with_name(f"{stamp.name}{ending}.{half}")
+    return stamp.with_name(f"{stamp.name}{ending}")
 
 
-def halves(paths: list[str]) -> list[list[str]]:
-    """The paths, in two parts."""
-    middle = len(paths) // 2
-    return [paths[:middle], paths[middle:]]
-
-
-def keep(stamp: pathlib.Path, parts: list[list[str]], listed: list[str]) -> None:
-    """Keeps what `find` says of both halves beside a stamp, if it can be kept."""
+def keep(stamp: pathlib.Path, paths: list[str], listed: str) -> None:
+    """Keeps what `find` says of some paths beside a stamp, if it can be kept."""
     with contextlib.suppress(OSError):
-        for half, part, lines in zip(HALVES, parts, listed, strict=True):
-            kept.write(beside(stamp, PATHS, half), zeros_between(part))
-            kept.write(beside(stamp, SEEN, half), lines)
+        kept.write(beside(stamp, PATHS), zeros_between(paths))
+        kept.write(beside(stamp, SEEN), listed)
 
 
 def paths_of(stamp: pathlib.Path, program: pathlib.Path) -> list[str]:
     """The paths that are looked at, those of sources that are not there among them."""
-    names = [*sources.all_sources(), *(os.path.relpath(path, TOP) for path in (program, stamp))]
+    names = [*sources.stated_sources(), *(os.path.relpath(path, TOP) for path in (program, stamp))]
     return [*sources.paths_in(names), *(name for name in names if not os.path.lexists(TOP / name))]
 
 
@@ -101,10 +92,10 @@ def note_seen(stamp: pathlib.Path, program: pathlib.Path) -> Iterator[Note]:
         # who may not write here keeps no hint
         yield note
         return
-    parts = halves(paths_of(stamp, program))
-    listed = [listing(part) for part in parts]
+    paths = paths_of(stamp, program)
+    listed = listing(paths)
     yield note
     # a `find` that does not know these words prints nothing, and that is no hint
-    are_hints = all(is_whole(lines, part) and is_older(lines, began) for lines, part in zip(listed, parts, strict=True))
-    if note.holds and are_hints and [listing(part) for part in parts] == listed:
-        keep(stamp, parts, listed)
+    is_hint = is_whole(listed, paths) and is_older(listed, began)
+    if note.holds and is_hint and listing(paths) == listed:
+        keep(stamp, paths, listed)

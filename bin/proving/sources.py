@@ -1,6 +1,7 @@
 """The sources of the program: which files they are, their sums, and whether one was touched.
 
-A crate stands in crates/NAME/ and is listed in crates.txt. What it is made of is its src/, specs/ and proofs/.
+A crate stands in crates/NAME/ and is listed in crates.txt. What it is made of is its src/, specs/ and proofs/. Its code and
+what is stated of it stand in the first two: what was proved of them once stays so, whatever becomes of its proofs.
 """
 import functools
 import hashlib
@@ -11,7 +12,8 @@ from collections.abc import Iterable, Iterator
 
 PROGRAM = "ipbus"
 TOP = pathlib.Path(__file__).resolve().parent.parent.parent
-PARTS = ("src", "specs", "proofs")
+STATED = ("src", "specs")
+PARTS = (*STATED, "proofs")
 # files beside the crates that a proof depends on, and those of the example that the program is run on
 SHARED = ("crates.txt", "HANDLES")
 EXAMPLE = tuple(f"crates/{PROGRAM}/{name}" for name in ("args", "stdin", "stdout"))
@@ -45,13 +47,18 @@ def crates() -> tuple[str, ...]:
     return (*below(PROGRAM), PROGRAM)
 
 
-def parts_of(crate: str) -> list[str]:
+def parts_of(crate: str, parts: tuple[str, ...] = PARTS) -> list[str]:
     """The folders of a crate's sources, as they are named from the top; not each of them has to be there."""
-    return [f"crates/{crate}/{part}" for part in PARTS]
+    return [f"crates/{crate}/{part}" for part in parts]
+
+
+def stated_sources() -> list[str]:
+    """The files and folders that the program depends on and what is stated of it, as they are named from the top."""
+    return [*SHARED, *EXAMPLE, *(part for crate in crates() for part in parts_of(crate, STATED))]
 
 
 def all_sources() -> list[str]:
-    """The files and folders that what is proved of the program depends on, as they are named from the top."""
+    """The files and folders that a proof of all that depends on, as they are named from the top."""
     return [*SHARED, *EXAMPLE, *(part for crate in crates() for part in parts_of(crate))]
 
 

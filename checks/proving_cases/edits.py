@@ -110,17 +110,16 @@ def an_older_file_copied_over(small: Small) -> None:
 
 
 def files_added_and_taken_out(small: Small) -> None:
-    for name in ("crates/low/specs/More.antt", "crates/low/proofs/add_seven/More.antt", "crates/middle/specs/Lib.antt"):
+    for name in ("crates/low/specs/More.antt", "crates/low/src/more.rt", "crates/middle/specs/Lib.antt"):
         small.write(name, "-- one more\n")
         small.is_not_proved()
         small.file(name).unlink()
         small.is_proved()
-    for name in ("crates/low/specs/Sevens.antt", "crates/low/proofs/Sums.antt"):
-        text = small.file(name).read_text()
-        small.file(name).unlink()
-        small.is_not_proved()
-        small.write(name, text)
-        small.is_proved()
+    sevens = small.file("crates/low/specs/Sevens.antt").read_text()
+    small.file("crates/low/specs/Sevens.antt").unlink()
+    small.is_not_proved()
+    small.write("crates/low/specs/Sevens.antt", sevens)
+    small.is_proved()
     small.file("crates/low/specs/Sevens.antt").unlink()
     small.refuses("low is NOT proved")
 
@@ -144,10 +143,25 @@ def a_proof_edited(small: Small) -> None:
 
 
 def a_proof_that_is_wrong(small: Small) -> None:
+    """The code and what is stated of it stay, so the program that runs is the one that was proved; the proof is refused."""
     small.edit("crates/low/proofs/add_seven/Answers.antt", "returns c = refl", "returns c = c")
-    small.refuses("low is NOT proved")
+    small.is_proved()
+    small.does_not_prove("low is NOT proved")
+    small.is_proved()
     small.edit("crates/low/proofs/add_seven/Answers.antt", "returns c = c", "returns c = refl")
     small.proves(crates=[])
+
+
+def proofs_added_and_taken_out(small: Small) -> None:
+    """So it is of files of proofs: one that the kit does not read, and one that is missing."""
+    more, sums = small.file("crates/low/proofs/add_seven/More.antt"), small.file("crates/low/proofs/Sums.antt")
+    more.write_text("-- one more\n")
+    small.is_proved()
+    small.does_not_prove("low is NOT proved")
+    more.unlink()
+    sums.unlink()
+    small.does_not_prove("low is NOT proved")
+    small.is_proved()
 
 
 def a_clause_changed(small: Small) -> None:

@@ -8,8 +8,7 @@ import subprocess
 from proving_cases.edits import LOW, MAIN
 from proving_cases.small import LONGEST, NOT_PROVED, Ended, Small, command, holds
 
-HALVES = (1, 2)
-TOLD = [f"{ending}.{half}" for ending in ("paths", "seen") for half in HALVES]
+TOLD = ("paths", "seen")
 
 
 def bare(small: Small, tools: str = "sh find cmp readlink") -> Ended:
@@ -55,7 +54,7 @@ def a_start_without_kit_and_python(small: Small) -> None:
 def each_file_touched(small: Small) -> None:
     """Each file and folder that is looked at is touched, and its old dates are put back."""
     small.is_proved()
-    told = "".join(hint(small, f"paths.{half}").read_text() for half in HALVES)
+    told = hint(small, "paths").read_text()
     paths = [path for path in told.split("\0") if path and small.file(path).exists()]
     holds({LOW, "HANDLES", "crates/middle/src", "crates/ipbus/out/ipbus"} <= set(paths), f"{paths}")
     for path in paths:
@@ -78,7 +77,7 @@ def replaced_with_old_dates(small: Small) -> None:
     small.is_not_proved()
     small.file(MAIN).write_bytes(text)
     is_seen_again(small, "an edit in place")
-    for name in ("crates/low/src/more.rt", "crates/middle/proofs"):
+    for name in ("crates/low/src/more.rt", "crates/middle/specs"):
         folder = small.file(name).parent
         dates = folder.stat()
         small.write(name, "")
@@ -103,15 +102,13 @@ def a_hint_that_is_cut(small: Small) -> None:
     small.is_proved()
     told = {ending: hint(small, ending).read_bytes() for ending in TOLD}
     small.edit(MAIN, "// a program", "// the program")
-    for half in HALVES:
-        whole = told[f"paths.{half}"], told[f"seen.{half}"]
-        less = whole[0].replace(MAIN.encode() + b"\0", b"")
-        for paths, seen in ((b"", b""), (b"\0", b""), (b"", whole[1]), (less, whole[1])):
-            hint(small, f"paths.{half}").write_bytes(paths)
-            hint(small, f"seen.{half}").write_bytes(seen)
-            small.is_not_proved()
-        hint(small, f"paths.{half}").write_bytes(whole[0])
-        hint(small, f"seen.{half}").write_bytes(whole[1])
+    less = told["paths"].replace(MAIN.encode() + b"\0", b"")
+    for paths, seen in ((b"", b""), (b"\0", b""), (b"", told["seen"]), (less, told["seen"])):
+        hint(small, "paths").write_bytes(paths)
+        hint(small, "seen").write_bytes(seen)
+        small.is_not_proved()
+    for ending in TOLD:
+        hint(small, ending).write_bytes(told[ending])
     for ending in TOLD:
         hint(small, ending).unlink()
     small.is_not_proved()
@@ -127,7 +124,7 @@ def a_find_of_few_words(small: Small) -> None:
     for ending in TOLD:
         hint(small, ending).unlink(missing_ok=True)
     small.is_proved()
-    holds(not hint(small, "seen.1").exists(), "no hint should be kept that says nothing")
+    holds(not hint(small, "seen").exists(), "no hint should be kept that says nothing")
     small.edit(MAIN, "// a program", "// the program")
     small.is_not_proved()
 
@@ -135,7 +132,7 @@ def a_find_of_few_words(small: Small) -> None:
 def its_version(small: Small) -> None:
     """What a program can say of its proof stands beside it."""
     small.is_proved()
-    _, sources, program, kit = small.file("crates/ipbus/out/proved").read_text().splitlines()
+    _, sources, program, kit, _ = small.file("crates/ipbus/out/proved").read_text().splitlines()
     said = f"proved by bin/prove\nkit sha256 {kit}\nprogram sha256 {program}\nsources sha256 {sources}\n"
     stands = small.file("crates/ipbus/out/ipbus.provenance").read_text()
     holds(stands == said, f"{stands}")
