@@ -14,3 +14,6 @@ pub mod OneText
 pub mod OneFault
 pub mod ExampleLemmas
 mod TextsSoFar
+mod DigitTables
+mod AddedLines
+mod AddedRows

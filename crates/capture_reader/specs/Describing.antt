@@ -1,5 +1,5 @@
 -- How the code appends descriptions. The private functions speak of it and no public clause does.
-use Rattle.std.specs.Prelude.{◌≡◌, ◌⊎◌, ℕ, ◌≤◌, List, ◌++◌}
+use Rattle.std.specs.Prelude.{◌≡◌, ◌⊎◌, ℕ, ◌≤◌, List, ◌++◌, Bool, true, false}
 use Rattle.packet_ids.specs.Identifier.{identifier_at}
 use Rattle.packet_codec.specs.declared.packet.Packet.{Packet}
 use Rattle.packet_codec.specs.Packet.{IsPacket, packet_bytes}
@@ -14,6 +14,14 @@ Appends item old new = (text : List ℕ) × IsTextOf item text × (new ≡ old +
 -- the texts of datagrams were
 abbrev pub AppendsAll : List Caught → List ℕ → List ℕ → Type 0
 AppendsAll items old new = (text : List ℕ) × AreTextsOf items text × (new ≡ old ++ text)
+
+-- The words spell a list, and the text of that list was appended; or they spell none, and something was.
+abbrev pub Adds : {Item : Type 0} → (List Item → Type 0) → (List Item → List ℕ) → (List Item → List ℕ) → List ℕ
+    → List ℕ → List ℕ → Bool → Type 0
+Adds {Item = Item} Are spelled text words old new true =
+    (items : List Item) × Are items × (words ≡ spelled items) × (new ≡ old ++ text items)
+Adds {Item = Item} Are spelled text words old new false =
+    ((items : List Item) → Are items → words ≡ spelled items → ⊥) × ((more : List ℕ) × (new ≡ old ++ more))
 
 -- the datagram is this packet
 pub record IsOfPacket (item : Caught) (packet : Packet) : Type 0 where

@@ -167,6 +167,6 @@ datagram_of text = do
 abbrev pub datagram_at : List ℕ → Front Caught
 datagram_at text = shorter text (datagram_of text)
 
--- what the code answers, as lists
-abbrev pub line_read : FirstLine → List ℕ × List ℕ
-line_read first = (first.header ∷ first.words, first.rest.now)
+-- what the code answers, as lists: a header and the words behind it
+abbrev pub line_read : List ℕ → FirstLine → List ℕ × List ℕ
+line_read words first = (first.header ∷ words, first.rest.now)

@@ -1,12 +1,16 @@
 //! Describing a capture.
 
-ghost use Rattle.std.specs.Prelude.{◌≡◌, ◌<◌, ◌^◌, ◌++◌, true, false, IfOk, OnOk, codes};
+ghost use Rattle.std.specs.Prelude.{◌≡◌, ◌<◌, ◌^◌, ◌++◌, List, true, false, IfOk, OnOk, codes};
 ghost use Rattle.std.specs.Bool.{Decides};
+ghost use Rattle.transaction_codec.specs.declared.request.Request.{Request};
+ghost use Rattle.transaction_codec.specs.declared.reply.Reply.{Reply};
+ghost use Rattle.transaction_codec.specs.Request.{AreRequests, requests_words};
+ghost use Rattle.transaction_codec.specs.Reply.{AreReplies, replies_words};
 ghost use Rattle.capture_reader.specs.CaptureText.{AreItems, first_text};
 ghost use Rattle.capture_reader.specs.Rows.{raw_text, row_text, StatusRequest, Resend, Requests, Replies};
 ghost use Rattle.capture_reader.specs.Rows.{Status as StatusRow};
 ghost use Rattle.capture_reader.specs.Description.{IsDescription, proved_text};
-ghost use Rattle.capture_reader.specs.Describing.{Appends, AppendsAll, IsOfPacket};
+ghost use Rattle.capture_reader.specs.Describing.{Adds, Appends, AppendsAll, IsOfPacket};
 
 use crate::capture::{Capture, Caught};
 use crate::executed::proved;
@@ -20,7 +24,6 @@ use status_packet::{
     Status, read_resend, read_status_reply, write_status_reply, write_status_request,
 };
 use std::alloc::Global;
-use transaction_codec::{BadWords, Reply, Request, read_replies, read_requests};
 
 /// Whether bytes are the same.
 pub(crate) fn same_bytes(left: &[u8], right: &[u8]) -> bool
@@ -39,32 +42,36 @@ fn push_raw(out: &mut Vec<u8>, item: &Caught) -> Result<(), NoMemory>
     Ok(out.push(b'\n')?)
 }
 
-/// Appends a sent control packet of requests.
+/// Appends a sent control packet of the requests that words are. `false` where they are none; something may have been
+/// appended then.
 fn push_requests_row(
     out: &mut Vec<u8>,
     order: Order,
     id: u16,
-    requests: &[Request],
-) -> Result<(), NoMemory>
-    ensures { OnOk result (out.new.items ≡ out.old.items ++ row_text (Requests order id requests.now)) }
+    words: &[u32],
+) -> Result<bool, NoMemory>
+    ensures { let text = λ (requests : List Request). row_text (Requests order id requests) in
+        IfOk result (Adds AreRequests requests_words text words.now out.old.items out.new.items) }
 {
     out.extend_from_slice(b"> ")?;
     push_control(out, order, id)?;
-    push_requests(out, requests)
+    push_requests(out, words)
 }
 
-/// Appends a received control packet of replies.
+/// Appends a received control packet of the replies that words are. `false` where they are none; something may have
+/// been appended then.
 fn push_replies_row(
     out: &mut Vec<u8>,
     order: Order,
     id: u16,
-    replies: &[Reply],
-) -> Result<(), NoMemory>
-    ensures { OnOk result (out.new.items ≡ out.old.items ++ row_text (Replies order id replies.now)) }
+    words: &[u32],
+) -> Result<bool, NoMemory>
+    ensures { let text = λ (replies : List Reply). row_text (Replies order id replies) in
+        IfOk result (Adds AreReplies replies_words text words.now out.old.items out.new.items) }
 {
     out.extend_from_slice(b"< ")?;
     push_control(out, order, id)?;
-    push_replies(out, replies)
+    push_replies(out, words)
 }
 
 /// Appends a request for the status.
@@ -99,41 +106,33 @@ fn push_resend_row(out: &mut Vec<u8>, id: u16) -> Result<(), NoMemory>
 }
 
 /// Appends a sent control packet.
-fn push_sent(
-    alloc: Global,
-    out: &mut Vec<u8>,
-    item: &Caught,
-    packet: &Packet,
-) -> Result<(), NoMemory>
+fn push_sent(out: &mut Vec<u8>, item: &Caught, packet: &Packet) -> Result<(), NoMemory>
     requires of { IsOfPacket item.now packet.now }
     requires kind { packet.now.kind ≡ PacketKind.Control }
     requires sent { item.now.sent ≡ true }
     ensures { OnOk result (Appends item.now out.old.items out.new.items) }
 {
-    match read_requests(alloc, packet.body.as_slice()) {
-        Ok(requests) => push_requests_row(out, packet.order, packet.id, requests.as_slice()),
-        Err(BadWords::NoMemory) => Err(NoMemory),
-        Err(BadWords::At { place: _, why: _ }) => push_raw(out, item),
+    let start = out.len();
+    if push_requests_row(out, packet.order, packet.id, packet.body.as_slice())? {
+        return Ok(());
     }
+    out.truncate(start);
+    push_raw(out, item)
 }
 
 /// Appends a received control packet.
-fn push_received(
-    alloc: Global,
-    out: &mut Vec<u8>,
-    item: &Caught,
-    packet: &Packet,
-) -> Result<(), NoMemory>
+fn push_received(out: &mut Vec<u8>, item: &Caught, packet: &Packet) -> Result<(), NoMemory>
     requires of { IsOfPacket item.now packet.now }
     requires kind { packet.now.kind ≡ PacketKind.Control }
     requires received { item.now.sent ≡ false }
     ensures { OnOk result (Appends item.now out.old.items out.new.items) }
 {
-    match read_replies(alloc, packet.body.as_slice()) {
-        Ok(replies) => push_replies_row(out, packet.order, packet.id, replies.as_slice()),
-        Err(BadWords::NoMemory) => Err(NoMemory),
-        Err(BadWords::At { place: _, why: _ }) => push_raw(out, item),
+    let start = out.len();
+    if push_replies_row(out, packet.order, packet.id, packet.body.as_slice())? {
+        return Ok(());
     }
+    out.truncate(start);
+    push_raw(out, item)
 }
 
 /// Appends a sent status packet.
@@ -188,21 +187,16 @@ fn push_resend(out: &mut Vec<u8>, item: &Caught, packet: &Packet) -> Result<(), 
 }
 
 /// Appends a datagram that is a packet.
-fn push_packet(
-    alloc: Global,
-    out: &mut Vec<u8>,
-    item: &Caught,
-    packet: &Packet,
-) -> Result<(), NoMemory>
+fn push_packet(out: &mut Vec<u8>, item: &Caught, packet: &Packet) -> Result<(), NoMemory>
     requires { IsOfPacket item.now packet.now }
     ensures { OnOk result (Appends item.now out.old.items out.new.items) }
 {
     match packet.kind {
         PacketKind::Control => {
             if item.sent {
-                push_sent(alloc, out, item, packet)
+                push_sent(out, item, packet)
             } else {
-                push_received(alloc, out, item, packet)
+                push_received(out, item, packet)
             }
         }
         PacketKind::Status => {
@@ -221,7 +215,7 @@ fn push_datagram(alloc: Global, out: &mut Vec<u8>, item: &Caught) -> Result<(), 
     ensures { OnOk result (Appends item.now out.old.items out.new.items) }
 {
     match read_packet(alloc, item.bytes.as_slice()) {
-        Ok(packet) => push_packet(alloc, out, item, &packet),
+        Ok(packet) => push_packet(out, item, &packet),
         Err(fault) => {
             if fault == BadPacket::NoMemory {
                 return Err(NoMemory);

@@ -1,7 +1,9 @@
 //! Bytes as pairs of hexadecimal digits.
 
-ghost use Rattle.std.specs.Prelude.{◌≡◌, ◌<◌, ◌≤◌, ◌++◌, OnOk, IfOk, length};
+ghost use Rattle.std.specs.Prelude.{◌≡◌, ◌<◌, ◌≤◌, ◌+◌, ◌*◌, ◌++◌, OnOk, IfOk, length, codes};
+ghost use Rattle.std.specs.Vec.{vec_len, vec_capacity};
 ghost use Rattle.capture_reader.specs.CaptureText as spec;
+ghost use Rattle.capture_reader.specs.Rows.{word_text};
 ghost use Rattle.ipb_base.specs.Fronts.{Finds, all_of};
 ghost use Rattle.capture_reader.specs.Fronts.{Gives};
 ghost use Rattle.capture_reader.specs.Reading.{digit_of, pair, pair_at, bytes_at, bytes_read};
@@ -10,31 +12,68 @@ use crate::capture::Bytes;
 use crate::front::behind;
 use crate::refusal::Unread;
 use ipb_base::NoMemory;
+use memchr::memchr;
 use std::alloc::Global;
 
+/// The digits of the numbers below 16.
+const HEX_DIGITS: &[u8; 16] = b"0123456789abcdef";
+
 /// The digit of a number below 16, lower case.
-pub(crate) fn hex_digit(n: u8) -> u8
+fn hex_digit(n: u8) -> u8
     requires { n < 16 }
     ensures { result ≡ spec.hex_digit n }
 {
-    if n < 10 { b'0' + n } else { b'a' - 10 + n }
+    HEX_DIGITS[n as usize]
 }
 
-/// The two digits of a byte.
-pub(crate) fn byte_text(byte: u8) -> [u8; 2]
-    ensures { result ≡ spec.byte_text byte }
+/// A space, `0x` and the eight digits of a word.
+pub(crate) fn spaced_word(word: u32) -> [u8; 11]
+    ensures { result ≡ codes " " ++ word_text word }
 {
-    [hex_digit(byte / 16), hex_digit(byte % 16)]
+    let [a, b, c, d] = word.to_be_bytes();
+    [
+        b' ',
+        b'0',
+        b'x',
+        hex_digit(a / 16),
+        hex_digit(a % 16),
+        hex_digit(b / 16),
+        hex_digit(b % 16),
+        hex_digit(c / 16),
+        hex_digit(c % 16),
+        hex_digit(d / 16),
+        hex_digit(d % 16),
+    ]
 }
 
-/// Appends two digits for each byte.
-pub(crate) fn push_hex(out: &mut Vec<u8>, bytes: &[u8]) -> Result<(), NoMemory>
+/// Appends two digits for each byte. Room is taken first.
+fn push_hex(out: &mut Vec<u8>, bytes: &[u8]) -> Result<(), NoMemory>
     ensures { OnOk result (out.new.items ≡ out.old.items ++ spec.hex_text bytes.now) }
 {
-    for byte in bytes {
-        out.extend_from_slice(&byte_text(*byte))?;
-    }
+    out.reserve(2 * bytes.len())?;
+    put_hex(out, bytes);
     Ok(())
+}
+
+/// Appends two digits for each byte, in room that was taken before.
+fn put_hex(out: &mut Vec<u8>, bytes: &[u8])
+    requires { vec_len out.old + 2 * length bytes.now ≤ vec_capacity out.old }
+    ensures { out.new.items ≡ out.old.items ++ spec.hex_text bytes.now }
+{
+    for byte in bytes {
+        put_byte(out, *byte);
+    }
+}
+
+/// Appends the two digits of a byte, in room that was taken before.
+fn put_byte(out: &mut Vec<u8>, byte: u8)
+    requires { vec_len out.old + 2 ≤ vec_capacity out.old }
+    ensures items { out.new.items ≡ out.old.items ++ spec.byte_text byte }
+    ensures len { vec_len out.new ≡ vec_len out.old + 2 }
+    ensures capacity { vec_capacity out.new ≡ vec_capacity out.old }
+{
+    out.push_reserved(hex_digit(byte / 16));
+    out.push_reserved(hex_digit(byte % 16));
 }
 
 /// Appends two digits for each byte, or a hyphen where there is none.
@@ -54,16 +93,27 @@ pub(crate) struct FirstBytes<'a> {
     pub(crate) rest: &'a [u8],
 }
 
+/// For each byte its value as a lower-case digit, and 16 where it is none: digits of random bytes make no branch of a
+/// table.
+const DIGITS: &[u8; 256] = &[
+    16, 16, 16, 16, 16, 16, 16, 16, 16, 16, 16, 16, 16, 16, 16, 16, 16, 16, 16, 16, 16, 16, 16, 16,
+    16, 16, 16, 16, 16, 16, 16, 16, 16, 16, 16, 16, 16, 16, 16, 16, 16, 16, 16, 16, 16, 16, 16, 16,
+    0, 1, 2, 3, 4, 5, 6, 7, 8, 9, 16, 16, 16, 16, 16, 16, 16, 16, 16, 16, 16, 16, 16, 16, 16, 16,
+    16, 16, 16, 16, 16, 16, 16, 16, 16, 16, 16, 16, 16, 16, 16, 16, 16, 16, 16, 16, 16, 16, 16, 10,
+    11, 12, 13, 14, 15, 16, 16, 16, 16, 16, 16, 16, 16, 16, 16, 16, 16, 16, 16, 16, 16, 16, 16, 16,
+    16, 16, 16, 16, 16, 16, 16, 16, 16, 16, 16, 16, 16, 16, 16, 16, 16, 16, 16, 16, 16, 16, 16, 16,
+    16, 16, 16, 16, 16, 16, 16, 16, 16, 16, 16, 16, 16, 16, 16, 16, 16, 16, 16, 16, 16, 16, 16, 16,
+    16, 16, 16, 16, 16, 16, 16, 16, 16, 16, 16, 16, 16, 16, 16, 16, 16, 16, 16, 16, 16, 16, 16, 16,
+    16, 16, 16, 16, 16, 16, 16, 16, 16, 16, 16, 16, 16, 16, 16, 16, 16, 16, 16, 16, 16, 16, 16, 16,
+    16, 16, 16, 16, 16, 16, 16, 16, 16, 16, 16, 16, 16, 16, 16, 16, 16, 16, 16, 16, 16, 16, 16, 16,
+    16, 16, 16, 16, 16, 16, 16, 16, 16, 16, 16, 16, 16, 16,
+];
+
 /// The value of a lower-case digit; 16 for every other byte.
-#[tactic(auto, unfolding(crate::specs::Reading::digit_of))]
 fn digit_of(byte: u8) -> u8
     ensures { result ≡ digit_of byte }
 {
-    match byte {
-        b'0'..=b'9' => byte - b'0',
-        b'a'..=b'f' => byte - b'a' + 10,
-        _ => 16,
-    }
+    DIGITS[byte as usize]
 }
 
 /// The byte of two digits.
@@ -111,7 +161,7 @@ fn read_pairs<'a>(out: &mut Vec<u8>, text: &'a [u8]) -> Result<&'a [u8], NoMemor
 fn room_of(text: &[u8]) -> usize
     ensures { result ≤ length text.now }
 {
-    text.iter().position(|byte| *byte == b'\n').unwrap_or(0) / 2
+    memchr(b'\n', text).unwrap_or(0) / 2
 }
 
 /// Reads the bytes of a line up to its end.

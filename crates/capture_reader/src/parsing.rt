@@ -1,6 +1,6 @@
 //! Reading the lines of requests and replies, more leniently than they are written.
 
-ghost use Rattle.std.specs.Prelude.{◌≡◌, ◌<◌, ◌^◌, ◌++◌, ◌∷◌, length, IfOk, OnOk, IfSome, codes};
+ghost use Rattle.std.specs.Prelude.{◌≡◌, ◌<◌, ◌^◌, ◌++◌, ℕ, List, length, IfOk, OnOk, IfSome, codes};
 ghost use Rattle.transaction_codec.specs.Header.{header};
 ghost use Rattle.ipb_base.specs.Fronts as front;
 ghost use Rattle.ipb_base.specs.Fronts.{Finds, all_of};
@@ -12,19 +12,16 @@ use crate::front::behind;
 use crate::hex::first_pair;
 use crate::number::read_number;
 use crate::refusal::Unread;
-use ipb_base::{NoMemory, Words};
+use ipb_base::NoMemory;
 use packet_codec::Order;
-use std::alloc::Global;
 use transaction_codec::header;
 use transaction_codec::info_code::REQUEST;
 use transaction_codec::transaction_type::{READ, READ_PORT, RMW_BITS, RMW_SUM, WRITE, WRITE_PORT};
 
-/// The words of a line, and the text behind the line.
-#[derive(Drop)]
+/// The header of a line, and the text behind the line.
+#[derive(Clone, Copy)]
 pub(crate) struct FirstLine<'a> {
     pub(crate) header: u32,
-    /// The words behind the header.
-    pub(crate) words: Words,
     pub(crate) rest: &'a [u8],
 }
 
@@ -60,6 +57,15 @@ fn read_words<'a>(out: &mut Vec<u32>, text: &'a [u8]) -> Result<&'a [u8], NoMemo
         rest = more;
     }
     Ok(rest)
+}
+
+/// Reads the words at the front, which stand alone in `out` then, and answers the text behind them.
+fn read_words_anew<'a>(out: &mut Vec<u32>, text: &'a [u8]) -> Result<&'a [u8], NoMemory>
+    ensures words { OnOk result (out.new.items ≡ (all_of spec.word_at text.now).0) }
+    ensures rest { IfOk result (λ rest. rest.now ≡ (all_of spec.word_at text.now).1) }
+{
+    out.clear();
+    read_words(out, text)
 }
 
 /// Reads a space and a number.
@@ -131,19 +137,17 @@ fn read_asked<'a>(kind: u8, words: &[u32], text: &'a [u8]) -> Option<(u64, &'a [
     Some((1, text))
 }
 
-/// A line of words behind the header of these fields.
+/// A line behind whose header of these fields words stand.
 fn line_with<'a>(
     start: &Start<'_>,
     count: u64,
     code: u32,
-    words: Vec<u32>,
     text: &'a [u8],
 ) -> Result<FirstLine<'a>, Unread>
     requires tid { start.now.tid < 2 ^ 12 }
     requires kind { start.now.kind < 2 ^ 4 }
-    ensures { Gives line_read result
-        (spec.line_with start.now.tid count start.now.kind code words.items
-        (front.behind (codes "\n") text.now)) }
+    ensures { (words : List ℕ) → Gives (line_read words) result
+        (spec.line_with start.now.tid count start.now.kind code words (front.behind (codes "\n") text.now)) }
 {
     let Some(rest) = behind(b"\n", text) else {
         return Err(Unread::Other);
@@ -151,7 +155,6 @@ fn line_with<'a>(
     if count < 256 && code < 16 {
         Ok(FirstLine {
             header: header(start.tid, count as u8, start.kind, code as u8),
-            words: Words::from_vec(words),
             rest,
         })
     } else {
@@ -159,26 +162,25 @@ fn line_with<'a>(
     }
 }
 
-/// Reads the line of a request.
+/// Reads the line of a request. The words behind its header stand in `words` then.
 #[tactic(auto, unfolding(crate::specs::Parsing::request_line_at))]
-fn read_request_line(alloc: Global, text: &[u8]) -> Result<FirstLine<'_>, Unread>
-    ensures { Gives line_read result (spec.request_line_at text.now) }
+fn read_request_line<'a>(words: &mut Vec<u32>, text: &'a [u8]) -> Result<FirstLine<'a>, Unread>
+    ensures { Gives (line_read words.new.items) result (spec.request_line_at text.now) }
 {
     let Some(start) = read_start(text) else {
         return Err(Unread::Other);
     };
-    let mut words = Vec::new(alloc);
-    let rest = read_words(&mut words, start.rest)?;
+    let rest = read_words_anew(words, start.rest)?;
     let Some((count, rest)) = read_asked(start.kind, words.as_slice(), rest) else {
         return Err(Unread::Other);
     };
-    line_with(&start, count, u32::from(REQUEST), words, rest)
+    line_with(&start, count, u32::from(REQUEST), rest)
 }
 
-/// Reads the line of a reply.
+/// Reads the line of a reply. The words behind its header stand in `words` then.
 #[tactic(auto, unfolding(crate::specs::Parsing::reply_line_at))]
-fn read_reply_line(alloc: Global, text: &[u8]) -> Result<FirstLine<'_>, Unread>
-    ensures { Gives line_read result (spec.reply_line_at text.now) }
+fn read_reply_line<'a>(words: &mut Vec<u32>, text: &'a [u8]) -> Result<FirstLine<'a>, Unread>
+    ensures { Gives (line_read words.new.items) result (spec.reply_line_at text.now) }
 {
     let Some(start) = read_start(text) else {
         return Err(Unread::Other);
@@ -189,27 +191,30 @@ fn read_reply_line(alloc: Global, text: &[u8]) -> Result<FirstLine<'_>, Unread>
     let Some((count, rest)) = read_count(rest) else {
         return Err(Unread::Other);
     };
-    let mut words = Vec::new(alloc);
-    let rest = read_words(&mut words, rest)?;
-    line_with(&start, u64::from(count), code, words, rest)
+    let rest = read_words_anew(words, rest)?;
+    line_with(&start, u64::from(count), code, rest)
 }
 
-/// Reads the line of a request, or of a reply.
-fn read_line(alloc: Global, sent: bool, text: &[u8]) -> Result<FirstLine<'_>, Unread>
-    ensures { Gives line_read result (spec.line_of sent text.now) }
+/// Reads the line of a request, or of a reply. The words behind its header stand in `words` then.
+fn read_line<'a>(words: &mut Vec<u32>, sent: bool, text: &'a [u8]) -> Result<FirstLine<'a>, Unread>
+    ensures { Gives (line_read words.new.items) result (spec.line_of sent text.now) }
 {
     if sent {
-        read_request_line(alloc, text)
+        read_request_line(words, text)
     } else {
-        read_reply_line(alloc, text)
+        read_reply_line(words, text)
     }
 }
 
 /// Reads the line of a request, or of a reply; `None` where something else stands there.
-fn next_line(alloc: Global, sent: bool, text: &[u8]) -> Result<Option<FirstLine<'_>>, NoMemory>
-    ensures { IfOk result (λ found. Finds line_read found (line_at sent text.now)) }
+fn next_line<'a>(
+    words: &mut Vec<u32>,
+    sent: bool,
+    text: &'a [u8],
+) -> Result<Option<FirstLine<'a>>, NoMemory>
+    ensures { IfOk result (λ found. Finds (line_read words.new.items) found (line_at sent text.now)) }
 {
-    match read_line(alloc, sent, text) {
+    match read_line(words, sent, text) {
         Ok(first) => {
             if first.rest.len() < text.len() {
                 Ok(Some(first))
@@ -222,9 +227,10 @@ fn next_line(alloc: Global, sent: bool, text: &[u8]) -> Result<Option<FirstLine<
     }
 }
 
-/// Appends the words of the lines at the front, and answers the text behind them.
+/// Appends the words of the lines at the front, and answers the text behind them. Each line is read into `line`, in
+/// memory that all of them share.
 pub(crate) fn read_lines<'a>(
-    alloc: Global,
+    line: &mut Vec<u32>,
     sent: bool,
     out: &mut Vec<u32>,
     text: &'a [u8],
@@ -233,9 +239,9 @@ pub(crate) fn read_lines<'a>(
     ensures rest { IfOk result (λ rest. rest.now ≡ (all_of (line_at sent) text.now).1) }
 {
     let mut rest = text;
-    'lines: while let Some(first) = next_line(alloc, sent, rest)? {
+    'lines: while let Some(first) = next_line(line, sent, rest)? {
         out.push(first.header)?;
-        out.extend_from_slice(first.words.as_slice())?;
+        out.extend_from_slice(line.as_slice())?;
         rest = first.rest;
     }
     Ok(rest)

@@ -23,6 +23,13 @@ use ipb_base::NoMemory;
 use packet_codec::{Head, MAX_BODY_WORDS, Order, PacketKind, append_packet, header_word};
 use std::alloc::Global;
 
+/// The words of one packet, and those of one of its lines, in memory that all packets of a text share.
+#[derive(Drop)]
+struct Room {
+    words: Vec<u32>,
+    line: Vec<u32>,
+}
+
 /// Reads a number of 16 bits.
 fn read_id(text: &[u8]) -> Option<(u16, &[u8])>
     ensures { Finds (λ read. (read.0, read.1.now)) result (spec.id_at text.now) }
@@ -48,7 +55,12 @@ fn bytes_of(alloc: Global, head: Head, body: &[u32]) -> Result<Bytes, NoMemory>
 
 /// Reads a control packet, behind its direction and its kind.
 #[tactic(auto, unfolding(crate::specs::Parsing::control_at))]
-fn read_control(alloc: Global, sent: bool, text: &[u8]) -> Result<FirstBytes<'_>, Unread>
+fn read_control<'a>(
+    alloc: Global,
+    room: &mut Room,
+    sent: bool,
+    text: &'a [u8],
+) -> Result<FirstBytes<'a>, Unread>
     ensures { Gives bytes_read result (spec.control_at sent text.now) }
 {
     let Some((id, rest)) = read_id(text) else {
@@ -57,9 +69,9 @@ fn read_control(alloc: Global, sent: bool, text: &[u8]) -> Result<FirstBytes<'_>
     let Some((order, rest)) = read_order(rest) else {
         return Err(Unread::Other);
     };
-    let mut words = Vec::new(alloc);
-    let rest = read_lines(alloc, sent, &mut words, rest)?;
-    if words.len() > MAX_BODY_WORDS {
+    room.words.clear();
+    let rest = read_lines(&mut room.line, sent, &mut room.words, rest)?;
+    if room.words.len() > MAX_BODY_WORDS {
         return Err(Unread::Other);
     }
     let head = Head {
@@ -68,7 +80,7 @@ fn read_control(alloc: Global, sent: bool, text: &[u8]) -> Result<FirstBytes<'_>
         kind: PacketKind::Control,
     };
     Ok(FirstBytes {
-        bytes: bytes_of(alloc, head, words.as_slice())?,
+        bytes: bytes_of(alloc, head, room.words.as_slice())?,
         rest,
     })
 }
@@ -158,11 +170,16 @@ fn read_any_status(alloc: Global, text: &[u8]) -> Result<FirstBytes<'_>, Unread>
 
 /// Reads what a datagram says, behind its direction.
 #[tactic(auto, unfolding(crate::specs::Parsing::said_at))]
-fn read_said(alloc: Global, sent: bool, text: &[u8]) -> Result<FirstBytes<'_>, Unread>
+fn read_said<'a>(
+    alloc: Global,
+    room: &mut Room,
+    sent: bool,
+    text: &'a [u8],
+) -> Result<FirstBytes<'a>, Unread>
     ensures { Gives bytes_read result (spec.said_at sent text.now) }
 {
     if let Some(rest) = behind(b"control ", text) {
-        return read_control(alloc, sent, rest);
+        return read_control(alloc, room, sent, rest);
     }
     if let Some(rest) = behind(b"raw ", text) {
         return read_bytes(alloc, rest);
@@ -186,14 +203,18 @@ fn is_short(bytes: &[u8]) -> bool
 
 /// Reads the description of one datagram, and what stands behind it.
 #[tactic(auto, unfolding(crate::specs::Parsing::datagram_of))]
-fn read_datagram(alloc: Global, text: &[u8]) -> Result<FirstItem<'_>, Unread>
+fn read_datagram<'a>(
+    alloc: Global,
+    room: &mut Room,
+    text: &'a [u8],
+) -> Result<FirstItem<'a>, Unread>
     ensures item { IfOk result (λ first. IsItem first.item) }
     ensures read { Gives item_read result (spec.datagram_of text.now) }
 {
     let Some((sent, rest)) = read_direction(text) else {
         return Err(Unread::Other);
     };
-    let first = read_said(alloc, sent, rest)?;
+    let first = read_said(alloc, room, sent, rest)?;
     if !is_short(first.bytes.as_slice()) {
         return Err(Unread::Other);
     }
@@ -207,11 +228,15 @@ fn read_datagram(alloc: Global, text: &[u8]) -> Result<FirstItem<'_>, Unread>
 }
 
 /// Reads a datagram; `None` where something else stands there.
-fn next_datagram(alloc: Global, text: &[u8]) -> Result<Option<FirstItem<'_>>, NoMemory>
+fn next_datagram<'a>(
+    alloc: Global,
+    room: &mut Room,
+    text: &'a [u8],
+) -> Result<Option<FirstItem<'a>>, NoMemory>
     ensures item { IfOk result (λ found. IfSome found (λ first. IsItem first.item)) }
     ensures read { IfOk result (λ found. Finds item_read found (datagram_at text.now)) }
 {
-    match read_datagram(alloc, text) {
+    match read_datagram(alloc, room, text) {
         Ok(first) => {
             if first.rest.len() < text.len() {
                 Ok(Some(first))
@@ -230,8 +255,12 @@ fn read_datagrams(alloc: Global, text: &[u8]) -> Result<Vec<Caught>, NoMemory>
     ensures read { IfOk result (λ items. items.items ≡ (all_of datagram_at text.now).0) }
 {
     let mut items = Vec::new(alloc);
+    let mut room = Room {
+        words: Vec::new(alloc),
+        line: Vec::new(alloc),
+    };
     let mut rest = text;
-    'datagrams: while let Some(first) = next_datagram(alloc, rest)? {
+    'datagrams: while let Some(first) = next_datagram(alloc, &mut room, rest)? {
         items.push(first.item)?;
         rest = first.rest;
     }

@@ -1,4 +1,4 @@
-ghost use Rattle.std.specs.Prelude.{◌≡◌, OnOk, OnErr, option_copied};
+ghost use Rattle.std.specs.Prelude.{◌≡◌, IfOk, OnOk, OnErr, option_copied};
 ghost use Rattle.std.specs.FinMap as map;
 ghost use Rattle.node_tree.specs.Named.{named_entries};
 
@@ -50,13 +50,27 @@ impl<V: Drop> NameMap<V> {
         self.get(name).is_some()
     }
 
+    /// Keeps a value under a name, and answers the one of that name in whose place it stands.
+    pub(crate) fn replace(
+        &mut self,
+        alloc: Global,
+        name: &str,
+        value: V,
+    ) -> Result<Option<V>, NoMemory>
+        ensures was { IfOk result (λ was. was ≡ map.get self.old name.now) }
+        ensures ok { OnOk result (self.new ≡ map.insert self.old name.now value) }
+        ensures err { OnErr result (self.new ≡ self.old) }
+    {
+        let name = String::from_str(alloc, name)?;
+        Ok(self.by_name.insert(name, value)?)
+    }
+
     /// Keeps a value under a name, in the place of one of that name.
     pub(crate) fn insert(&mut self, alloc: Global, name: &str, value: V) -> Result<(), NoMemory>
         ensures ok { OnOk result (self.new ≡ map.insert self.old name.now value) }
         ensures err { OnErr result (self.new ≡ self.old) }
     {
-        let name = String::from_str(alloc, name)?;
-        self.by_name.insert(name, value)?;
+        self.replace(alloc, name, value)?;
         Ok(())
     }
 

@@ -1,7 +1,7 @@
 //! The walk through the nodes of a table and of its modules.
-ghost use Rattle.std.specs.Prelude.{◌≡◌, ◌≤◌, ◌-◌, ◌+◌, ◌++◌, ◌||◌, List, [], Ok, Err, OnOk, IfOk, IfErr, SomeIff, ◌<◌};
+ghost use Rattle.std.specs.Prelude.{◌≡◌, ◌≤◌, ◌-◌, ◌+◌, ◌++◌, ◌||◌, if◌then◌else◌, false, List, [], Ok, Err, OnOk, IfOk, IfErr, SomeIff, ◌<◌};
 ghost use Rattle.std.specs.Prelude.{◌^◌, string_bytes};
-ghost use Rattle.std.specs.FinMap.{contains_key};
+ghost use Rattle.std.specs.FinMap.{contains_key, insert};
 ghost use Rattle.address_table.specs.declared.nodes.Node.{Node as Nod, out-Node};
 ghost use Rattle.node_tree.specs.Limits.{most_ids};
 ghost use Rattle.node_tree.specs.Maps.{nodes_of as table_nodes};
@@ -160,15 +160,43 @@ impl Walker {
         if level.ids > MAX_IDS {
             return Err(fault_at(self.alloc, name, CompileWhy::TooDeep));
         }
-        if self.has_either(name, twin) {
+        let Some(register) = register(level.base, node, index) else {
+            return Err(fault_at(self.alloc, name, self.why_past_end(name, twin)));
+        };
+        if self.is_taken(name, twin, register)? {
             return Err(fault_at(self.alloc, name, CompileWhy::Duplicate));
         }
-        let Some(register) = register(level.base, node, index) else {
-            return Err(fault_at(self.alloc, name, CompileWhy::AddressPastEnd));
-        };
-        self.found.names.insert(self.alloc, name, register)?;
         self.found.count += 1;
         Ok(register.address)
+    }
+
+    /// Keeps a register under its name, and answers whether one of two names was there before. The name is looked for
+    /// where it is kept, and not before.
+    fn is_taken(&mut self, name: &str, twin: &str, register: Register) -> Result<bool, NoMemory>
+        ensures taken { let names = self.old.found.names in
+            IfOk result (λ taken. taken ≡ (contains_key names name.now || contains_key names twin.now)) }
+        ensures kept { IfOk result (λ taken.
+            taken ≡ false → self.new.found.names ≡ insert self.old.found.names name.now register) }
+        ensures count { self.new.found.count ≡ self.old.found.count }
+    {
+        if self.found.names.contains(twin) {
+            return Ok(true);
+        }
+        let was = self.found.names.replace(self.alloc, name, register)?;
+        Ok(was.is_some())
+    }
+
+    /// The rule that a node breaks whose register ends past the last address, by its names: another one comes first.
+    fn why_past_end(&self, name: &str, twin: &str) -> CompileWhy
+        ensures { let names = self.now.found.names in
+            result ≡ (if contains_key names name.now || contains_key names twin.now
+            then CompileWhy.Duplicate else CompileWhy.AddressPastEnd) }
+    {
+        if self.has_either(name, twin) {
+            CompileWhy::Duplicate
+        } else {
+            CompileWhy::AddressPastEnd
+        }
     }
 
     /// Whether one of two names is there already.

@@ -1,9 +1,11 @@
-use Rattle.std.proofs.Common.{◌≡◌, ◌++◌, drop}
-use Rattle.std.specs.List.{flat_map}
-use Rattle.capture_reader.specs.Rows as spec
+use Rattle.std.proofs.Common.{length}
+use Rattle.transaction_codec.specs.Reply.{reply_words, IsReply}
+use Rattle.capture_reader.specs.Rows.{reply_text}
+use Rattle.capture_reader.proofs.AddedLines.{IsWritten}
 use Rattle.capture_reader.proofs.texts.push_replies.Given as goal
 
--- the text so far, and what is left
-abbrev pub invariant-loop-reply : goal.invariant-loop-reply
-invariant-loop-reply l =
-    l.out.items ++ flat_map spec.reply_text (drop l.reply-index l.replies) ≡ l.fn.out.items ++ flat_map spec.reply_text l.replies
+abbrev pub invariant-loop-rest : goal.invariant-loop-rest
+invariant-loop-rest l = IsWritten reply_words IsReply reply_text l.words l.fn.out.items l.out.items l.rest
+
+abbrev pub decreases-loop-rest : goal.decreases-loop-rest
+decreases-loop-rest l = length l.rest

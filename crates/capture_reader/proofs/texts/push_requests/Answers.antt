@@ -1,13 +1,22 @@
-use Rattle.std.proofs.lemmas.List.{take_all}
-use Rattle.capture_reader.specs.Rows.{request_text}
-use Rattle.capture_reader.proofs.TextsSoFar.{text_more}
+use Rattle.std.proofs.Common.{arith}
+use Rattle.std.proofs.lemmas.List.{nil_from_length}
+use Rattle.std.proofs.lemmas.Bool.Decides.{nat_tests}
+use Rattle.transaction_codec.specs.First.{request_of}
+use Rattle.transaction_codec.proofs.Formats.{requests_format}
+use Rattle.capture_reader.proofs.AddedLines.{none_written, write_more, all_written, no_more_written}
 use Rattle.capture_reader.proofs.texts.push_requests.Goals as goal
 
-pub loop-request-preserved : goal.loop-request-preserved
-loop-request-preserved c =
-    rw (c.in_ok-push_request.ensures, c.loop-request.invariant, c.request-item.is)
-    (text_more request_text c.args.requests.now c.loop-request.request-index c.request-item.result
-    c.args.out.now.items c.loop-request-test.true)
+pub loop-rest-init : goal.loop-rest-init
+loop-rest-init c = none_written c.args.words.now c.args.out.now.items
+
+pub loop-rest-preserved : goal.loop-rest-preserved
+loop-rest-preserved c =
+    write_more _ _ (request_of c.in-Ok.first) c.loop-rest.invariant c.in-Ok.ensures.found.0 c.in-Ok.ensures.found.1
+    c.in_ok-push_request-in-Ok.ensures
+
+pub returns-in-Err : goal.returns-in-Err
+returns-in-Err c =
+    no_more_written requests_format c.loop-rest.invariant c.in-Err.field-0 (grind (arith, nat_tests)) c.in-Err.ensures.exact
 
 pub returns : goal.returns
-returns c = rw (take_all c.loop-request.request-index c.args.requests.now c.loop-request-test.false) at c.loop-request.invariant
+returns c = all_written c.loop-rest.invariant (nil_from_length _ (grind (arith, nat_tests)))

@@ -1,9 +1,11 @@
-use Rattle.std.proofs.Common.{◌≡◌, ◌++◌, take}
-use Rattle.std.specs.List.{flat_map}
-use Rattle.capture_reader.specs.Rows as spec
+use Rattle.std.proofs.Common.{length}
+use Rattle.transaction_codec.specs.Request.{request_words, IsRequest}
+use Rattle.capture_reader.specs.Rows.{request_text}
+use Rattle.capture_reader.proofs.AddedLines.{IsWritten}
 use Rattle.capture_reader.proofs.texts.push_requests.Given as goal
 
--- the text of the requests so far
-abbrev pub invariant-loop-request : goal.invariant-loop-request
-invariant-loop-request l =
-    l.out.items ≡ l.fn.out.items ++ flat_map spec.request_text (take l.request-index l.requests)
+abbrev pub invariant-loop-rest : goal.invariant-loop-rest
+invariant-loop-rest l = IsWritten request_words IsRequest request_text l.words l.fn.out.items l.out.items l.rest
+
+abbrev pub decreases-loop-rest : goal.decreases-loop-rest
+decreases-loop-rest l = length l.rest
