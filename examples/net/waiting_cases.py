@@ -72,6 +72,23 @@ def clients_of_a_run_at_once(peers: Peers) -> None:
     board.require_executed(2 * count)
 
 
+def a_dispatch_ends_before_the_next(peers: Peers) -> None:
+    """A client asks one board, dispatches, and asks another one: that hears of nothing while the first is waited for."""
+    wait = 1500
+    mute, other = boards_of(2)
+    mute.more["mute_after"] = 1
+    peers.start_boards([mute, other])
+    script = ["rmwsum b0:count 1", "dispatch", "rmwsum b1:count 1"]
+    process = peers.start_run(on_network([mute, other], [script], wait, rounds=1))
+    wait_for(lambda: mute.heard("executed") == 1, "the first board executed nothing")
+    time.sleep(wait / 1000)
+    early = other.heard("executed")
+    done = ended(process)
+    require(early == 0, "the second board was asked while the first was waited for")
+    require(done.status == 1 and " timeout after 1 rounds" in done.text, f"{done}")
+    other.require_executed(1)
+
+
 # ---- nobody sleeps on
 
 # how often some clients ask at once, each once the others are answered too, and for how many seconds at most
@@ -155,6 +172,7 @@ WAITS: dict[str, Callable[[Peers], None]] = {
     "serve an answer before the next board is waited for": answers_before_a_wait,
     "serve packets that are sent within a wait": packets_within_a_wait,
     "run of two clients at once, a board that answers two packets at once": clients_of_a_run_at_once,
+    "run asks a board once the dispatch before is over at another": a_dispatch_ends_before_the_next,
     "serve clients that ask together again and again": clients_together,
     "serve a link that fails while clients wait": link_that_fails,
     "run sends each packet once": each_packet_once,
