@@ -2,6 +2,7 @@
 use Rattle.std.proofs.Common.{◌≡◌, ℕ, ◌+◌, ◌*◌, ◌≤◌, List, [], ◌∷◌, ◌++◌, length, map, suc}
 use Rattle.std.proofs.Common.{Option, Some, None, refl, sym, ap, ◌∙◌, subst, arith, inl, inr, append_assoc, append-nil}
 use Rattle.std.proofs.Common.{length-append}
+use Rattle.std.proofs.lemmas.List.{length-map, map_push}
 use Rattle.std.specs.Prelude.{IfSome}
 use Rattle.std.specs.List.{AllByRecursion, slice_get}
 use Rattle.ipb_base.specs.Faults.{Rose}
@@ -24,7 +25,8 @@ use Rattle.hub_lane.specs.declared.greeting.Greeted.{Greeted}
 use Rattle.hub_lane.specs.declared.greeting.Greeted.TheVariants.{Ready, Silent, Down, NoMemory}
 use Rattle.hub_lane.specs.Greeting.{CanBegin, IfDown, IfReady, IfSilent, StaysFresh, link_of}
 use Rattle.hub_lane.specs.Lanes.{IsGreeted, new_lane}
-use Rattle.board_history.specs.Links.{IsBoardOf, IsUntouched, LinkReport, board_there}
+use Rattle.hub_lane.specs.Run.{AreVainRounds, IsGreetingCutOff}
+use Rattle.board_history.specs.Links.{IsBoardOf, IsUntouched, LinkReport, board_there, numbers_of}
 use Rattle.board_greeting.specs.Boards.{AreFreshLinks, AreReached, HasMemory, LeavesRoom, IsFreshAt, IsGreetedAs}
 use Rattle.board_greeting.specs.Boards.{IsReached, OfFirst, StandsAsTold}
 use Rattle.board_greeting.specs.Standings.{links_in, standing_of}
@@ -32,6 +34,7 @@ use Rattle.board_greeting.specs.declared.standing.Standing.{Standing}
 use Rattle.board_greeting.specs.declared.standing.Standing.TheVariants as standing
 use Rattle.board_greeting.specs.Reports.{shown_by}
 use Rattle.board_greeting.specs.Links.{AreMadeFor, link_specs}
+use Rattle.lane_record.specs.Lists.{CountsFrom}
 use Rattle.board_history.specs.Links.{CanBeMade}
 
 abbrev pub WordsLaw : Type 0
@@ -99,7 +102,7 @@ second_told P Q (Some t) is = is.1
 
 module _ {L : Type 0} (seen : Ghosts L) (settings : Limits) where
   told_as : (link : L) (board : Greeted L)
-      → IfReady board (λ lane. lane ≡ new_lane lane.link settings lane.status)
+      → IfReady board (λ lane. lane ≡ new_lane (seen.number lane.link) lane.link settings lane.status)
       → IfReady board (λ lane. IfSome (seen.telling lane.link) (IsGreeted settings lane.status))
       → IfSilent board (λ after rounds. (rounds ≡ settings.rounds)
       × (64 * settings.rounds ≤ 64 * seen.quiets after + seen.gots after))
@@ -107,12 +110,15 @@ module _ {L : Type 0} (seen : Ghosts L) (settings : Limits) where
       (λ _. (settings.rounds ≤ seen.quiets after) × (settings.rounds ≤ seen.held after)))
       → IfSilent board (λ after rounds. first_status (receives_in (seen.traffic after)) ≡ None)
       → IfDown board (λ after. first_status (receives_in (seen.traffic after)) ≡ None)
+      → IfSilent board (λ after rounds. AreVainRounds settings.rounds (seen.traffic after))
+      → IfDown board (λ after. IsGreetingCutOff settings.rounds (seen.traffic after))
       → IfDown board (λ after. Rose (seen.faults link) (seen.faults after))
       → IsUntouched (shown_by seen (link_of board))
       → IsGreetedAs settings board (shown_by seen (link_of board))
-  told_as link (Ready lane) ready told silent quiet untold none down untouched =
+  told_as link (Ready lane) ready told silent quiet untold none vain cut_off down untouched =
       record { opened' = ready; greeted = told }
-  told_as link (Silent after rounds) ready told silent quiet untold none down untouched = record {
+  told_as link (Silent after rounds) ready told silent quiet untold none vain cut_off down untouched = record {
+    asked = vain;
     untold = untold;
     waited = silent.1;
     quiet =
@@ -122,13 +128,13 @@ module _ {L : Type 0} (seen : Ghosts L) (settings : Limits) where
         quiet;
     untouched = untouched;
   }
-  told_as link (Down after) ready told silent quiet untold none down untouched =
-      record { untold = none; failed = omega (arith, down); untouched = untouched }
-  told_as link (NoMemory after) ready told silent quiet untold none down untouched = tt
+  told_as link (Down after) ready told silent quiet untold none vain cut_off down untouched =
+      record { asked = cut_off; untold = none; failed = omega (arith, down); untouched = untouched }
+  told_as link (NoMemory after) ready told silent quiet untold none vain cut_off down untouched = tt
 
   pub is_reached : (spec : BoardSpec) (link : L) (board : Greeted L) → seen.telling link ≡ telling_for spec.link
       → IfTelling (seen.telling link) (seen.telling (link_of board)) (StaysFresh settings)
-      → IfReady board (λ lane. lane ≡ new_lane lane.link settings lane.status)
+      → IfReady board (λ lane. lane ≡ new_lane (seen.number lane.link) lane.link settings lane.status)
       → IfReady board (λ lane. IfSome (seen.telling lane.link) (IsGreeted settings lane.status))
       → IfSilent board (λ after rounds. (rounds ≡ settings.rounds)
       × (64 * settings.rounds ≤ 64 * seen.quiets after + seen.gots after))
@@ -136,9 +142,11 @@ module _ {L : Type 0} (seen : Ghosts L) (settings : Limits) where
       (λ _. (settings.rounds ≤ seen.quiets after) × (settings.rounds ≤ seen.held after)))
       → IfSilent board (λ after rounds. first_status (receives_in (seen.traffic after)) ≡ None)
       → IfDown board (λ after. first_status (receives_in (seen.traffic after)) ≡ None)
+      → IfSilent board (λ after rounds. AreVainRounds settings.rounds (seen.traffic after))
+      → IfDown board (λ after. IsGreetingCutOff settings.rounds (seen.traffic after))
       → IfDown board (λ after. Rose (seen.faults link) (seen.faults after))
       → IsReached settings spec board (shown_by seen (link_of board))
-  is_reached spec link board made fresh ready told silent quiet untold none down =
+  is_reached spec link board made fresh ready told silent quiet untold none vain cut_off down =
       let call = subst (λ (t : Option Telling). IfTelling t (seen.telling (link_of board)) (StaysFresh settings)) made
       fresh in
       let untouched = untouched_there settings spec.link (seen.telling (link_of board)) call in
@@ -148,7 +156,7 @@ module _ {L : Type 0} (seen : Ghosts L) (settings : Limits) where
           untouched = untouched;
           begins = begins_still settings (telling_for spec.link) (seen.telling (link_of board)) call;
         };
-        as_told = told_as link board ready told silent quiet untold none down untouched;
+        as_told = told_as link board ready told silent quiet untold none vain cut_off down untouched;
       }
 
 -- ---- links given back
@@ -236,9 +244,14 @@ fresh_links shows settings (s ∷ specs) (standing.Down link ∷ boards) are =
 
 -- ---- what links were made of
 
-pub none_made : (boards : List BoardSpec) (before : List LinkSpec) → AreMadeFor boards 0 before before
-none_made boards before =
-    record { specs = []; grown = sym (append-nil before); many = refl; first = (link_specs boards, refl) }
+pub none_made : (boards : List BoardSpec) (before : List LinkSpec) → AreMadeFor boards [] before before
+none_made boards before = record {
+  specs = [];
+  grown = sym (append-nil before);
+  many = refl;
+  first = (link_specs boards, refl);
+  in_order = tt;
+}
 
 first_more : (boards : List BoardSpec) (front : List LinkSpec) (board : BoardSpec)
     → slice_get boards (length front) ≡ Some board → IsPrefix front (link_specs boards)
@@ -254,28 +267,89 @@ first_more (b ∷ boards) (s ∷ front) board at is =
     let more = first_more boards front board at (is.0, tail) in
     (more.0, ap (λ (x : LinkSpec). x ∷ link_specs boards) head ∙ ap (λ (l : List LinkSpec). s ∷ l) more.1)
 
-pub made_more : (boards : List BoardSpec) (count : ℕ) (board : BoardSpec) (before old new : List LinkSpec)
-    → slice_get boards count ≡ Some board → AreMadeFor boards count before old → new ≡ old ++ board.link ∷ []
-    → AreMadeFor boards (count + 1) before new
-made_more boards count board before old new at are one = record {
-  specs = are.specs ++ board.link ∷ [];
-  grown = one ∙ (ap (λ (l : List LinkSpec). l ++ board.link ∷ []) are.grown
-      ∙ append_assoc before are.specs (board.link ∷ []));
-  many = length-append are.specs (board.link ∷ []) ∙ ap (λ (n : ℕ). n + 1) are.many;
-  first = first_more boards are.specs board (ap (slice_get boards) are.many ∙ at) are.first;
-}
+-- one more number behind those that count up
+counts_more : (k : ℕ) (ns : List ℕ) (n : ℕ) → CountsFrom k ns → n ≡ k + length ns → CountsFrom k (ns ++ n ∷ [])
+counts_more k [] n are next = (omega (arith, next), tt)
+counts_more k (m ∷ ns) n are next = (are.0, counts_more (k + 1) ns n are.1 (omega (arith, next)))
 
-pub one_made : (boards : List BoardSpec) (board : BoardSpec) (before new : List LinkSpec) → boards ≡ board ∷ []
-    → new ≡ before ++ board.link ∷ [] → AreMadeFor boards 1 before new
-one_made boards board before new same one =
-    made_more boards 0 board before before new (ap (λ (bs : List BoardSpec). slice_get bs 0) same)
-    (none_made boards before) one
+made_so_many : (boards : List BoardSpec) (links : List LinkReport) (before old : List LinkSpec)
+    → AreMadeFor boards links before old → length old ≡ length before + length links
+made_so_many boards links before old are =
+    ap (λ (l : List LinkSpec). length l) are.grown
+    ∙ (length-append before are.specs ∙ ap (λ (n : ℕ). length before + n) are.many)
 
-pub made_still : (boards : List BoardSpec) (count count_now : ℕ) (before old new : List LinkSpec)
-    → AreMadeFor boards count before old → count_now ≡ count → new ≡ old → AreMadeFor boards count_now before new
-made_still boards count count_now before old new are same_count same =
-    subst (λ (n : ℕ). AreMadeFor boards n before new) (sym same_count)
-    (subst (AreMadeFor boards count before) (sym same) are)
+-- The next link was made after all those before.
+pub made_more : (boards : List BoardSpec) (links : List LinkReport) (board : BoardSpec) (link : LinkReport)
+    (before old new : List LinkSpec) → slice_get boards (length links) ≡ Some board → AreMadeFor boards links before old
+    → link.number ≡ length old → new ≡ old ++ board.link ∷ [] → AreMadeFor boards (links ++ link ∷ []) before new
+made_more boards links board link before old new at are next one =
+    let numbers = numbers_of links in
+    let many = made_so_many boards links before old are in
+    let long : length numbers ≡ length links = length-map links (λ (l : LinkReport). l.number) in
+    record {
+      specs = are.specs ++ board.link ∷ [];
+      grown = one ∙ (ap (λ (l : List LinkSpec). l ++ board.link ∷ []) are.grown
+          ∙ append_assoc before are.specs (board.link ∷ []));
+      many = length-append are.specs (board.link ∷ []) ∙ (ap (λ (n : ℕ). n + 1) are.many
+          ∙ sym (length-append links (link ∷ [])));
+      first = first_more boards are.specs board (ap (slice_get boards) are.many ∙ at) are.first;
+      in_order = subst (CountsFrom (length before)) (sym (map_push (λ (l : LinkReport). l.number) links link))
+          (counts_more (length before) numbers link.number are.in_order (omega (arith, next, many, long)));
+    }
+
+pub one_made : (boards : List BoardSpec) (board : BoardSpec) (link : LinkReport) (before new : List LinkSpec)
+    → boards ≡ board ∷ [] → link.number ≡ length before → new ≡ before ++ board.link ∷ []
+    → AreMadeFor boards (link ∷ []) before new
+one_made boards board link before new same next one =
+    made_more boards [] board link before before new (ap (λ (bs : List BoardSpec). slice_get bs 0) same)
+    (none_made boards before) next one
+
+-- the links may have carried more since then
+pub made_still : (boards : List BoardSpec) (links links_now : List LinkReport) (before old new : List LinkSpec)
+    → AreMadeFor boards links before old → numbers_of links_now ≡ numbers_of links → new ≡ old
+    → AreMadeFor boards links_now before new
+made_still boards links links_now before old new are same_numbers same =
+    let number : LinkReport → ℕ = λ l. l.number in
+    let long : length links_now ≡ length links =
+    sym (length-map links_now number) ∙ (ap (λ (ns : List ℕ). length ns) same_numbers ∙ length-map links number) in
+    record {
+      specs = are.specs;
+      grown = same ∙ are.grown;
+      many = are.many ∙ sym long;
+      first = are.first;
+      in_order = subst (CountsFrom (length before)) (sym same_numbers) are.in_order;
+    }
+
+-- the link of one more board that was greeted
+links_more : {L : Type 0} (boards : List (Standing L)) (board : Greeted L)
+    → links_in (boards ++ standing_of board ∷ []) ≡ links_in boards ++ link_of board ∷ []
+links_more [] (Ready lane) = refl
+links_more [] (Silent link rounds) = refl
+links_more [] (Down link) = refl
+links_more [] (NoMemory link) = refl
+links_more (standing.Live lane ∷ boards) board = ap (λ (ls : List _). lane.link ∷ ls) (links_more boards board)
+links_more (standing.AtHub ∷ boards) board = links_more boards board
+links_more (standing.Silent link ∷ boards) board = ap (λ (ls : List _). link ∷ ls) (links_more boards board)
+links_more (standing.Down link ∷ boards) board = ap (λ (ls : List _). link ∷ ls) (links_more boards board)
+
+pub greeted_more : {L : Type 0} (seen : Ghosts L) (settings : Limits) (specs : List BoardSpec)
+    (boards now : List (Standing L)) (spec : BoardSpec) (board : Greeted L) (before old new : List LinkSpec)
+    → now ≡ boards ++ standing_of board ∷ [] → slice_get specs (length boards) ≡ Some spec
+    → AreReached (shown_by seen) settings specs boards
+    → AreMadeFor specs (map (shown_by seen) (links_in boards)) before old
+    → seen.number (link_of board) ≡ length old → new ≡ old ++ spec.link ∷ []
+    → AreMadeFor specs (map (shown_by seen) (links_in now)) before new
+greeted_more {L} seen settings specs boards now spec board before old new pushed there reached are next one =
+    let shows = shown_by seen in
+    let links = links_in boards in
+    let all = fresh_links shows settings specs boards (reached_fresh shows settings specs boards reached) in
+    let at : slice_get specs (length (map shows links)) ≡ Some spec =
+    ap (slice_get specs) (length-map links shows ∙ all.1) ∙ there in
+    let grown : map shows (links_in now) ≡ map shows links ++ shows (link_of board) ∷ [] =
+    ap (λ (bs : List (Standing L)). map shows (links_in bs)) pushed
+    ∙ (ap (map shows) (links_more boards board) ∙ map_push shows links (link_of board)) in
+    subst (λ (ls : List LinkReport). AreMadeFor specs ls before new) (sym grown)
+    (made_more specs (map shows links) spec (shows (link_of board)) before old new at are next one)
 
 pub one_more_made : (old new : List LinkSpec) (spec : LinkSpec) → new ≡ old ++ spec ∷ []
     → length new ≡ length old + 1

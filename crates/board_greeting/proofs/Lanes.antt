@@ -14,6 +14,7 @@ use Rattle.world_model.specs.Settings.{Limits}
 use Rattle.board_specs.specs.declared.spec.BoardSpec.{BoardSpec}
 use Rattle.board_specs.specs.declared.spec.LinkSpec.{LinkSpec}
 use Rattle.board_specs.specs.declared.spec.LinkSpec.TheVariants.{Sim, Udp}
+use Rattle.reliable_engine.specs.MachineRuns.{RunEvent}
 use Rattle.lane_record.specs.declared.outcome.Outcome.{Outcome}
 use Rattle.lane_record.specs.declared.item.Item.{Item}
 use Rattle.lane_record.specs.Bounds.{HasReached}
@@ -24,6 +25,7 @@ use Rattle.board_history.specs.LinkRuns.{TellsPayload}
 use Rattle.board_history.specs.Runs.{opens_with}
 use Rattle.board_greeting.specs.Reports.{OpenedWith}
 use Rattle.hub_lane.specs.Heard.{HasHeard, HasListened}
+use Rattle.hub_lane.specs.Run.{HasRun}
 use Rattle.hub_lane.specs.Lanes.{BoardStatus, HasToldStatus, IsGreeted, IsLane, LaneState, opening_of}
 use Rattle.hub_lane.specs.declared.greeting.Greeted.TheVariants.{Ready}
 use Rattle.board_greeting.specs.Boards.{AreReached, HasNoEntry, IsEndedLane, IsKnownAs, IsLaneTo, IsReached}
@@ -121,10 +123,12 @@ opened_so (Udp address port wait) (Some n) is = absurd is
 abbrev pub SoundLaw : Type 0
 SoundLaw = (settings : Limits) (status : BoardStatus) (hub : Hub) (items : List Item)
     (outcomes : List (Option Outcome)) (lates : List (Option (List ℕ))) (give_ups : ℕ) (down spent : Bool)
-    (link : LinkReport) (opening : CellMap)
+    (run : List RunEvent) (link : LinkReport) (opening : CellMap)
     → IsLane settings status hub items outcomes lates give_ups down spent link.telling link.faults link.quiets
     → IfSome link.telling (λ _. HasReached (settings.rounds * give_ups) link.held) → HasHeard outcomes link.gots
-    → HasListened status hub outcomes lates give_ups (receives_in link.traffic) → IfSome link.telling (OpenedWith opening)
+    → HasListened status hub outcomes lates give_ups (receives_in link.traffic)
+    → HasRun settings status hub items outcomes lates down spent run link.traffic
+    → IfSome link.telling (OpenedWith opening)
     → IsSoundLane settings opening (payload_of status.mtu) link items outcomes lates give_ups
 
 pub at_end : {L : Type 0} → SoundLaw → (settings : Limits) (spec : BoardSpec) (lane : LaneState L)
@@ -134,8 +138,9 @@ pub at_end : {L : Type 0} → SoundLaw → (settings : Limits) (spec : BoardSpec
     → IfSome link.telling (λ _. HasReached (lane.settings.rounds * lane.give_ups) link.held)
     → HasHeard lane.outcomes link.gots
     → HasListened lane.status lane.hub lane.outcomes lane.lates lane.give_ups (receives_in link.traffic)
-    → IsEndedLane settings spec lane link
-at_end {L} law settings spec lane link to is paid heard listened =
+    → HasRun lane.settings lane.status lane.hub lane.items lane.outcomes lane.lates lane.down lane.spent lane.run
+    link.traffic → IsEndedLane settings spec lane link
+at_end {L} law settings spec lane link to is paid heard listened ran =
     let here = board_known lane.status spec.link link.telling to.board' is.told in
     record {
       board' = here;
@@ -144,7 +149,8 @@ at_end {L} law settings spec lane link to is paid heard listened =
           IsSoundLane s (opens_with spec.link) (payload_of lane.status.mtu) link lane.items lane.outcomes lane.lates
           lane.give_ups)
           to.settings' (law lane.settings lane.status lane.hub lane.items lane.outcomes lane.lates lane.give_ups
-          lane.down lane.spent link (opens_with spec.link) is paid heard listened (opened_so spec.link link.telling here));
+          lane.down lane.spent lane.run link (opens_with spec.link) is paid heard listened ran
+          (opened_so spec.link link.telling here));
     }
 
 -- ---- a lane that came back

@@ -2,3 +2,4 @@ pub mod Boards
 pub mod Standings
 pub mod Lanes
 mod Sound
+pub mod Numbers

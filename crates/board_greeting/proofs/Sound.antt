@@ -16,6 +16,7 @@ use Rattle.world_model.specs.Hub.{Hub}
 use Rattle.world_model.specs.Settings.{Limits}
 use Rattle.links.specs.Receives.{IsReplyAmong, first_status, quiets_in, receives_in, since_status}
 use Rattle.links.specs.Telling.{Telling}
+use Rattle.reliable_engine.specs.MachineRuns.{RunEvent}
 use Rattle.lane_record.specs.declared.outcome.Outcome.{Outcome}
 use Rattle.lane_record.specs.declared.outcome.Outcome.TheVariants.{Replied, TimedOut, Unsent, LinkLost}
 use Rattle.lane_record.specs.declared.item.Item.{Item}
@@ -26,6 +27,7 @@ use Rattle.lane_record.specs.Outcomes.{AreSettled, is_replied}
 use Rattle.hub_lane.specs.Calls as lane
 use Rattle.hub_lane.specs.Heard.{HasHeard, HasListened, HasWaitedIn, told_by}
 use Rattle.hub_lane.specs.Lanes.{BoardStatus, IsLane}
+use Rattle.hub_lane.specs.Run.{HasRun}
 use Rattle.hub_lane.specs.Standing.{IsStanding}
 use Rattle.hub_lane.specs.Truth.{AreRightReplies, HasEachLate, IsTrueTo}
 use Rattle.board_history.specs.Parts.{IsReplyOf}
@@ -160,13 +162,15 @@ brought link status place words told among = record {
 
 pub sound_lane : TrueLaw → EachLateLaw → (settings : Limits) (status : BoardStatus) (hub : Hub) (items : List Item)
     (outcomes : List (Option Outcome)) (lates : List (Option (List ℕ))) (give_ups : ℕ) (down spent : Bool)
-    (link : LinkReport) (opening : CellMap)
+    (run : List RunEvent) (link : LinkReport) (opening : CellMap)
     → IsLane settings status hub items outcomes lates give_ups down spent link.telling link.faults link.quiets
     → IfSome link.telling (λ _. HasReached (settings.rounds * give_ups) link.held) → HasHeard outcomes link.gots
-    → HasListened status hub outcomes lates give_ups (receives_in link.traffic) → IfSome link.telling (OpenedWith opening)
+    → HasListened status hub outcomes lates give_ups (receives_in link.traffic)
+    → HasRun settings status hub items outcomes lates down spent run link.traffic
+    → IfSome link.telling (OpenedWith opening)
     → IsSoundLane settings opening (payload_of status.mtu) link items outcomes lates give_ups
-sound_lane law each settings status hub items outcomes lates give_ups down spent link opening is paid heard listened
-    opened = record {
+sound_lane law each settings status hub items outcomes lates give_ups down spent run link opening is paid heard listened
+    ran opened = record {
       greeted = record {
         mtu = status.mtu;
         buffers = status.buffers;
@@ -197,4 +201,16 @@ sound_lane law each settings status hub items outcomes lates give_ups down spent
       exactly = late_as_handed law each settings status hub items outcomes lates give_ups down spent
           link.telling link.faults link.quiets is;
       held = paid;
+      ran = record {
+        status = status;
+        packets = refl;
+        told = listened.greeting;
+        hub = hub;
+        run = run;
+        down = down;
+        spent = spent;
+        failed = is.fault;
+        agrees = is.agrees;
+        has_run = ran;
+      };
     }

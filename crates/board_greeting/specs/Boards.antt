@@ -24,10 +24,10 @@ use Rattle.board_history.specs.Lanes.{IsSoundLane}
 use Rattle.board_history.specs.LinkRuns.{IsDownRun, IsSilentRun, TellsPayload}
 use Rattle.board_history.specs.Runs.{opens_with}
 
--- a lane before its first entry, over a link that tells this
-pub record IsReadyLane {L : Type 0} (settings : Limits) (lane : LaneState L) (telling : Option Telling) : Type 0 where
-  pub opened' : lane ≡ new_lane lane.link settings lane.status
-  pub greeted : IfSome telling (IsGreeted settings lane.status)
+-- a lane before its first entry, over a link that shows this
+pub record IsReadyLane {L : Type 0} (settings : Limits) (lane : LaneState L) (shown : LinkReport) : Type 0 where
+  pub opened' : lane ≡ new_lane shown.number lane.link settings lane.status
+  pub greeted : IfSome shown.telling (IsGreeted settings lane.status)
 
 -- not that of a live board
 abbrev pub IsIdle : Greeting → Type 0
@@ -37,9 +37,9 @@ IsIdle greeting.Down = Unit {0}
 
 -- what a greeting came to, over a link that shows this
 abbrev pub IsGreetedAs : {L : Type 0} → Limits → Greeted L → LinkReport → Type 0
-IsGreetedAs settings (Ready lane) shown = IsReadyLane settings lane shown.telling
+IsGreetedAs settings (Ready lane) shown = IsReadyLane settings lane shown
 IsGreetedAs settings (Silent link rounds) shown = IsSilentRun settings shown
-IsGreetedAs settings (Down link) shown = IsDownRun shown
+IsGreetedAs settings (Down link) shown = IsDownRun settings shown
 IsGreetedAs settings (NoMemory link) shown = Unit {0}
 
 -- The link is to the board of this document, which was asked for nothing but its status: it executed nothing, and where
@@ -59,7 +59,7 @@ pub record IsReached {L : Type 0} (settings : Limits) (spec : BoardSpec) (greete
 abbrev pub IsIdleAs : Limits → Greeting → LinkReport → Type 0
 IsIdleAs settings (greeting.Live payload) shown = ⊥
 IsIdleAs settings greeting.Silent shown = IsSilentRun settings shown
-IsIdleAs settings greeting.Down shown = IsDownRun shown
+IsIdleAs settings greeting.Down shown = IsDownRun settings shown
 
 pub record IsIdleBoard (settings : Limits) (spec : BoardSpec) (told : Greeting) (shown : LinkReport) : Type 0 where
   pub fresh : IsFreshLink settings spec shown
@@ -127,7 +127,7 @@ pub record IsLaneTo {L : Type 0} (settings : Limits) (spec : BoardSpec) (telling
 
 -- what the record of a lane tells of its board
 abbrev pub head_shown : {L : Type 0} → (L → Option Telling) → LaneState L → Head
-head_shown tells lane = head_of lane.settings lane.status (tells lane.link)
+head_shown tells lane = head_of lane.number lane.settings lane.status (tells lane.link)
 
 -- a lane that nobody asked anything of
 abbrev pub HasNoEntry : {L : Type 0} → LaneState L → Type 0

@@ -5,7 +5,7 @@ use Rattle.links.specs.Telling.{Telling}
 use Rattle.links.specs.declared.link.Link.{Ghosts}
 use Rattle.board_history.specs.Links.{LinkReport}
 
--- what a link shows, by what contracts see of it: its four counts, its traffic, and what it tells
+-- what a link shows, by what contracts see of it: its four counts, its traffic, its number, and what it tells
 abbrev pub shown_by : {L : Type 0} → Ghosts L → L → LinkReport
 shown_by seen link = record {
   faults = seen.faults link;
@@ -13,6 +13,7 @@ shown_by seen link = record {
   gots = seen.gots link;
   held = seen.held link;
   traffic = seen.traffic link;
+  number = seen.number link;
   telling = seen.telling link;
 }
 

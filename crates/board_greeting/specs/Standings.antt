@@ -38,6 +38,17 @@ abbrev pub links_in : {L : Type 0} → List (Standing L) → List L
 links_in [] = []
 links_in (one ∷ boards) = link_in one ++ links_in boards
 
+-- the number of that link among those of its rack, as the lane has it where there is one
+abbrev pub number_in : {L : Type 0} → (L → ℕ) → Standing L → List ℕ
+number_in number (Live lane) = lane.number ∷ []
+number_in number AtHub = []
+number_in number (Silent link) = number link ∷ []
+number_in number (Down link) = number link ∷ []
+
+abbrev pub numbers_in : {L : Type 0} → (L → ℕ) → List (Standing L) → List ℕ
+numbers_in number [] = []
+numbers_in number (one ∷ boards) = number_in number one ++ numbers_in number boards
+
 -- ---- lanes at a hub
 
 abbrev pub is_at_hub : {L : Type 0} → Standing L → Bool

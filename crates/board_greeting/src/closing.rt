@@ -13,6 +13,7 @@ use links::Link;
 /// Ends a lane: its link. What the lane kept, and what the link shows, is all that the history of its board rests on.
 pub fn close_lane<L: Link>(lane: Lane<L>) -> L
     ensures link { result ≡ lane.link }
+    ensures number { L.number result ≡ lane.number }
     ensures ended { (settings : Limits) (spec : BoardSpec) → IsLaneTo settings spec (L.telling lane.link) lane
         → IsEndedLane settings spec lane (shown_by L.Link result) }
 {
@@ -21,5 +22,6 @@ pub fn close_lane<L: Link>(lane: Lane<L>) -> L
     lane.has_paid();
     lane.has_heard();
     lane.has_listened();
+    lane.has_run();
     lane.close()
 }

@@ -58,6 +58,7 @@ fn greet_board<R: Rack>(
     ensures faults { RisesExactlyIf (result ≡ Err RackFault.Failed) (R.faults rack.old) (R.faults rack.new) }
     ensures kept { R.kept rack.new ≡ R.kept rack.old }
     ensures made { R.made rack.new ≡ made_after result spec.now.link (R.made rack.old) }
+    ensures number { IfOk result (λ board. R.L.number (link_of board) ≡ length (R.made rack.old)) }
     ensures within { length (R.kept rack.old) ≤ length (R.made rack.old) }
 {
     words_stay_words();
@@ -90,7 +91,8 @@ fn greet_into<R: Rack>(
     ensures all { OnOk result (length boards.new.items ≡ length specs.now) }
     ensures faults { RisesExactlyIf (result ≡ Err RackFault.Failed) (R.faults rack.old) (R.faults rack.new) }
     ensures kept { R.kept rack.new ≡ R.kept rack.old }
-    ensures made { AreMadeFor specs.now (length boards.new.items) (R.made rack.old) (R.made rack.new) }
+    ensures made { AreMadeFor specs.now (map (shown_by R.L.Link) (links_in boards.new.items)) (R.made rack.old)
+        (R.made rack.new) }
     ensures room { HasRoom R.Rack rack.new (length boards.new.items) }
 {
     for spec in specs {
@@ -116,11 +118,12 @@ pub fn greet_boards<R: Rack>(
     ensures reached { IfOk result (λ boards. AreReached (shown_by R.L.Link) settings specs.now boards.items) }
     ensures all { IfOk result (λ boards. length boards.items ≡ length specs.now) }
     ensures kept { OnOk result (R.kept rack.new ≡ R.kept rack.old) }
-    ensures made { OnOk result (AreMadeFor specs.now (length specs.now) (R.made rack.old) (R.made rack.new)) }
+    ensures made { IfOk result (λ boards. AreMadeFor specs.now (map (shown_by R.L.Link) (links_in boards.items))
+        (R.made rack.old) (R.made rack.new)) }
     ensures room { OnOk result (HasRoom R.Rack rack.new (length specs.now)) }
     ensures left { OnErr result (Keeps R.Rack R.L.Link rack.old rack.new
         (λ links. AreFreshLinks settings specs.now links
-        × AreMadeFor specs.now (length links) (R.made rack.old) (R.made rack.new))) }
+        × AreMadeFor specs.now links (R.made rack.old) (R.made rack.new))) }
     ensures faults { RisesExactlyIf (result ≡ Err RackFault.Failed) (R.faults rack.old) (R.faults rack.new) }
 {
     let Ok(mut boards) = Vec::with_capacity(alloc, specs.len()) else {

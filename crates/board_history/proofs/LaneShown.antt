@@ -275,7 +275,7 @@ module _ (standing : Standing) where
       let held = if_told (settings.rounds ≤ link.held) link.telling calm.there calm.tells silent.held in
       absurd (omega (arith, some, held, calm.held'))
   calm_run settings spec board scripts run link Down greeted some calm is =
-      let down : IsDownRun link = subst (IsAsTold settings spec run link) greeted is.as_told in
+      let down : IsDownRun settings link = subst (IsAsTold settings spec run link) greeted is.as_told in
       absurd (omega (arith, down.failed, calm.faults'))
 
   pub whole_runs : (settings : Limits) (board : ℕ) (specs : List BoardSpec) (scripts : List (List Step))

@@ -1,11 +1,12 @@
 -- What came late for the bodies of clients, by what came late at the places of their lane.
 use Rattle.std.proofs.Common.{◌≡◌, ℕ, zero, suc, ◌≤◌, true, false, cond, List, [], ◌∷◌, drop, map}
 use Rattle.std.proofs.Common.{Option, Some, None, get_or, refl, sym, ap, ◌∙◌, subst, inl, inr}
-use Rattle.std.specs.Prelude.{is_some, IfSome}
+use Rattle.std.specs.Prelude.{is_some}
 use Rattle.std.specs.List.{AllByRecursion, list_any, slice_get}
 use Rattle.std.proofs.lemmas.Bool.{cases_Bool}
 use Rattle.std.proofs.lemmas.Option.{same_Some}
 use Rattle.links.specs.Telling.{Telling}
+use Rattle.world_model.specs.Hub.{Hub}
 use Rattle.world_model.specs.Places.{at_place}
 use Rattle.lane_record.specs.declared.outcome.Outcome.{Outcome}
 use Rattle.lane_record.specs.declared.outcome.Outcome.TheVariants.{Replied, TimedOut, Unsent, LinkLost}
@@ -14,6 +15,8 @@ use Rattle.script_plans.specs.declared.board_run.ClientPart.{ClientPart}
 use Rattle.board_history.specs.Parts.{AreBeside, IsExecutedLate, IsLateReplyOf, IsReplied}
 use Rattle.board_history.specs.Lates.{AreLateExactly, AreLatesOf, AreLateOnlyIfTimedOut, IsLateExactly, IsLateOnlyIfTimedOut}
 use Rattle.board_history.specs.Lates.{if_any_came, late_for, lates_of}
+use Rattle.hub_lane.specs.Fates.{AreLatesAt}
+use Rattle.board_history.specs.Machine.{AreAllLates, IsLateAt}
 use Rattle.board_history.specs.Links.{LinkReport}
 use Rattle.board_history.specs.Receives.{HasBroughtReply, IsLateBrought}
 
@@ -50,7 +53,7 @@ beside_mapped P f holds (x ∷ xs) = (holds x, beside_mapped P f holds xs)
 
 module _ (lates : List (Option (List ℕ))) where
   abbrev IsOfLane : Outcome → Option (List ℕ) → Type 0
-  IsOfLane outcome late = IfSome late (λ words. late_for lates outcome ≡ Some words)
+  IsOfLane outcome late = late ≡ late_for lates outcome
 
   -- it is the reply at its place
   late_reply : (replies : List (List ℕ))
@@ -58,7 +61,7 @@ module _ (lates : List (Option (List ℕ))) where
       → (outcome : Outcome) (late : Option (List ℕ)) → IsOfLane outcome late → IsLateReplyOf replies outcome late
   late_reply replies right outcome None is = tt
   late_reply replies right (Replied place told) (Some words) is = absurd cc
-  late_reply replies right (TimedOut place rounds) (Some words) is = right place words is
+  late_reply replies right (TimedOut place rounds) (Some words) is = right place words (sym is)
   late_reply replies right Unsent (Some words) is = absurd cc
   late_reply replies right (LinkLost place) (Some words) is = absurd cc
 
@@ -67,7 +70,7 @@ module _ (lates : List (Option (List ℕ))) where
       → (outcome : Outcome) (late : Option (List ℕ)) → IsOfLane outcome late → IsExecutedLate executed outcome late
   late_executed executed within outcome None is = tt
   late_executed executed within (Replied place told) (Some words) is = absurd cc
-  late_executed executed within (TimedOut place rounds) (Some words) is = within place words is
+  late_executed executed within (TimedOut place rounds) (Some words) is = within place words (sym is)
   late_executed executed within Unsent (Some words) is = absurd cc
   late_executed executed within (LinkLost place) (Some words) is = absurd cc
 
@@ -93,7 +96,7 @@ module _ (lates : List (Option (List ℕ))) where
       → (outcome : Outcome) (late : Option (List ℕ)) → IsOfLane outcome late → IsLateBrought link outcome late
   late_brought link brought outcome None is = tt
   late_brought link brought (Replied place told) (Some words) is = absurd cc
-  late_brought link brought (TimedOut place rounds) (Some words) is = brought place words is
+  late_brought link brought (TimedOut place rounds) (Some words) is = brought place words (sym is)
   late_brought link brought Unsent (Some words) is = absurd cc
   late_brought link brought (LinkLost place) (Some words) is = absurd cc
 
@@ -104,6 +107,25 @@ module _ (lates : List (Option (List ℕ))) where
   lates_brought link brought outcomes shown are =
       all_beside_then IsOfLane (IsLateBrought link) (late_brought link brought) outcomes shown are
 
+  -- the run heard it late
+  late_heard : (end : Hub) → AreLatesAt end lates → (outcome : Outcome) (late : Option (List ℕ))
+      → IsOfLane outcome late → IsLateAt end.lates outcome late
+  late_heard end are (TimedOut place rounds) (Some words) is = are.came place words (sym is)
+  late_heard end are (TimedOut place rounds) None is = λ words has.
+      let came = are.kept place words has in absurd (let both : None ≡ Some words = is ∙ came in cc)
+  late_heard end are (Replied place told) (Some words) is = absurd cc
+  late_heard end are (Replied place told) None is = tt
+  late_heard end are Unsent (Some words) is = absurd cc
+  late_heard end are Unsent None is = tt
+  late_heard end are (LinkLost place) (Some words) is = absurd cc
+  late_heard end are (LinkLost place) None is = tt
+
+  pub lates_heard : (end : Hub) → AreLatesAt end lates → (outcomes : List (List Outcome))
+      (shown : List (List (Option (List ℕ)))) → AreLatesOf lates outcomes shown
+      → AreBeside (AreBeside (IsLateAt end.lates)) outcomes shown
+  lates_heard end heard outcomes shown are =
+      all_beside_then IsOfLane (IsLateAt end.lates) (late_heard end heard) outcomes shown are
+
   -- ---- the lists of clients
 
   beside_list : (P : Outcome → Option (List ℕ) → Type 0) → ((o : Outcome) → P o (late_for lates o))
@@ -113,13 +135,9 @@ module _ (lates : List (Option (List ℕ))) where
     | inr none ↦ rw none tt
   ]
 
-  of_itself : (late : Option (List ℕ)) → IfSome late (λ words. late ≡ Some words)
-  of_itself None = tt
-  of_itself (Some words) = refl
-
   pub are_of_lane : (outcomes : List (List Outcome)) → AreLatesOf lates outcomes (map (lates_of lates) outcomes)
   are_of_lane outcomes = beside_mapped (AreBeside IsOfLane) (lates_of lates)
-      (beside_list IsOfLane (λ o. of_itself (late_for lates o))) outcomes
+      (beside_list IsOfLane (λ o. refl)) outcomes
 
   may_be_late : (place rounds : ℕ) (late : Option (List ℕ)) → IsLateOnlyIfTimedOut (TimedOut place rounds) late
   may_be_late place rounds None = tt
@@ -177,6 +195,12 @@ module _ (lates : List (Option (List ℕ))) where
     | inl some ↦ rw some (mapped_at os k o at)
     | inr none ↦ rw none (none_at os k o at none)
   ]
+
+  -- a client's list has the late answer of each of its bodies
+  pub all_late : (end : Hub) → AreLatesAt end lates → (outcomes : List Outcome)
+      → AreAllLates end.lates outcomes (lates_of lates outcomes)
+  all_late end are outcomes = λ k o at. subst (IsLateAt end.lates o) (sym (late_got outcomes k o at))
+      (late_heard end are o (late_for lates o) refl)
 
   -- the outcome has a late answer exactly where the link handed out a reply of its place
   abbrev pub IsAsHanded : Telling → Outcome → Type 0

@@ -34,6 +34,9 @@ pub mod Merges
 mod Sealed
 pub mod Calm
 mod Growing
+mod Machines
+mod MachineLaws
+pub mod OverLinks
 mod Live
 mod Ungarbled
 pub mod LaneShown

@@ -8,6 +8,7 @@ use Rattle.board_bus.specs.Cells.{CellMap}
 use Rattle.board_specs.specs.declared.spec.BoardSpec.{BoardSpec}
 use Rattle.world_model.specs.Board.{Board, bodies_executed}
 use Rattle.world_model.proofs.Lists.{all_get}
+use Rattle.world_model.specs.Hub.{Hub}
 use Rattle.world_model.specs.Settings.{Limits}
 use Rattle.links.specs.Telling.{Telling}
 use Rattle.ipb_base.proofs.AllLemmas.{all-map}
@@ -40,12 +41,15 @@ use Rattle.board_history.specs.LinkRuns.{HoldsOverAnyLink, ShowsLates}
 use Rattle.board_history.specs.Receives.{HasBroughtReply, IsReplyBrought, quiets_since_status}
 use Rattle.board_history.specs.Records.{IsClientsRecord, IsRecordOf, has_become}
 use Rattle.board_history.specs.Lanes.{IsTrueOf, IsLateAsHanded, IsSoundLane}
+use Rattle.hub_lane.specs.Fates.{AreLatesAt}
+use Rattle.board_history.specs.Machine.{AreAllLates, ShowsEachLate}
 use Rattle.board_history.specs.Lates.{AreLateExactly, AreLatesOf, AreLateOnlyIfTimedOut, lates_of}
-use Rattle.board_history.proofs.Lates.{IsAsHanded, are_of_lane, exactly_late, lates_brought, of_timed_out}
+use Rattle.board_history.proofs.Lates.{IsAsHanded, all_late, are_of_lane, exactly_late, lates_brought, of_timed_out}
 use Rattle.board_history.proofs.Opening.{same_shape}
 use Rattle.board_history.proofs.Steps.{steps, steps_of_all, finished}
 use Rattle.board_history.proofs.Orders.{AreInOrder, in_order, order_is, one_order, keeps_scripts, sent_bodies}
 use Rattle.board_history.proofs.Histories.{IsTrueOfSteps, true_steps, executed_once, replies_of, late_replies_of}
+use Rattle.board_history.proofs.Machines.{HasMachine, machine_board}
 use Rattle.board_history.proofs.Histories.{are_settled, became_outcomes, each_outcome}
 use Rattle.board_history.proofs.Waits.{became_counted, has_paid, has_waited, reached}
 use Rattle.board_history.proofs.Sealed.{is_record_of}
@@ -239,6 +243,20 @@ told_of_run settings opening run held items became lates given_up same is of_lan
       held' = has_waited settings.window settings.rounds held given_up bodies outcomes items became is kept paid;
     }
 
+-- what passed over the link is the machine's
+has_machine : (settings : Limits) (spec : BoardSpec) (run : BoardRun) (link : LinkReport) (payload : ℕ)
+    (items : List Item) (became : List (Option Outcome)) (lates : List (Option (List ℕ))) (given_up : ℕ)
+    → map outcomes_in_order (dispatches_by_client run) ≡ outcomes_by_client run
+    → IsRecordOf (bodies_by_client run) (dispatches_by_client run) items
+    → AreLatesOf lates (outcomes_by_client run) (lates_by_client run)
+    → IsSoundLane settings (opens_with spec.link) payload link items became lates given_up
+    → HasMachine settings payload run link lates
+has_machine settings spec run link payload items became lates given_up same is of_lane lane =
+    let bodies = bodies_by_client run in
+    machine_board settings payload run link items became lates same is lane.kept.legal of_lane
+    (subst (λ (oss : List (List Outcome)). bodies_in (order bodies oss) ≡ bodies_sent (first_sends items)) same
+    (order_sent bodies (dispatches_by_client run) items became is lane.kept.legal)) lane.ran
+
 pub live : (settings : Limits) (spec : BoardSpec) (run : BoardRun) (link : LinkReport) (payload : ℕ)
     (items : List Item) (became : List (Option Outcome)) (lates : List (Option (List ℕ))) (given_up : ℕ)
     → map outcomes_in_order (dispatches_by_client run) ≡ outcomes_by_client run → TellsPayload spec.link payload
@@ -267,6 +285,7 @@ live settings spec run link payload items became lates given_up same packets is 
           (only_lost bodies outcomes items became link is legal lane.lost);
       tells = subst (AllByRecursion (AllByRecursion (TellsRounds settings.rounds))) same
           (all_tell bodies outcomes items became settings.rounds is legal lane.tells);
+      machine = (has_machine settings spec run link payload items became lates given_up same is of_lane lane).board;
     } in record {
       any_link = any_link;
       told = told_with (λ (b : Board). IsTrueOf (opens_with spec.link) (claims items) became lates (bodies_executed b))
@@ -318,6 +337,22 @@ each_as_handed t bodies outcomes items became lates is legal handed =
     (became_outcomes (IsAsHanded lates t) items became legal (finished bodies outcomes items became is legal)
     (λ k o there place rounds same. handed k place rounds (there ∙ ap (λ (p : Outcome). Some (Some p)) same)))
 
+-- what is shown as late answers is all that the machine heard late
+parts_heard : (end : Hub) (lates : List (Option (List ℕ))) → AreLatesAt end lates → (parts : List ClientPart)
+    → AllByRecursion (λ (p : ClientPart). p.lates ≡ lates_of lates p.outcomes) parts
+    → AllByRecursion (λ (p : ClientPart). AreAllLates end.lates p.outcomes p.lates) parts
+parts_heard end lates heard parts = all-map (λ (p : ClientPart). p.lates ≡ lates_of lates p.outcomes)
+    (λ (p : ClientPart). AreAllLates end.lates p.outcomes p.lates) parts
+    (λ p same. subst (AreAllLates end.lates p.outcomes) (sym same) (all_late lates end heard p.outcomes))
+
+shows_each : (settings : Limits) (payload : ℕ) (run : BoardRun) (link : LinkReport) (lates : List (Option (List ℕ)))
+    → HasMachine settings payload run link lates
+    → lates_by_client run ≡ map (lates_of lates) (outcomes_by_client run) → ShowsEachLate settings payload run link
+shows_each settings payload run link lates has shown = record {
+  machine = has.board;
+  each = parts_heard has.board.end lates has.late run.parts (each_part lates run.parts shown);
+}
+
 pub shows_lates : (run : BoardRun) (link : LinkReport) (items : List Item) (became : List (Option Outcome))
     (lates : List (Option (List ℕ))) → map outcomes_in_order (dispatches_by_client run) ≡ outcomes_by_client run
     → IsRecordOf (bodies_by_client run) (dispatches_by_client run) items → IsLegal items became
@@ -335,6 +370,9 @@ shows_lates run link items became lates same is legal shown handed =
           handed;
     }
 
+same_payload : (payload told : ℕ) → Live payload ≡ Live told → payload ≡ told
+same_payload payload told same = cc
+
 module _ (standing : Standing) where
   pub run_over : (settings : Limits) (spec : BoardSpec) (board : ℕ) (scripts : List (List Step)) (run : BoardRun)
       (link : LinkReport) (payload : ℕ) (items : List Item) (became : List (Option Outcome))
@@ -349,14 +387,18 @@ module _ (standing : Standing) where
       let same = run_joined standing spec board scripts run shows in
       let recorded = is_record_of (bodies_by_client run) (dispatches_by_client run) items is in
       let legal = lane.kept.legal in
+      let of_lane = subst (AreLatesOf lates (outcomes_by_client run)) (sym shown)
+      (are_of_lane lates (outcomes_by_client run)) in
       record {
         scripts' = shows;
         board' = of;
         as_told = subst (IsAsTold settings spec run link) (sym greeted)
-            (live settings spec run link payload items became lates given_up same packets recorded
-            (subst (AreLatesOf lates (outcomes_by_client run)) (sym shown) (are_of_lane lates (outcomes_by_client run)))
-            lane);
+            (live settings spec run link payload items became lates given_up same packets recorded of_lane lane);
         lates = shows_lates run link items became lates same recorded legal shown
             (lane.exactly (are_settled items became legal
             (finished (bodies_by_client run) (dispatches_by_client run) items became recorded legal)));
+        each_late = λ told live. subst (λ (n : ℕ). ShowsEachLate settings n run link)
+            (same_payload payload told (sym greeted ∙ live))
+            (shows_each settings payload run link lates
+            (has_machine settings spec run link payload items became lates given_up same recorded of_lane lane) shown);
       }

@@ -18,7 +18,7 @@ seven_read = 0x20000100 ∷ 7 ∷ []
 
 -- a link over which this passed
 abbrev pub that_carried : List Passed → LinkReport
-that_carried traffic = record { faults = 0; quiets = 1; gots = 2; held = 0; traffic = traffic; telling = None }
+that_carried traffic = record { faults = 0; quiets = 1; gots = 2; held = 0; traffic = traffic; number = 0; telling = None }
 
 -- a datagram that the board does not answer; the receives are read alone
 abbrev pub unanswered : Passed

@@ -1,22 +1,30 @@
 -- What the lane of a board keeps at every exit of its calls: of its record, of what became of the Asks so far, and of
 -- its link. Profile.
-use Rattle.std.specs.Prelude.{◌≡◌, ℕ, ◌+◌, ◌*◌, ◌≤◌, List, map, slice_get, count_by, Option, Some, IfSome}
+use Rattle.std.specs.Prelude.{◌≡◌, ℕ, ◌+◌, ◌*◌, ◌≤◌, Bool, true, if◌then◌else◌, List, [], map, slice_get, count_by}
+use Rattle.std.specs.Prelude.{Option, Some, IfSome}
 use Rattle.ipb_base.specs.Lists.{IsPrefix}
+use Rattle.ipb_base.specs.Numbers.{payload_of}
 use Rattle.board_bus.specs.Cells.{CellMap}
 use Rattle.board_bus.specs.Bodies.{replay}
+use Rattle.links.specs.Receives.{first_status, receives_in}
 use Rattle.links.specs.Telling.{Telling}
 use Rattle.world_model.specs.declared.offered.Offered.{Offered}
 use Rattle.world_model.specs.Board.{Board, bodies_executed}
+use Rattle.world_model.specs.Hub.{Hub}
 use Rattle.world_model.specs.Places.{at_place}
 use Rattle.world_model.specs.Settings.{Limits}
+use Rattle.reliable_engine.specs.MachineRuns.{RunEvent}
 use Rattle.lane_record.specs.declared.outcome.Outcome.{Outcome}
 use Rattle.lane_record.specs.declared.outcome.Outcome.TheVariants.{Replied, TimedOut}
 use Rattle.lane_record.specs.declared.item.Item.{Item}
 use Rattle.lane_record.specs.Claims.{Claim, claims}
 use Rattle.lane_record.specs.Lates.{WasTimedOut, late_in}
-use Rattle.lane_record.specs.Offers.{offers_from}
+use Rattle.lane_record.specs.Offers.{Agrees, offers_from}
 use Rattle.lane_record.specs.Bounds.{IsKept, AreLostOnlyIf, HasReached, TellRounds}
 use Rattle.lane_record.specs.Outcomes.{AreSettled, is_replied}
+use Rattle.hub_lane.specs.Heard.{told_by}
+use Rattle.hub_lane.specs.Lanes.{BoardStatus}
+use Rattle.hub_lane.specs.Run.{HasRun}
 use Rattle.board_history.specs.Parts.{IsReplyOf}
 use Rattle.board_history.specs.Lates.{IsLateExactly}
 use Rattle.board_history.specs.Links.{LinkReport, HasFailed, board_there}
@@ -41,6 +49,23 @@ pub record IsTrueOf (opening : CellMap) (claims : List Claim) (outcomes : List (
 abbrev pub IsLateAsHanded : List (Option Outcome) → List (Option (List ℕ)) → Telling → Type 0
 IsLateAsHanded outcomes lates t = (k place rounds : ℕ) → slice_get outcomes k ≡ Some (Some (TimedOut place rounds))
     → IsLateExactly t place (late_in lates place)
+
+-- What passed over the link of a lane: the greeting, and then the machine's run whose offers are the bodies of the Asks
+-- in order. The board told its packets by this status, and the hub waits for the bodies without an outcome, unless the
+-- link failed.
+pub record RanOver (settings : Limits) (payload : ℕ) (link : LinkReport) (items : List Item)
+    (outcomes : List (Option Outcome)) (lates : List (Option (List ℕ))) : Type 0 where
+  pub status : BoardStatus
+  pub packets : payload ≡ payload_of status.mtu
+  pub told : first_status (receives_in link.traffic) ≡ Some (told_by status)
+  pub hub : Hub
+  pub run : List RunEvent
+  pub down : Bool
+  pub spent : Bool
+  pub failed : down ≡ true → HasFailed link
+  pub agrees : Agrees hub.sent (if down then [] else hub.queue) (if down then [] else hub.open_places)
+      (claims items) outcomes
+  pub has_run : HasRun settings status hub items outcomes lates down spent run link.traffic
 
 -- A lane that gave up so many times, whose board opened with this bus and told that it takes packets of this payload.
 pub record IsSoundLane (settings : Limits) (opening : CellMap) (payload : ℕ) (link : LinkReport) (items : List Item)
@@ -72,3 +97,5 @@ pub record IsSoundLane (settings : Limits) (opening : CellMap) (payload : ℕ) (
   -- and once something became of each Ask
   pub exactly : AreSettled outcomes → IfSome link.telling (IsLateAsHanded outcomes lates)
   pub held : IfSome link.telling (λ _. HasReached (settings.rounds * given_up) link.held)
+  -- over any link, what passed
+  pub ran : RanOver settings payload link items outcomes lates

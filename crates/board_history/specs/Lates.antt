@@ -1,5 +1,5 @@
 -- What came late for the bodies of clients, by what came late at each place of their lane. Profile.
-use Rattle.std.specs.Prelude.{◌≡◌, ◌↔◌, ℕ, false, if◌then◌else◌, List, [], map, Option, Some, None, IfSome, is_some}
+use Rattle.std.specs.Prelude.{◌≡◌, ◌↔◌, ℕ, false, if◌then◌else◌, List, [], map, Option, Some, None, is_some}
 use Rattle.std.specs.Prelude.{get_or}
 use Rattle.std.specs.List.{list_any, slice_get}
 use Rattle.links.specs.Handed.{WasHanded}
@@ -24,10 +24,11 @@ if_any_came found = if list_any is_some found then found else []
 abbrev pub lates_of : List (Option (List ℕ)) → List Outcome → List (Option (List ℕ))
 lates_of lates outcomes = if_any_came (map (late_for lates) outcomes)
 
--- Each late answer that stands beside an outcome is what came late on the lane for that body. Others may be left out.
+-- What stands beside an outcome is what came late on the lane for that body: a late answer or none. The end of a list
+-- may be left out.
 abbrev pub AreLatesOf : List (Option (List ℕ)) → List (List Outcome) → List (List (Option (List ℕ))) → Type 0
 AreLatesOf lates outcomes shown =
-    AreBeside (AreBeside (λ outcome late. IfSome late (λ words. late_for lates outcome ≡ Some words))) outcomes shown
+    AreBeside (AreBeside (λ outcome late. late ≡ late_for lates outcome)) outcomes shown
 
 -- ---- over any link
 

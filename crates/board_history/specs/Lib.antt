@@ -13,6 +13,8 @@ pub mod Links
 pub mod Receives
 pub mod LaneExamples
 pub mod Lates
+pub mod Machine
+pub mod MachineExamples
 pub mod LinkRuns
 pub mod Records
 pub mod Lanes

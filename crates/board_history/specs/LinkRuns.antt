@@ -11,6 +11,7 @@ use Rattle.board_specs.specs.declared.spec.LinkSpec.TheVariants.{Sim, Udp}
 use Rattle.world_model.specs.Board.{Board, bodies_executed}
 use Rattle.world_model.specs.Settings.{Limits}
 use Rattle.links.specs.Receives.{first_status, receives_in}
+use Rattle.hub_lane.specs.Run.{AreVainRounds, IsGreetingCutOff}
 use Rattle.lane_record.specs.declared.outcome.Outcome.{Outcome}
 use Rattle.lane_record.specs.Outcomes.{TellsRounds, is_replied}
 use Rattle.script_steps.specs.declared.operation.Step.{Step}
@@ -41,6 +42,7 @@ use Rattle.board_history.specs.Runs.{board_run, greeting_of, opens_with}
 use Rattle.board_history.specs.Lates.{AreLateExactly, AreLateOnlyIfTimedOut}
 use Rattle.board_history.specs.Links.{LinkReport, HasFailed, IsBoardOf, IsLostOnlyIfFailed}
 use Rattle.board_history.specs.Links.{IsUntouched, board_there}
+use Rattle.board_history.specs.Machine.{IsMachineBoard, ShowsEachLate}
 use Rattle.board_history.specs.Receives.{HasToldPayload, IsLateBrought, IsReplyBrought, quiets_since_status}
 
 -- ---- what the scripts ask
@@ -104,6 +106,8 @@ pub record HoldsOverAnyLink (settings : Limits) (spec : BoardSpec) (payload : �
   pub lost : AllByRecursion (AllByRecursion (IsLostOnlyIfFailed link)) (outcomes_by_client run)
   -- a body that was timed out tells the rounds of the settings
   pub tells : AllByRecursion (AllByRecursion (TellsRounds settings.rounds)) (outcomes_by_client run)
+  -- what passed over the link is what the machine does with the bodies of the clients
+  pub machine : IsMachineBoard settings payload run link
 
 -- The same, and where the link tells, what it tells.
 pub record IsLiveRun (settings : Limits) (spec : BoardSpec) (payload : ℕ) (run : BoardRun) (link : LinkReport)
@@ -125,9 +129,10 @@ pub record ShowsLates (run : BoardRun) (link : LinkReport) : Type 0 where
 -- ---- the others
 
 -- A board is silent only where no datagram told its status, and each round of its greeting ended with a quiet receive
--- or 64 datagrams of no use. Over a link that tells each ended with a quiet receive, datagrams were held in each, and
--- the board executed nothing.
+-- or 64 datagrams of no use. All that was sent to it is one status request in each of these rounds. Over a link that
+-- tells each ended with a quiet receive, datagrams were held in each, and the board executed nothing.
 pub record IsSilentRun (settings : Limits) (link : LinkReport) : Type 0 where
+  pub asked : AreVainRounds settings.rounds link.traffic
   pub untold : first_status (receives_in link.traffic) ≡ None
   pub waited : most_others * settings.rounds ≤ most_others * link.quiets + link.gots
   pub quiet : IfSome link.telling (λ _. settings.rounds ≤ link.quiets)
@@ -135,8 +140,9 @@ pub record IsSilentRun (settings : Limits) (link : LinkReport) : Type 0 where
   pub untouched : IsUntouched link
 
 -- A board is down only where its link failed at the greeting, before a datagram told its status, and it executed nothing
--- then.
-pub record IsDownRun (link : LinkReport) : Type 0 where
+-- then. All that was sent to it is one status request in each round of the greeting; in the last one perhaps none.
+pub record IsDownRun (settings : Limits) (link : LinkReport) : Type 0 where
+  pub asked : IsGreetingCutOff settings.rounds link.traffic
   pub untold : first_status (receives_in link.traffic) ≡ None
   pub failed : HasFailed link
   pub untouched : IsUntouched link
@@ -146,7 +152,7 @@ pub record IsDownRun (link : LinkReport) : Type 0 where
 abbrev pub IsAsTold : Limits → BoardSpec → BoardRun → LinkReport → Greeting → Type 0
 IsAsTold settings spec run link (Live payload) = IsLiveRun settings spec payload run link
 IsAsTold settings spec run link Silent = IsSilentRun settings link
-IsAsTold settings spec run link Down = IsDownRun link
+IsAsTold settings spec run link Down = IsDownRun settings link
 
 -- What a run shows of the board at a position of a session, over this link.
 pub record IsRunOver (settings : Limits) (spec : BoardSpec) (board : ℕ) (scripts : List (List Step)) (run : BoardRun)
@@ -155,6 +161,8 @@ pub record IsRunOver (settings : Limits) (spec : BoardSpec) (board : ℕ) (scrip
   pub board' : IsBoardOf spec.link (board_there link.telling)
   pub as_told : IsAsTold settings spec run link run.greeting
   pub lates : ShowsLates run link
+  -- a live board shows each late answer that its machine heard
+  pub each_late : (payload : ℕ) → run.greeting ≡ Live payload → ShowsEachLate settings payload run link
 
 -- The same of all boards, the first of which has this position: there is one run and one link for each.
 abbrev pub AreRunsOver : Limits → ℕ → List BoardSpec → List (List Step) → List BoardRun → List LinkReport → Type 0

@@ -1,5 +1,5 @@
 -- What a link shows after a run. Profile.
-use Rattle.std.specs.Prelude.{◌≡◌, ℕ, ◌≤◌, true, List, [], Option, Some, None, IfSome}
+use Rattle.std.specs.Prelude.{◌≡◌, ℕ, ◌≤◌, true, List, [], map, Option, Some, None, IfSome}
 use Rattle.board_bus.specs.Ranges.{opening_bus}
 use Rattle.world_model.specs.Board.{Board, bodies_executed}
 use Rattle.reliable_engine.specs.Traffic.{Passed}
@@ -8,18 +8,29 @@ use Rattle.board_specs.specs.declared.spec.LinkSpec.{LinkSpec}
 use Rattle.board_specs.specs.declared.spec.LinkSpec.TheVariants.{Sim, Udp}
 use Rattle.board_history.specs.Runs.{RunsHere}
 use Rattle.lane_record.specs.declared.outcome.Outcome.{Outcome}
+use Rattle.lane_record.specs.Lists.{CountsFrom}
 use Rattle.lane_record.specs.Outcomes.{is_lost}
 
 -- Counts since the link was made, each of 64 bits: how often the network failed, how many receives were quiet and how
 -- many got a datagram, and how many datagrams were lost, delayed or dropped; what passed over it, in the order of the
--- calls that did not fail; and what the link tells of its board and of the datagrams that it carried, where it tells.
+-- calls that did not fail; which of the links of its rack it is, in the order in which they were made, from 0; and what the
+-- link tells of its board and of the datagrams that it carried, where it tells.
 pub record LinkReport : Type 0 where
   pub faults : ℕ
   pub quiets : ℕ
   pub gots : ℕ
   pub held : ℕ
   pub traffic : List Passed
+  pub number : ℕ
   pub telling : Option Telling
+
+-- the numbers of links among those of their rack, in order
+abbrev pub numbers_of : List LinkReport → List ℕ
+numbers_of links = map (λ link. link.number) links
+
+-- These links were made one after the other, in this order, behind so many others: the first has that number.
+abbrev pub AreInOrderMade : ℕ → List LinkReport → Type 0
+AreInOrderMade before links = CountsFrom before (numbers_of links)
 
 -- the board of a link that tells
 abbrev pub board_there : Option Telling → Option Board

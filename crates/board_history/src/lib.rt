@@ -12,6 +12,8 @@ pub mod examples;
 pub mod lane_examples;
 pub mod lanes;
 pub mod laws;
+pub mod machine_examples;
+pub mod machine_laws;
 pub mod place_laws;
 pub mod records;
 pub mod run_laws;

@@ -12,3 +12,4 @@ mod Places
 mod Replies
 mod Lines
 mod Calm
+pub mod OverLinks

@@ -2,7 +2,7 @@
 //! are what is proved.
 
 ghost use Rattle.std.specs.Prelude.{◌≡◌, ℕ, ◌≤◌, List, length, Some, IfSome};
-ghost use Rattle.std.specs.List.{count_by, flat_map, slice_get};
+ghost use Rattle.std.specs.List.{AllByRecursion, count_by, flat_map, slice_get};
 ghost use Rattle.board_specs.specs.declared.spec.BoardSpec.{BoardSpec};
 ghost use Rattle.world_model.specs.Board.{bodies_executed};
 ghost use Rattle.world_model.specs.Settings.{Limits};
@@ -15,6 +15,7 @@ ghost use Rattle.board_history.specs.Parts.{IsReplied};
 ghost use Rattle.board_history.specs.Runs.{greeting_of, opens_with};
 ghost use Rattle.board_history.specs.Links.{IsFaithful, LinkReport, board_there};
 ghost use Rattle.board_history.specs.LinkRuns.{RepliesCame, TimeOutsWaited};
+ghost use Rattle.board_history.specs.Machine.{RanAsMachine};
 ghost use Rattle.client_history.specs.Boards.{AreServedOver, IsServedAt, IsServedOver, ServedBoard, run_of};
 ghost use Rattle.client_history.specs.Connections.{outcomes_of};
 ghost use Rattle.client_history.specs.Shown.{GaveUpOnlyAfterRounds, HasLostOnlyIfFailed, IsAddedUp};
@@ -104,4 +105,11 @@ pub fn a_faithful_link_serves_all()
     ensures replied { (settings : Limits) (spec : BoardSpec) (served : ServedBoard) (link : LinkReport) →
         1 ≤ settings.rounds → IsFaithful link → IsServedOver settings spec served link →
         OfEach (λ s. IsReplied s.outcome) served.connections }
+{}
+
+/// Over each link of boards that were served passed what the machine of the protocol does with the bodies of the
+/// connections, where a status was told over it.
+pub fn each_link_of_served_boards_ran_as_the_machine()
+    ensures { (settings : Limits) (specs : List BoardSpec) (boards : List ServedBoard) (links : List LinkReport) →
+        AreServedOver settings specs boards links → AllByRecursion RanAsMachine links }
 {}

@@ -46,6 +46,7 @@ module _ {E : Type 0} (Served : List PairReport → List PairReport → Type 0) 
     specs = [];
     grown = sym (append-nil made);
     counted = refl;
+    in_order = tt;
     used = inl refl;
     back = none;
     owed = owed;
@@ -120,6 +121,7 @@ module _ {E F : Type 0} (Served Served_now : List PairReport → List PairReport
     specs = leaves.specs;
     grown = leaves.grown;
     counted = leaves.counted;
+    in_order = leaves.in_order;
     used = leaves.used;
     back = served_as given.came given.back leaves.back;
     owed = leaves.owed;
@@ -137,6 +139,7 @@ module _ {E F : Type 0} (Served Served_now : List PairReport → List PairReport
     specs = leaves.specs;
     grown = leaves.grown;
     counted = leaves.counted;
+    in_order = leaves.in_order;
     used = leaves.used;
     back = served_as given.came given.back leaves.back;
     owed = tt;

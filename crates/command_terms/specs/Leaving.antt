@@ -3,7 +3,7 @@ use Rattle.std.specs.Prelude.{◌≡◌, ◌⊎◌, ℕ, List, [], ◌++◌, len
 use Rattle.std.specs.List.{AllByRecursion}
 use Rattle.ipb_outside.specs.Pairs.{PairReport}
 use Rattle.board_specs.specs.declared.spec.LinkSpec.{LinkSpec}
-use Rattle.board_history.specs.Links.{IsUntouched}
+use Rattle.board_history.specs.Links.{AreInOrderMade, IsUntouched}
 use Rattle.command_terms.specs.declared.answer.Answer.{Answer}
 use Rattle.command_terms.specs.Outside.{GivenBack}
 use Rattle.command_terms.specs.Terms.{Owes, Terms}
@@ -17,6 +17,8 @@ pub record Leaves {E : Type 0} (Served : List PairReport → List PairReport →
   pub specs : List LinkSpec
   pub grown : makes ≡ made ++ specs
   pub counted : length specs ≡ length given.links
+  -- each link stands where the spec does that it was made of: it is the one that was made as the first, the second ..
+  pub in_order : AreInOrderMade (length made) given.links
   -- the specs and the links are those of the first boards that it uses, or there are none
   pub used : (given.links ≡ []) ⊎ terms.Uses bytes specs given.links
   -- each pair that came was served and went back

@@ -373,7 +373,7 @@ event_hands_over : LateLaws → (mid event : Hub) (items : List Item) (outcomes 
     → ((place : ℕ) (words : List ℕ) → Contains event.lates (place, words) → length words ≤ MAX_BODY_WORDS)
     → HasBodies (length outcomes) event → AgreesWith mid (claims items) outcomes
     → Settles event (claims items) outcomes kind most → AreLateAnswers mid outcomes lates
-    → HandsOver (put_all event.fates outcomes) lates (put_lates event.lates lates) (after_handing_out event)
+    → HandsOver event (put_all event.fates outcomes) lates (put_lates event.lates lates) (after_handing_out event)
 event_hands_over laws mid event items outcomes lates kind most account short bodies agrees settles late =
     let few = bodies.few in
     let count = late.count in
@@ -386,12 +386,12 @@ pub event_late : LateLaws → MessageSettles → QuietSettles → (mid : Hub) (b
     → ((message : Option ToHub) → HasBodies (length outcomes) (take_message mid message))
     → HasBodies (length outcomes) (hear_quiet mid) → IsEventAs mid bytes pumped → IsReady (length outcomes) mid
     → AgreesWith mid (claims items) outcomes → AreLateAnswers mid outcomes lates
-    → HandsOver (put_all (hub_after pumped bytes mid).fates outcomes) lates
+    → HandsOver (hub_after pumped bytes mid) (put_all (hub_after pumped bytes mid).fates outcomes) lates
     (put_lates (hub_after pumped bytes mid).lates lates) (after_handing_out (hub_after pumped bytes mid))
 event_late laws message quiet mid bytes pumped items outcomes lates bodies quiet_bodies event ready agrees late =
     by pumped event
   where
-    heard : HandsOver (put_all (take_message mid (to_hub bytes)).fates outcomes) lates
+    heard : HandsOver (take_message mid (to_hub bytes)) (put_all (take_message mid (to_hub bytes)).fates outcomes) lates
         (put_lates (take_message mid (to_hub bytes)).lates lates) (after_handing_out (take_message mid (to_hub bytes)))
     heard = event_hands_over laws mid (take_message mid (to_hub bytes)) items outcomes lates is_replied 0
         (λ out account. laws.heard out mid (to_hub bytes) account)
@@ -399,7 +399,7 @@ event_late laws message quiet mid bytes pumped items outcomes lates bodies quiet
         (message mid (to_hub bytes) (claims items) outcomes ready.window ready.drained.fates agrees) late
 
     by : (pumped : Pumped) → IsEventAs mid bytes pumped
-        → HandsOver (put_all (hub_after pumped bytes mid).fates outcomes) lates
+        → HandsOver (hub_after pumped bytes mid) (put_all (hub_after pumped bytes mid).fates outcomes) lates
         (put_lates (hub_after pumped bytes mid).lates lates) (after_handing_out (hub_after pumped bytes mid))
     by (Reply place) event = heard
     by Status event = heard
@@ -407,5 +407,37 @@ event_late laws message quiet mid bytes pumped items outcomes lates bodies quiet
     by Quiet event = event_hands_over laws mid (hear_quiet mid) items outcomes lates is_given_up mid.window
         (λ out account. laws.quiet out mid account) (quiet_lates_short mid ready.drained) quiet_bodies agrees
         (quiet mid (claims items) outcomes ready.window ready.drained.fates agrees) late
+    by Idle event = absurd event
+    by LinkDown event = absurd event
+
+-- ---- outcomes
+
+-- an event settles Asks, of some kind, at most so many of them by a give-up
+pub record SettlesSome (event : Hub) (cs : List Claim) (outcomes : List (Option Outcome)) : Type 0 where
+  pub kind : Outcome → Bool
+  pub most : ℕ
+  pub settles : Settles event cs outcomes kind most
+
+pub event_settles : MessageSettles → QuietSettles → (mid : Hub) (bytes : List ℕ) (pumped : Pumped) (cs : List Claim)
+    (outcomes : List (Option Outcome)) → IsEventAs mid bytes pumped → IsReady (length outcomes) mid
+    → AgreesWith mid cs outcomes → SettlesSome (hub_after pumped bytes mid) cs outcomes
+event_settles message quiet mid bytes pumped cs outcomes event ready agrees = by pumped event
+  where
+    heard : SettlesSome (take_message mid (to_hub bytes)) cs outcomes
+    heard = record {
+      kind = is_replied;
+      most = 0;
+      settles = message mid (to_hub bytes) cs outcomes ready.window ready.drained.fates agrees;
+    }
+
+    by : (pumped : Pumped) → IsEventAs mid bytes pumped → SettlesSome (hub_after pumped bytes mid) cs outcomes
+    by (Reply place) event = heard
+    by Status event = heard
+    by Stray event = heard
+    by Quiet event = record {
+      kind = is_given_up;
+      most = mid.window;
+      settles = quiet mid cs outcomes ready.window ready.drained.fates agrees;
+    }
     by Idle event = absurd event
     by LinkDown event = absurd event

@@ -1,7 +1,7 @@
 -- What passes in a greeting, receive by receive and round by round.
 use Rattle.std.proofs.Common.{◌≡◌, ◌∙◌, inl, inr, ap, refl, sym, subst, ℕ, suc, ◌+◌, ◌<◌, ◌≤◌, arith}
 use Rattle.std.proofs.Common.{List, [], ◌∷◌, ◌++◌, length, map, Option, Some, None, append_assoc, length-append}
-use Rattle.std.specs.Prelude.{Result, Ok, Err, IfOk}
+use Rattle.std.specs.Prelude.{Result, Ok, Err, IfOk, OnErr}
 use Rattle.std.specs.List.{AllByRecursion}
 use Rattle.std.proofs.lemmas.List.{append-nil, map-append}
 use Rattle.ipb_base.proofs.AllLemmas.{AllByRecursion-append}
@@ -19,7 +19,8 @@ use Rattle.hub_lane.specs.declared.greeting.Answer.{Answer}
 use Rattle.hub_lane.specs.declared.greeting.Answer.TheVariants as answer
 use Rattle.hub_lane.specs.Greeting.{IsSaid}
 use Rattle.hub_lane.specs.Lanes.{status_of}
-use Rattle.hub_lane.specs.Run.{AreVainRounds, IsGreetingOf, PassesAnswer, PassesHeard, PassesRound, TellsNone, round_with}
+use Rattle.hub_lane.specs.Run.{AreVainRounds, IsGreetingCutOff, IsGreetingOf, PassesAnswer, PassesHeard, PassesNoneYet}
+use Rattle.hub_lane.specs.Run.{PassesRound, PassesRoundCutOff, TellsNone, round_with}
 use Rattle.hub_lane.proofs.Runs.{got_traffic, quiet_traffic}
 
 -- ---- one receive
@@ -168,3 +169,63 @@ greeted_so {rounds} {most} {found} {status} {now} {new} e fewer so_far passed =
       told = is.ends;
       passed_is = is.passed_is;
     }
+
+-- as many as were to be
+pub vain_all : {rounds end most : ℕ} (now : List Passed) → AreVainRounds rounds now → end ≡ most → end ≤ rounds
+    → rounds ≤ end → AreVainRounds most now
+vain_all {rounds} {end} {most} now so_far ends all few =
+    let same : rounds ≡ most = omega (arith, ends, all, few) in
+    subst (λ (n : ℕ). AreVainRounds n now) same so_far
+
+-- ---- where the link failed
+
+-- a receive failed where only others came
+pub heard_none_yet : {other : ℕ} {old now new : List Passed} → PassesOthers other old now → other < 64 → new ≡ now
+    → PassesNoneYet old new
+heard_none_yet {other} {old} {now} {new} so_far few same =
+    let many = so_far.many in
+    record {
+      heard = map Got so_far.others;
+      none_yet = record {
+        others = so_far.others;
+        none_told = so_far.none_told;
+        few = omega (arith, many, few);
+        passed_is = refl;
+      };
+      passed_is = same ∙ so_far.passed_is;
+    }
+
+-- the request failed
+pub refused_round : {old new : List Passed} → new ≡ old → PassesRoundCutOff old new
+refused_round {old} {new} same = record {
+  last = [];
+  cut_off = inl refl;
+  passed_is = same ∙ sym (append-nil old);
+}
+
+-- the status was asked for, and then a receive failed
+pub asked_then_cut_off : {request : List ℕ} (result : Result (Option Status) LinkFault) (old mid new : List Passed)
+    → request ≡ packet_bytes status_request → mid ≡ old ++ Sent request ∷ []
+    → OnErr result (PassesNoneYet mid new) → OnErr result (PassesRoundCutOff old new)
+asked_then_cut_off (Ok found) old mid new request_is sent is = tt
+asked_then_cut_off (Err fault) old mid new request_is sent is = record {
+  last = round_with is.heard;
+  cut_off = inr (is.heard, is.none_yet, refl);
+  passed_is = is.passed_is
+      ∙ (ap (λ (xs : List Passed). xs ++ is.heard)
+      (sent ∙ ap (λ (bytes : List ℕ). old ++ Sent bytes ∷ []) request_is)
+      ∙ append_assoc old (Sent (packet_bytes status_request) ∷ []) is.heard);
+}
+
+-- so a greeting ended
+pub greeting_cut_off : {rounds most : ℕ} {now new : List Passed} → rounds < most → AreVainRounds rounds now
+    → PassesRoundCutOff now new → IsGreetingCutOff most new
+greeting_cut_off {rounds} {most} {now} {new} fewer so_far is = record {
+  vain = rounds;
+  fewer = fewer;
+  before = now;
+  vain_rounds = so_far;
+  last = is.last;
+  cut_off = is.cut_off;
+  passed_is = is.passed_is;
+}

@@ -1,5 +1,5 @@
 -- Lemmas on a round of a greeting with its request, and on all rounds.
-use Rattle.std.proofs.Common.{◌≡◌, ℕ, ◌+◌, ◌*◌, ◌<◌, ◌≤◌, List, [], ◌∷◌, Option, Some, None, sym, ap, ◌∙◌, subst, arith}
+use Rattle.std.proofs.Common.{◌≡◌, ℕ, ◌+◌, ◌*◌, ◌<◌, ◌≤◌, List, [], ◌∷◌, Option, Some, None, sym, ap, ◌∙◌, subst, arith, refl}
 use Rattle.std.specs.Prelude.{Result, Ok, Err, IfOk, IfSome}
 use Rattle.std.proofs.lemmas.List.Sums.{sum_by-append}
 use Rattle.status_packet.specs.declared.status.Status.{Status}
@@ -113,26 +113,28 @@ asking_ends seen bytes (Ok None) old mid new quiets gots sent is = record {
 asking_ends seen bytes (Err fault) old mid new quiets gots sent is = tt
 
 pub counts_sent : {L : Type 0} (seen : Ghosts L) (old new : L) → seen.faults old ≤ seen.faults new
-    → seen.quiets new ≡ seen.quiets old → seen.gots new ≡ seen.gots old → seen.held old ≤ seen.held new
-    → CountsRound seen old new
-counts_sent seen old new faults quiets gots held = record {
+    → seen.quiets new ≡ seen.quiets old → seen.gots new ≡ seen.gots old → seen.number new ≡ seen.number old
+    → seen.held old ≤ seen.held new → CountsRound seen old new
+counts_sent seen old new faults quiets gots number held = record {
   faults = faults;
   quiets = omega (arith, quiets);
   most_quiets = omega (arith, quiets);
   gots = omega (arith, gots);
   most_gots = omega (arith, gots);
+  number = number;
   held = held;
 }
 
 pub counts_asked : {L : Type 0} (seen : Ghosts L) (old mid new : L) → seen.faults old ≤ seen.faults mid
-    → seen.quiets mid ≡ seen.quiets old → seen.gots mid ≡ seen.gots old → seen.held old ≤ seen.held mid
-    → CountsRound seen mid new → CountsRound seen old new
-counts_asked seen old mid new faults quiets gots held counts = record {
+    → seen.quiets mid ≡ seen.quiets old → seen.gots mid ≡ seen.gots old → seen.number mid ≡ seen.number old
+    → seen.held old ≤ seen.held mid → CountsRound seen mid new → CountsRound seen old new
+counts_asked seen old mid new faults quiets gots number held counts = record {
   faults = (let more = counts.faults in omega (arith, faults, more));
   quiets = (let more = counts.quiets in omega (arith, quiets, more));
   most_quiets = (let most = counts.most_quiets in omega (arith, quiets, most));
   gots = (let more = counts.gots in omega (arith, gots, more));
   most_gots = (let most = counts.most_gots in omega (arith, gots, most));
+  number = counts.number ∙ number;
   held = (let more = counts.held in omega (arith, held, more));
 }
 
@@ -153,6 +155,7 @@ pub record IsAsking {L : Type 0} (seen : Ghosts L) (settings : Limits) (rounds :
   pub counted : 64 * rounds ≤ 64 * seen.quiets now + seen.gots now
   pub untold : first_status (receives_in (seen.traffic now)) ≡ None
   pub passed : AreVainRounds rounds (seen.traffic now)
+  pub number : seen.number now ≡ seen.number old
   pub fault : seen.faults old ≤ seen.faults now
 
 none_paid : (quiets held : ℕ) (a : Option Telling) → IfSome a (HasPaid 0 quiets held)
@@ -176,6 +179,7 @@ asking_first {seen} {settings} {link} unused begins =
       counted = omega arith;
       untold = ap first_status (ap receives_in unused.no_traffic);
       passed = unused.no_traffic;
+      number = refl;
       fault = omega arith;
     }
 
@@ -313,6 +317,7 @@ module _ {L : Type 0} {seen : Ghosts L} {settings : Limits} {rounds : ℕ} {old 
         counted = omega (arith, counted, more);
         untold = ended.receives;
         passed = vain_again rounds so_far.passed passed;
+        number = counts.number ∙ so_far.number;
         fault = faults_after;
       }
 

@@ -137,9 +137,11 @@ lost_late old new outcomes lost lates none account keeps same is =
 
 -- ---- an event of the hub, after which it hands out what it has
 
-pub record HandsOver (outcomes : List (Option Outcome)) (old new : List (Option (List ℕ))) (hub : Hub) : Type 0 where
+pub record HandsOver (event : Hub) (outcomes : List (Option Outcome)) (old new : List (Option (List ℕ))) (hub : Hub)
+    : Type 0 where
   pub late : AreLateAnswers hub outcomes new
   pub keeps : KeepsLates old new
+  pub there : (place : ℕ) (words : List ℕ) → Contains event.lates (place, words) → late_in new place ≡ Some words
 
 within_places : (out : HandedOut) (event : Hub) (most : ℕ) → AreOfTimedOut out event → length event.sent ≤ most
     → AreWithinPlaces most event.lates
@@ -156,11 +158,13 @@ pub handed_over : LateLaws → (mid event : Hub) (claims : List Claim) (outcomes
     → ((place : ℕ) (words : List ℕ) → Contains event.lates (place, words) → length words ≤ MAX_BODY_WORDS)
     → length event.sent ≤ length lates → length (put_all event.fates outcomes) ≡ length outcomes
     → Settles event claims outcomes kind most → AreLateAnswers mid outcomes lates
-    → HandsOver (put_all event.fates outcomes) lates (put_lates event.lates lates) (after_handing_out event)
+    → HandsOver event (put_all event.fates outcomes) lates (put_lates event.lates lates) (after_handing_out event)
 handed_over laws mid event claims outcomes lates kind most account short few same settles is =
     let before = is.handed_out in
     let new = put_all event.fates outcomes in
     let now = account before.out before.account in
+    let by = lates_handed_out before.out.lates event.lates lates now.once before.late
+    (within_places before.out event (length lates) now few) in
     record {
       late = late_answers (after_handing_out event) new (put_lates event.lates lates) (record { fates = refl; lates = refl })
           (length-put_lates event.lates lates ∙ (is.count ∙ sym same))
@@ -171,10 +175,11 @@ handed_over laws mid event claims outcomes lates kind most account short few sam
             account = laws.handed_out before.out event now;
             told = AllByRecursion-append _ before.out.fates event.fates
                 (still_told outcomes new before.out.fates settles.keeps before.told) settles.told;
-            late = lates_handed_out before.out.lates event.lates lates now.once before.late
-                (within_places before.out event (length lates) now few);
+            late = by;
           });
       keeps = lates_stay before.out.lates event.lates lates now.once before.late;
+      there = λ place words is. by.kept place words
+          (Contains-append_right before.out.lates event.lates (place, words) is);
     }
 
 -- the words of a reply are short, and no late answer comes of a quiet receive

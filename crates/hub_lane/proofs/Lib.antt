@@ -35,6 +35,9 @@ mod Pumps
 mod Steps
 mod Records
 mod LostWithLink
+mod Joined
+mod LostPlaces
+mod Fates
 mod Runs
 mod LaneRuns
 mod GreetingPasses

@@ -27,7 +27,8 @@ use Rattle.hub_lane.specs.declared.answers.Pumped.TheVariants.{Reply, Status, St
 use Rattle.hub_lane.specs.Carrying.{HasPut}
 use Rattle.hub_lane.specs.Hearing.{IsHeardAs, WasReceived}
 use Rattle.hub_lane.specs.Rounds.{PaysOn, RoundFor, Sends}
-use Rattle.hub_lane.specs.Run.{RunsOn}
+use Rattle.hub_lane.specs.Run as ends
+use Rattle.hub_lane.specs.Run.{RunsTo}
 use Rattle.hub_lane.specs.Sends.{HasSent, all_sent}
 use Rattle.hub_lane.specs.Standing.{GoesOn, IsRunning, IsStopped, NoneOpenHanded, StaysUnanswered, Stops}
 use Rattle.hub_lane.specs.PumpLaws.{SendKeepsBodies, SendLeaves}
@@ -38,7 +39,7 @@ use Rattle.hub_lane.proofs.Standing.{sent_running}
 
 -- so far sends went out
 pub record IsSending (before : Option Telling) (old : Hub) (telling : Option Telling) (now : Hub)
-    (faults faults_now quiets quiets_now gots gots_now held held_now : ℕ)
+    (faults faults_now quiets quiets_now gots gots_now number number_now held held_now : ℕ)
     (run run_now : List RunEvent) (passed passed_now : List Passed) : Type 0 where
   pub sent : AreSendable now.sent
   pub queue : AreSendable now.queue
@@ -51,12 +52,13 @@ pub record IsSending (before : Option Telling) (old : Hub) (telling : Option Tel
   pub quiet : quiets_now ≡ quiets
   pub got : gots_now ≡ gots
   pub receive : receives_in passed_now ≡ receives_in passed
+  pub same : number_now ≡ number
   pub hold : held ≤ held_now
   pub pays : PaysOn before old held telling now held_now
   pub round : RoundFor Sends before old held telling now held_now
   pub board : board_of telling ≡ board_of before
   pub put : IfTelling before telling (HasPut old now)
-  pub ran : RunsOn false [] old now run run_now passed passed_now
+  pub ran : RunsTo ends.GoesOn [] old now run run_now passed passed_now
 
 -- the bodies of the hub after a send
 spelled_by : SendKeepsBodies → (old new : Hub) (r : Option Next) → next_send old ≡ r → new ≡ hub_next old r

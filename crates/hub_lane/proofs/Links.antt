@@ -1,7 +1,7 @@
 -- What calls leave of a link, one after another.
 use Rattle.std.proofs.Common.{◌≡◌, ◌∙◌, ap, refl, subst, sym, inl, inr, Bool, true, false, ℕ, ◌≤◌}
 use Rattle.std.proofs.Common.{List, [], ◌∷◌, ◌++◌, Option, Some, None, arith}
-use Rattle.std.specs.Prelude.{Result, Ok, Err, IfSome, OnErr}
+use Rattle.std.specs.Prelude.{Result, Ok, Err, IfErr, IfSome, IsErrAnd, OnErr}
 use Rattle.board_bus.specs.Cells.{CellMap}
 use Rattle.ipb_base.specs.Faults.{Rose}
 use Rattle.ipb_base.specs.Lists.{IsPrefix}
@@ -32,6 +32,16 @@ pub on_any_err : {T E P : Type 0} (r : Result T E) → P → OnErr r P
 on_any_err (Ok x) p = tt
 on_any_err (Err e) p = p
 
+pub on_each_err : {T E : Type 0} {P : E → Type 0} (r : Result T E) → ((fault : E) → P fault) → IfErr r P
+on_each_err (Ok x) p = tt
+on_each_err (Err e) p = p e
+
+-- where the fault is this one
+pub on_that_err : {T E : Type 0} (P : E → Type 0) (r : Result T E) (fault : E) → IsErrAnd r (λ (e : E). e ≡ fault)
+    → P fault → IfErr r P
+on_that_err P (Ok x) fault is p = tt
+on_that_err P (Err e) fault is p = subst P (sym is) p
+
 pub nothing_keeps : {L : Type 0} (seen : Ghosts L) (old new : L) → ReceivesNothing seen old new
     → KeepsCounting seen old new
 nothing_keeps seen old new is = record {
@@ -39,6 +49,7 @@ nothing_keeps seen old new is = record {
   quiets = (let same = is.quiets in omega (arith, same));
   gots = (let same = is.gots in omega (arith, same));
   receives = same_prefix is.receives;
+  number = is.number;
   held = is.held;
   board = is.board;
 }
@@ -54,6 +65,7 @@ keeps_then seen old between new sent is = record {
     is.receives.0,
     is.receives.1 ∙ ap (λ (front : List (Option (List ℕ))). front ++ is.receives.0) sent.receives,
   );
+  number = is.number ∙ sent.number;
   held = (let first = sent.held in let last = is.held in omega (arith, first, last));
   board = is.board ∙ sent.board;
 }
@@ -67,15 +79,16 @@ grows (Err fault) bytes old new is = same_prefix is
 pub received_keeps : {L : Type 0} (seen : Ghosts L) → SameBoard → (result : Result Received LinkFault)
     (bytes : List ℕ) (old new : L) → seen.faults old ≤ seen.faults new → seen.quiets old ≤ seen.quiets new
     → seen.gots old ≤ seen.gots new → seen.traffic new ≡ received_after result bytes (seen.traffic old)
-    → seen.held old ≤ seen.held new
+    → seen.number new ≡ seen.number old → seen.held old ≤ seen.held new
     → IfTelling (seen.telling old) (seen.telling new) (Receives result bytes (seen.held old) (seen.held new))
     → KeepsCounting seen old new
-received_keeps seen law result bytes old new faults quiets gots traffic held call = record {
+received_keeps seen law result bytes old new faults quiets gots traffic number held call = record {
   faults = faults;
   quiets = quiets;
   gots = gots;
   receives = grows result bytes (receives_in (seen.traffic old)) (receives_in (seen.traffic new))
       (one_received result bytes (seen.traffic old) traffic);
+  number = number;
   held = held;
   board = received_board law result bytes (seen.held old) (seen.held new) (seen.telling old) (seen.telling new) call;
 }
@@ -165,6 +178,7 @@ nothing_counted seen link = record {
   quiets = omega arith;
   gots = omega arith;
   receives = same_prefix refl;
+  number = refl;
   held = omega arith;
   board = refl;
 }
@@ -183,6 +197,7 @@ still_as_down seen lane = record {
 pub same_entries : {L : Type 0} {inside old : LaneState L} {items : List Item} → inside ≡ old → items ≡ inside.items
     → let now : LaneState L = record {
       link = inside.link;
+      number = inside.number;
       settings = inside.settings;
       status = inside.status;
       hub = inside.hub;
@@ -197,6 +212,7 @@ pub same_entries : {L : Type 0} {inside old : LaneState L} {items : List Item} �
     now ≡ old
 same_entries {L} {inside} {old} {items} view same = ap (λ (xs : List Item). record {
   link = inside.link;
+  number = inside.number;
   settings = inside.settings;
   status = inside.status;
   hub = inside.hub;

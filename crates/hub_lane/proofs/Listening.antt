@@ -43,6 +43,7 @@ pub record IsListening {L : Type 0} (seen : Ghosts L) (other : ℕ) (old now : L
   pub got : seen.gots now ≡ seen.gots old + other
   pub untold : first_status (receives_in (seen.traffic now)) ≡ None
   pub passed : PassesOthers other (seen.traffic old) (seen.traffic now)
+  pub number : seen.number now ≡ seen.number old
   pub fault : seen.faults old ≤ seen.faults now
   pub hold : seen.held old ≤ seen.held now
 
@@ -63,6 +64,7 @@ listening_first {seen} {link} untold = record {
   got = omega arith;
   untold = untold;
   passed = no_others (seen.traffic link);
+  number = refl;
   fault = omega arith;
   hold = omega arith;
 }
@@ -184,6 +186,7 @@ module _ {L : Type 0} {seen : Ghosts L} {other : ℕ} {old now : L} (so_far : Is
         got = omega (arith, got, gots, few);
         untold = untold;
         passed = one_other so_far.passed passed;
+        number = counts.number ∙ so_far.number;
         fault = omega (arith, fault, faults);
         hold = omega (arith, hold, held);
       }
@@ -199,10 +202,11 @@ module _ {L : Type 0} {seen : Ghosts L} {other : ℕ} {old now : L} (so_far : Is
       let got = so_far.got in other_came settings (omega (arith, got, few, more)) ends told counts faults held passed
 
   -- a last step behind what was counted so far
-  counts_on : (new : L) → seen.faults now ≤ seen.faults new → seen.held now ≤ seen.held new
+  counts_on : (new : L) → seen.faults now ≤ seen.faults new → seen.number new ≡ seen.number now
+      → seen.held now ≤ seen.held new
       → (seen.quiets now ≤ seen.quiets new) × (seen.quiets new ≤ seen.quiets now + 1)
       → (seen.gots now ≤ seen.gots new) × (seen.gots new + other ≤ seen.gots now + 64) → CountsRound seen old new
-  counts_on new faults held quiets gots =
+  counts_on new faults number held quiets gots =
       let fault = so_far.fault in
       let quiet = so_far.quiet in
       let got = so_far.got in
@@ -217,6 +221,7 @@ module _ {L : Type 0} {seen : Ghosts L} {other : ℕ} {old now : L} (so_far : Is
         most_quiets = omega (arith, quiet, most_quiets);
         gots = omega (arith, got, least_gots);
         most_gots = omega (arith, got, most_gots);
+        number = number ∙ so_far.number;
         held = omega (arith, hold, held);
       }
 
@@ -228,7 +233,7 @@ module _ {L : Type 0} {seen : Ghosts L} {other : ℕ} {old now : L} (so_far : Is
       let got = so_far.got in
       let rise = gots_rise heard (seen.gots now) (seen.gots new) (omega (arith, got, few_gots, more)) counts.gots in
       let most = rise.1 in
-      counts_on new faults held
+      counts_on new faults counts.number held
       (quiets_rise heard (seen.quiets now) (seen.quiets new) (omega (arith, quiet, few_quiets)) counts.quiets)
       (rise.0, omega (arith, most, more))
 
@@ -237,12 +242,12 @@ module _ {L : Type 0} {seen : Ghosts L} {other : ℕ} {old now : L} (so_far : Is
   counts_unheard {new} more counts faults held =
       let quiets = counts.quiets in
       let gots = counts.gots in
-      counts_on new faults held (omega (arith, quiets), omega (arith, quiets))
+      counts_on new faults counts.number held (omega (arith, quiets), omega (arith, quiets))
       (omega (arith, gots), omega (arith, gots, more))
 
   pub counts_others : other ≤ 64 → CountsRound seen old now
   counts_others most =
-      counts_on now (omega arith) (omega arith) (omega arith, omega arith) (omega arith, omega (arith, most))
+      counts_on now (omega arith) refl (omega arith) (omega arith, omega arith) (omega arith, omega (arith, most))
 
   -- the board told its status
   pub round_told : (settings : Limits) {heard : Answer} {status : Status} (new : L) → heard ≡ answer.Told status

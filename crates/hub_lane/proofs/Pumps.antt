@@ -30,7 +30,9 @@ use Rattle.hub_lane.specs.Standing.{GoesOn, IsRunning, IsStopped, IsUnanswered, 
 use Rattle.hub_lane.specs.PumpLaws.{GaveUpLaw, LostLaw, MessageSettles, PumpLaws, QuietSettles, RepliedLaw}
 use Rattle.hub_lane.proofs.Datagrams.{heard_after}
 use Rattle.hub_lane.proofs.Exchanges.{IsAfter, IsMid}
-use Rattle.hub_lane.proofs.Exchanges.{event_after, event_late, mid_after, mid_sent, more_give_ups, same_length}
+use Rattle.hub_lane.proofs.Exchanges.{event_after, event_late, event_settles, mid_after, mid_sent, more_give_ups}
+use Rattle.hub_lane.proofs.Exchanges.{same_length}
+use Rattle.hub_lane.proofs.Fates.{Told, told_settled}
 use Rattle.hub_lane.proofs.Lanes.{told_still, up_unanswered}
 use Rattle.hub_lane.proofs.LateAnswers.{HandsOver, late_still, lost_late}
 use Rattle.hub_lane.proofs.Listened.{event_listened, listened_sent, same_answers, same_prefix}
@@ -80,11 +82,12 @@ lane_received late message replied quiet gave_up settings status hub mid new byt
     (subst (λ (q : ℕ). IsAfter settings status (after_handing_out (hub_after pumped bytes mid)) items outcomes
     (put_all (hub_after pumped bytes mid).fates outcomes)
     (give_ups_of pumped (hub_after pumped bytes mid) give_ups) q) (sym quiets_are) done))) in
-    let hands = subst (λ (h : Hub). HandsOver outcomes_now lates lates_now h) (sym hub_is)
-    (subst (λ (os : List (Option Outcome)). HandsOver os lates lates_now (after_handing_out (hub_after pumped bytes mid)))
+    let event_is = hub_after pumped bytes mid in
+    let hands = subst (λ (h : Hub). HandsOver event_is outcomes_now lates lates_now h) (sym hub_is)
+    (subst (λ (os : List (Option Outcome)). HandsOver event_is os lates lates_now (after_handing_out event_is))
     (sym outcomes_are)
-    (subst (λ (ls : List (Option (List ℕ))). HandsOver (put_all (hub_after pumped bytes mid).fates outcomes) lates ls
-    (after_handing_out (hub_after pumped bytes mid))) (sym lates_are)
+    (subst (λ (ls : List (Option (List ℕ))). HandsOver event_is (put_all event_is.fates outcomes) lates ls
+    (after_handing_out event_is)) (sym lates_are)
     (event_late late message quiet mid bytes pumped items outcomes lates bodies quiet_bodies event at.ready at.agrees
     (late_still hub mid outcomes lates at.ready.drained at.account is.late)))) in
     record {
@@ -374,6 +377,25 @@ module _ (laws : PumpLaws) {settings : Limits} {status : BoardStatus} {hub : Hub
       (⊎_elim (λ (goes : StaysUnanswered telling hub telling_now mid). inl goes)
       (λ (waits : is_waiting hub ≡ true). inr (at.same.waits ∙ waits)) stays)
       more same_give_ups same_outcomes same_lates same_board is_up)
+
+  -- what the event told stands among the outcomes and the late answers
+  pub pump_told : (bytes : List ℕ) (pumped : Pumped) {outcomes_now : List (Option Outcome)}
+      {lates_now : List (Option (List ℕ))} → IsEventAs (all_sent hub) bytes pumped
+      → outcomes_now ≡ put_all (hub_after pumped bytes (all_sent hub)).fates outcomes
+      → lates_now ≡ put_lates (hub_after pumped bytes (all_sent hub)).lates lates
+      → Told (hub_after pumped bytes (all_sent hub)).fates (hub_after pumped bytes (all_sent hub)).lates outcomes
+      outcomes_now lates lates_now
+  pump_told bytes pumped event outcomes_are lates_are =
+      let mid = all_sent hub in
+      let at = at_mid mid (record { count = pending hub; sends = refl }) in
+      let hands = event_late laws.late laws.message laws.quiet mid bytes pumped items outcomes lates
+      (λ message. laws.message_bodies (length outcomes) mid message at.ready.bodies)
+      (laws.quiet_bodies (length outcomes) mid at.ready.bodies) event at.ready at.agrees
+      (late_still hub mid outcomes lates at.ready.drained at.account is_up.late) in
+      let some = event_settles laws.message laws.quiet mid bytes pumped (claims items) outcomes event at.ready
+      at.agrees in
+      told_settled (hub_after pumped bytes mid) (claims items) some.kind some.most some.settles hands.keeps hands.there
+      outcomes_are lates_are
 
   pub pump_heard : (bytes : List ℕ) (pumped : Pumped) {outcomes_now : List (Option Outcome)} (gots : ℕ) {gots_now : ℕ}
       → IsEventAs (all_sent hub) bytes pumped

@@ -1,5 +1,5 @@
 -- The record of a lane tells the lane.
-use Rattle.std.proofs.Common.{◌≡◌, List, [], ◌∷◌, map, Option, refl, ap, ◌∙◌}
+use Rattle.std.proofs.Common.{◌≡◌, ℕ, List, [], ◌∷◌, map, Option, refl, ap, ◌∙◌}
 use Rattle.turn_pass.specs.Record.{Record}
 use Rattle.world_model.specs.Settings.{Limits}
 use Rattle.links.specs.Telling.{Telling}
@@ -29,16 +29,19 @@ limits_in head = record { rounds = head.rounds; window = head.window }
 abbrev status_in : Head → BoardStatus
 status_in head = record { mtu = head.mtu; buffers = head.buffers; next = head.first }
 
-pub told_by_record : HeadLaw → EntryLaw → (settings other_settings : Limits) (status other_status : BoardStatus)
-    (telling other_telling : Option Telling) (items other_items : List Item)
-    → record_shown settings status telling items ≡ record_shown other_settings other_status other_telling other_items
+pub told_by_record : HeadLaw → EntryLaw → (number other_number : ℕ) (settings other_settings : Limits)
+    (status other_status : BoardStatus) (telling other_telling : Option Telling) (items other_items : List Item)
+    → record_shown number settings status telling items
+    ≡ record_shown other_number other_settings other_status other_telling other_items
     → (settings ≡ other_settings) × (status ≡ other_status) × (opening_of telling ≡ opening_of other_telling)
-    × (items ≡ other_items)
-told_by_record heads entries settings other_settings status other_status telling other_telling items other_items e =
-    let head = heads (head_of settings status telling) (head_of other_settings other_status other_telling)
+    × (items ≡ other_items) × (number ≡ other_number)
+told_by_record heads entries number other_number settings other_settings status other_status telling other_telling items
+    other_items e =
+    let head = heads (head_of number settings status telling) (head_of other_number other_settings other_status other_telling)
     (ap (λ (r : Record). r.head) e) in (
       ap limits_in head,
       ap status_in head,
       ap (λ (h : Head). h.opening) head,
       same_items entries items other_items (ap (λ (r : Record). r.entries) e),
+      ap (λ (h : Head). h.link) head,
     )

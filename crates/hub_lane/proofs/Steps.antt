@@ -149,6 +149,7 @@ pumped_in_vain {L} old new telling before now LinkDown k q q' g g' p a none quie
 
 pub same_record : {L : Type 0} (old new : LaneState L) → new ≡ old → IsSameRecord old new
 same_record {L} old new e = record {
+  number = ap (λ (l : LaneState L). l.number) e;
   settings = ap (λ (l : LaneState L). l.settings) e;
   status = ap (λ (l : LaneState L). l.status) e;
   items = ap (λ (l : LaneState L). l.items) e;

@@ -66,6 +66,7 @@ OffersAs old client new asks.Nothing = (new ≡ old) × (asked_count client old.
 
 -- no entry is added, and what became of an Ask stays, and what came late
 pub record IsSameRecord {L : Type 0} (old new : LaneState L) : Type 0 where
+  pub number : new.number ≡ old.number
   pub settings : new.settings ≡ old.settings
   pub status : new.status ≡ old.status
   pub items : new.items ≡ old.items
@@ -104,10 +105,15 @@ pub record IsSpent {L : Type 0} (old new : LaneState L) : Type 0 where
   pub give_ups : new.give_ups ≡ old.give_ups
   pub down : new.down ≡ old.down
 
--- a lane that has stopped stays as it was; any other one sends all, or goes down, or is spent
+-- a lane that has stopped, or on which nobody waits for a body, sends nothing
+abbrev pub HasNoSends : {L : Type 0} → LaneState L → Type 0
+HasNoSends lane = (has_stopped lane ≡ true) ⊎ (is_waiting lane.hub ≡ false)
+
+-- such a lane stays as it was; any other one sends all, or goes down, or is spent
 abbrev pub SendsAs : {L : Type 0} → LaneState L → LaneState L → Type 0
-SendsAs old new = ((has_stopped old ≡ true) × (new ≡ old))
-    ⊎ ((has_stopped old ≡ false) × (SendsAll old new ⊎ GoesDown old new ⊎ IsSpent old new))
+SendsAs old new = (HasNoSends old × (new ≡ old))
+    ⊎ ((has_stopped old ≡ false) × (is_waiting old.hub ≡ true)
+    × (SendsAll old new ⊎ GoesDown old new ⊎ IsSpent old new))
 
 -- the client's next body was asked, and then the lane sent
 pub record Asks {L : Type 0} (old : LaneState L) (client seq : ℕ) (new : LaneState L) : Type 0 where

@@ -105,15 +105,17 @@ gots_of_answer (answer.Told status) count = one_more count
 gots_of_answer answer.Nothing count = count
 gots_of_answer answer.Other count = one_more count
 
--- a receive that came to this is counted
+-- a receive that came to this is counted; the link has the same number
 pub record CountsAnswer {L : Type 0} (seen : Ghosts L) (heard : Answer) (old new : L) : Type 0 where
   pub quiets : seen.quiets new ≡ quiets_of_answer heard (seen.quiets old)
   pub gots : seen.gots new ≡ gots_of_answer heard (seen.gots old)
+  pub number : seen.number new ≡ seen.number old
 
 -- a receive that failed is not
 pub record CountsNoAnswer {L : Type 0} (seen : Ghosts L) (old new : L) : Type 0 where
   pub quiets : seen.quiets new ≡ seen.quiets old
   pub gots : seen.gots new ≡ seen.gots old
+  pub number : seen.number new ≡ seen.number old
 
 abbrev pub IfNothing : Answer → Type 0 → Type 0
 IfNothing (answer.Told status) P = Unit {0}
@@ -149,13 +151,15 @@ abbrev pub IfNotTold : Option Status → Type 0 → Type 0
 IfNotTold None P = P
 IfNotTold (Some status) P = Unit {0}
 
--- No count of the link fell in a round; one receive at most was quiet, and no more others came than a round hears.
+-- No count of the link fell in a round; one receive at most was quiet, and no more others came than a round hears. The link
+-- has the same number.
 pub record CountsRound {L : Type 0} (seen : Ghosts L) (old new : L) : Type 0 where
   pub faults : seen.faults old ≤ seen.faults new
   pub quiets : seen.quiets old ≤ seen.quiets new
   pub most_quiets : seen.quiets new ≤ seen.quiets old + 1
   pub gots : seen.gots old ≤ seen.gots new
   pub most_gots : seen.gots new ≤ seen.gots old + most_others
+  pub number : seen.number new ≡ seen.number old
   pub held : seen.held old ≤ seen.held new
 
 -- What a round that did not fail leaves of its link: the status came in a datagram, which was the last one; or none of

@@ -40,12 +40,13 @@ pub record HasToldStatus (status : BoardStatus) (board : Board) : Type 0 where
   pub buffers : status.buffers ≡ board.buffers
   pub next : status.next ≡ board.first
 
--- A lane: its link, the settings and the status told at the greeting, its engine's hub, its record, what became of each
+-- A lane: its link and the number of that among the links of its rack, the settings and the status told at the greeting, its engine's hub, its record, what became of each
 -- Ask in order, what came late at each place from 1 on (one for each Ask, so there is room for every place), how often
 -- it gave up, the events of its engine since the greeting, in order, whether its link failed, and whether it ran out of
 -- memory in a pump.
 pub record LaneState (L : Type 0) : Type 0 where
   pub link : L
+  pub number : ℕ
   pub settings : Limits
   pub status : BoardStatus
   pub hub : Hub
@@ -136,10 +137,11 @@ pub record IsGreeted (settings : Limits) (status : BoardStatus) (t : Telling) : 
   pub in_air : AreInAir t
   pub told : HasToldStatus status t.told.board
 
--- a lane before its first entry
-abbrev pub new_lane : {L : Type 0} → L → Limits → BoardStatus → LaneState L
-new_lane link settings status = record {
+-- a lane before its first entry, over a link with this number
+abbrev pub new_lane : {L : Type 0} → ℕ → L → Limits → BoardStatus → LaneState L
+new_lane number link settings status = record {
   link = link;
+  number = number;
   settings = settings;
   status = status;
   hub = new_hub status.next (min settings.window status.buffers) settings.rounds;

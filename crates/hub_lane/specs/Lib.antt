@@ -19,6 +19,7 @@ pub mod Records
 pub mod Below
 pub mod Step
 pub mod PumpLaws
+pub mod Fates
 pub mod Run
 pub mod RunLogs
 pub mod RunLaws

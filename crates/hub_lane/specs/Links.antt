@@ -10,21 +10,23 @@ use Rattle.hub_lane.specs.declared.answers.Pumped.{Pumped}
 use Rattle.hub_lane.specs.Hearing.{gots_of, quiets_of, receives_of}
 use Rattle.hub_lane.specs.Lanes.{LaneState, board_of}
 
--- No count fell, nothing that was received is forgotten, and the board is the same.
+-- No count fell, nothing that was received is forgotten, and the number and the board are the same.
 pub record KeepsCounting {L : Type 0} (seen : Ghosts L) (old new : L) : Type 0 where
   pub faults : seen.faults old ≤ seen.faults new
   pub quiets : seen.quiets old ≤ seen.quiets new
   pub gots : seen.gots old ≤ seen.gots new
   pub receives : IsPrefix (receives_in (seen.traffic old)) (receives_in (seen.traffic new))
+  pub number : seen.number new ≡ seen.number old
   pub held : seen.held old ≤ seen.held new
   pub board : board_of (seen.telling new) ≡ board_of (seen.telling old)
 
--- Nothing was received. What was sent may have failed or been held, and the board is the same.
+-- Nothing was received. What was sent may have failed or been held, and the number and the board are the same.
 pub record ReceivesNothing {L : Type 0} (seen : Ghosts L) (old new : L) : Type 0 where
   pub faults : seen.faults old ≤ seen.faults new
   pub quiets : seen.quiets new ≡ seen.quiets old
   pub gots : seen.gots new ≡ seen.gots old
   pub receives : receives_in (seen.traffic new) ≡ receives_in (seen.traffic old)
+  pub number : seen.number new ≡ seen.number old
   pub held : seen.held old ≤ seen.held new
   pub board : board_of (seen.telling new) ≡ board_of (seen.telling old)
 
@@ -55,4 +57,5 @@ pub record ShowsTheSame {L : Type 0} (seen : Ghosts L) (old new : L) : Type 0 wh
   pub quiets : seen.quiets new ≡ seen.quiets old
   pub gots : seen.gots new ≡ seen.gots old
   pub traffic : seen.traffic new ≡ seen.traffic old
+  pub number : seen.number new ≡ seen.number old
   pub held : seen.held new ≡ seen.held old

@@ -18,7 +18,8 @@ use turn_pass::Chronicle;
 impl<L: Link> Chronicle for Lane<L> {
     ghost use Rattle.hub_lane.specs.Records.{record_shown};
 
-    ghost entries = { λ lane. record_shown lane.settings lane.status (L.telling lane.link) lane.items };
+    ghost entries = { λ lane.
+        record_shown lane.number lane.settings lane.status (L.telling lane.link) lane.items };
 
     fn count(&self) -> u64 {
         self.entries().len() as u64

@@ -1,7 +1,7 @@
 //! A hub over any link: what it sends, what it hears, and what that settles.
 
 ghost use Rattle.std.specs.Prelude.{◌≡◌, ◌≤◌, ◌<◌, ◌+◌, ◌^◌, ℕ, true, false, [], None, Some, length, OnOk, OnErr, IfOk};
-ghost use Rattle.std.specs.Prelude.{IfSome, Err};
+ghost use Rattle.std.specs.Prelude.{IfErr, IfSome, Err};
 ghost use Rattle.packet_ids.specs.Identifier.{identifier_at};
 ghost use Rattle.reliable_engine.specs.Answers.{body_count};
 ghost use Rattle.world_model.specs.Messages.{Reply as ReplyTo, StatusReply, to_hub};
@@ -15,9 +15,10 @@ ghost use Rattle.links.specs.Messages.{IsWritable};
 ghost use Rattle.links.specs.Telling.{IfTelling};
 ghost use Rattle.hub_lane.specs.Carrying.{HasPut};
 ghost use Rattle.hub_lane.specs.Exchange.{FailsUnheard, Hears, Settles, SettlesNothing, TellsExchange, TellsReceive};
-ghost use Rattle.hub_lane.specs.Hearing.{IsHeardAs};
+ghost use Rattle.hub_lane.specs.Hearing.{IsHeardAs, hub_after};
 ghost use Rattle.hub_lane.specs.Links.{CountsFaults, KeepsCounting, ReceivesNothing, ReceivesOnce};
-ghost use Rattle.hub_lane.specs.Run.{IsUnheard, RunsOn, passed_of};
+ghost use Rattle.hub_lane.specs.Run.{IsUnheard, RunsTo, ending_by, passed_of};
+ghost use Rattle.hub_lane.specs.Run as ends;
 ghost use Rattle.hub_lane.specs.Sends.{HasSent, all_sent};
 ghost use Rattle.hub_lane.specs.Rounds.{PaysOn, PaysRounds, RoundFor, Sends};
 ghost use Rattle.hub_lane.specs.Standing.{GoesOn, IsRunning, StaysUnanswered, Stops};
@@ -74,10 +75,11 @@ pub(crate) fn exchange<L: Link>(
     ensures counts { KeepsCounting L.Link link.old link.new }
     ensures received { IfOk result (λ pumped. ReceivesOnce L.Link pumped buffer.new.items link.old link.new) }
     ensures faults { CountsFaults L.Link result link.old link.new }
-    ensures ran { OnOk result (RunsOn false [] hub.old hub.new run.old run.new (L.traffic link.old)
+    ensures ran { IfOk result (λ pumped. RunsTo ends.GoesOn [] hub.old
+        (hub_after pumped buffer.new.items (all_sent hub.old)) run.old run.new (L.traffic link.old)
         (L.traffic link.new)) }
-    ensures cut { OnErr result (RunsOn true [] hub.old hub.new run.old run.new (L.traffic link.old)
-        (L.traffic link.new)) }
+    ensures cut { IfErr result (λ fault. RunsTo (ending_by fault) [] hub.old hub.new run.old run.new
+        (L.traffic link.old) (L.traffic link.new)) }
 {
     a_send_leaves_the_fates();
     each_event_leads_to_a_state_of_a_run();
@@ -114,10 +116,10 @@ pub(crate) fn send_all<L: Link>(
     ensures unreceived { ReceivesNothing L.Link link.old link.new }
     ensures faults { CountsFaults L.Link result link.old link.new }
     ensures put { OnOk result (IfTelling (L.telling link.old) (L.telling link.new) (HasPut hub.old hub.new)) }
-    ensures ran { OnOk result (RunsOn false [] hub.old hub.new run.old run.new (L.traffic link.old)
+    ensures ran { OnOk result (RunsTo ends.GoesOn [] hub.old hub.new run.old run.new (L.traffic link.old)
         (L.traffic link.new)) }
-    ensures cut { OnErr result (RunsOn true [] hub.old hub.new run.old run.new (L.traffic link.old)
-        (L.traffic link.new)) }
+    ensures cut { IfErr result (λ fault. RunsTo (ending_by fault) [] hub.old hub.new run.old run.new
+        (L.traffic link.old) (L.traffic link.new)) }
 {
     a_send_leaves_the_fates();
     draining_ends();
@@ -171,7 +173,7 @@ fn receive<L: Link>(
     ensures received { IfOk result (λ pumped. ReceivesOnce L.Link pumped buffer.new.items link.old link.new) }
     ensures faults { CountsFaults L.Link result link.old link.new }
     ensures passed { IfOk result (λ pumped. L.traffic link.new ≡ passed_of pumped buffer.new.items (L.traffic link.old)) }
-    ensures lost { OnErr result (IsUnheard (L.traffic link.old) (L.traffic link.new)) }
+    ensures lost { IfErr result (λ fault. IsUnheard fault (L.traffic link.old) (L.traffic link.new)) }
 {
     each_event_leads_to_a_state_of_a_run();
     laws_of_rounds();

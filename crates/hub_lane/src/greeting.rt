@@ -16,7 +16,8 @@ ghost use Rattle.hub_lane.specs.Greeting.{IfSilent, IfTold, IsDatagram, IsHeardF
 ghost use Rattle.hub_lane.specs.Greeting.{IsWithinRounds, StaysFresh, link_of, status_in};
 ghost use Rattle.hub_lane.specs.Heard.{EndWith, EndsWithStatus};
 ghost use Rattle.hub_lane.specs.Lanes.{IsGreeted, new_lane, status_of};
-ghost use Rattle.hub_lane.specs.Run.{IsGreetingOf, PassesAnswer, PassesHeard, PassesRound};
+ghost use Rattle.hub_lane.specs.Run.{AreVainRounds, IsGreetingCutOff, IsGreetingOf, PassesAnswer, PassesHeard};
+ghost use Rattle.hub_lane.specs.Run.{PassesNoneYet, PassesRound, PassesRoundCutOff};
 
 use crate::lane::Lane;
 use links::{Link, LinkFault, Received};
@@ -63,7 +64,7 @@ impl<L: Link> Lane<L> {
         requires unused { IsUnused L.Link link }
         requires begins { IfSome (L.telling link) (CanBegin settings) }
         ensures fresh { IfTelling (L.telling link) (L.telling (link_of result)) (StaysFresh settings) }
-        ensures ready { IfReady result (λ lane. lane ≡ new_lane lane.link settings lane.status) }
+        ensures ready { IfReady result (λ lane. lane ≡ new_lane (L.number lane.link) lane.link settings lane.status) }
         ensures told { IfReady result (λ lane. IfSome (L.telling lane.link) (IsGreeted settings lane.status)) }
         ensures first { IfReady result (λ lane. EndsWithDatagram L.Link lane.status lane.link) }
         ensures none_told { IfSilent result (λ link rounds. first_status (receives_in (L.traffic link)) ≡ None) }
@@ -75,12 +76,16 @@ impl<L: Link> Lane<L> {
         // All that a link that tells hands out in a greeting are status replies of its board.
         ensures silent_heard { IfSilent result (λ after rounds.
             IfTelling (L.telling link) (L.telling after) HandedOutNone) }
+        // A board that told no status was sent its status requests and nothing else.
+        ensures silent_asked { IfSilent result (λ after rounds. AreVainRounds settings.rounds (L.traffic after)) }
+        ensures down_asked { IfDown result (λ after. IsGreetingCutOff settings.rounds (L.traffic after)) }
         // The board is asked once a round: for each quiet receive, and once more.
         ensures asked { IfTelling (L.telling link) (L.telling (link_of result))
             (HasAskedAtMost (L.quiets (link_of result) + 1)) }
         ensures most { IsWithinRounds L.Link settings.rounds (link_of result) }
         ensures down { IfDown result (λ after. Rose (L.faults link) (L.faults after)) }
         ensures faults { L.faults link ≤ L.faults (link_of result) }
+        ensures number { L.number (link_of result) ≡ L.number link }
     {
         let mut link = link;
         let mut buffer = Vec::new(alloc);
@@ -103,7 +108,7 @@ fn begin<L: Link>(alloc: Global, link: L, settings: Settings, status: Status) ->
     requires first { EndsWithStatus (status_of status) (receives_in (L.traffic link)) }
     requires passed { IsGreetingOf settings.rounds (status_of status) (L.traffic link) }
     ensures same { link_of result ≡ link }
-    ensures ready { IfReady result (λ lane. lane ≡ new_lane link settings (status_of status)) }
+    ensures ready { IfReady result (λ lane. lane ≡ new_lane (L.number link) link settings (status_of status)) }
     ensures silent { IfSilent result (λ link rounds. ⊥) }
     ensures down { IfDown result (λ link. ⊥) }
 {
@@ -132,10 +137,13 @@ fn ask_for_status<L: Link>(
     ensures receives { IfOk result (λ found. EndWith found (receives_in (L.traffic link.new))) }
     ensures passed { IfOk result (λ found. IfSome found
         (λ status. IsGreetingOf settings.rounds (status_of status) (L.traffic link.new))) }
+    ensures in_vain { IfOk result (λ found. IfNotTold found (AreVainRounds settings.rounds (L.traffic link.new))) }
+    ensures cut_off { OnErr result (IsGreetingCutOff settings.rounds (L.traffic link.new)) }
     ensures none_told { OnErr result (first_status (receives_in (L.traffic link.new)) ≡ None) }
     ensures asked { IfTelling (L.telling link.old) (L.telling link.new)
         (HasAskedAtMost (L.quiets link.new + 1)) }
     ensures most { IsWithinRounds L.Link settings.rounds link.new }
+    ensures number { L.number link.new ≡ L.number link.old }
     ensures failed { result ≡ Err LinkFault.Failed → Rose (L.faults link.old) (L.faults link.new) }
     ensures faults { L.faults link.old ≤ L.faults link.new }
 {
@@ -163,6 +171,7 @@ fn ask_once<L: Link>(
         (EndsAskingWith settings (L.quiets link.old) (L.quiets link.new) (L.held link.old) (L.held link.new) found)) }
     ensures ended { IfOk result (λ found. EndsRound L.Link found link.old link.new) }
     ensures passed { IfOk result (λ found. PassesRound found (L.traffic link.old) (L.traffic link.new)) }
+    ensures cut_off { OnErr result (PassesRoundCutOff (L.traffic link.old) (L.traffic link.new)) }
     ensures none_told { OnErr result (first_status (receives_in (L.traffic link.new)) ≡ None) }
     ensures counts { CountsRound L.Link link.old link.new }
     ensures failed { result ≡ Err LinkFault.Failed → Rose (L.faults link.old) (L.faults link.new) }
@@ -189,6 +198,7 @@ fn listen<L: Link>(
         (EndsRoundWith settings (L.quiets link.old) (L.quiets link.new) (L.held link.old) (L.held link.new) found)) }
     ensures ended { IfOk result (λ found. EndsRound L.Link found link.old link.new) }
     ensures passed { IfOk result (λ found. PassesHeard found (L.traffic link.old) (L.traffic link.new)) }
+    ensures cut_off { OnErr result (PassesNoneYet (L.traffic link.old) (L.traffic link.new)) }
     ensures none_told { OnErr result (first_status (receives_in (L.traffic link.new)) ≡ None) }
     ensures counts { CountsRound L.Link link.old link.new }
     ensures failed { result ≡ Err LinkFault.Failed → Rose (L.faults link.old) (L.faults link.new) }
@@ -215,6 +225,7 @@ fn hear_once<L: Link>(
     ensures asked { IfTelling (L.telling link.old) (L.telling link.new) HasAskedNothing }
     ensures receives { IfOk result (λ heard. EndWith (status_in heard) (receives_in (L.traffic link.new))) }
     ensures passed { IfOk result (λ heard. PassesAnswer heard (L.traffic link.old) (L.traffic link.new)) }
+    ensures cut_off { OnErr result (L.traffic link.new ≡ L.traffic link.old) }
     ensures none_told { OnErr result (first_status (receives_in (L.traffic link.new)) ≡ None) }
     ensures told { IfOk result (λ heard. IfTelling (L.telling link.old) (L.telling link.new)
         (IsHeardFrom settings (L.held link.old) (L.held link.new) heard)) }

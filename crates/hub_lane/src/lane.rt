@@ -80,6 +80,7 @@ impl<L: Link> Model for Lane<L> {
 
     ghost view = { λ l. record {
       link = l.link;
+      number = L.number l.link;
       settings = l.settings;
       status = record { mtu = l.mtu; buffers = l.buffers; next = l.first };
       hub = l.engine;
@@ -102,7 +103,7 @@ impl<L: Link> Model for Lane<L> {
         × HasListened (record { mtu = l.mtu; buffers = l.buffers; next = l.first }) l.engine l.outcomes.items
         l.outcomes.lates l.give_ups (receives_in (L.traffic l.link))
         × HasRun l.settings (record { mtu = l.mtu; buffers = l.buffers; next = l.first }) l.engine l.book.items
-        l.down l.spent l.run (L.traffic l.link) };
+        l.outcomes.items l.outcomes.lates l.down l.spent l.run (L.traffic l.link) };
 }
 
 impl<L: Link> Lane<L> {
@@ -144,12 +145,13 @@ impl<L: Link> Lane<L> {
     }
 
     /// What passed over the link of a lane, whether it tells or not: the greeting, and then the machine's run from a hub
-    /// that knows the board to the hub that the lane has, whose offers are the bodies of the Asks in order. Where the
-    /// link failed or memory ran out its last send may be missing, or its last datagram unheard. It does nothing when it
-    /// runs.
+    /// that knows the board to the hub that the lane has, whose offers are the bodies of the Asks in order. What the
+    /// lane shows of each body is its fate in that run, and what it shows late came late there. Where the link failed or
+    /// memory ran out its last send may be missing; where memory ran out, its last datagram may be unheard. It does
+    /// nothing when it runs.
     pub fn has_run(&self)
-        ensures { HasRun self.now.settings self.now.status self.now.hub self.now.items self.now.down self.now.spent
-            self.now.run (L.traffic self.now.link) }
+        ensures { HasRun self.now.settings self.now.status self.now.hub self.now.items self.now.outcomes
+            self.now.lates self.now.down self.now.spent self.now.run (L.traffic self.now.link) }
     {
         let _run = &self.run;
     }
@@ -165,7 +167,7 @@ impl<L: Link> Lane<L> {
         requires heard { 1 ≤ L.gots link }
         requires first { EndsWithStatus (status_of status) (receives_in (L.traffic link)) }
         requires passed { IsGreetingOf settings.rounds (status_of status) (L.traffic link) }
-        ensures made { IfOk result (λ lane. lane ≡ new_lane link settings (status_of status)) }
+        ensures made { IfOk result (λ lane. lane ≡ new_lane (L.number link) link settings (status_of status)) }
         ensures given_back { IfErr result (λ back. back ≡ link) }
     {
         let Ok(book) = Book::new(alloc) else {
@@ -255,7 +257,8 @@ impl<L: Link> Lane<L> {
 
     /// The link, given back.
     pub fn close(self) -> L
-        ensures { result ≡ self.link }
+        ensures link { result ≡ self.link }
+        ensures number { L.number result ≡ self.number }
     {
         self.link
     }
@@ -347,8 +350,8 @@ impl<L: Link> Lane<L> {
     }
 
     /// Sends what the engine wants to be sent, in its order, and receives nothing. A lane whose link failed, or that is
-    /// spent, sends nothing. Where the link fails in a send, every body that has no outcome is lost. Where memory runs
-    /// out in one, the lane is spent: it never pumps again.
+    /// spent, or on which nobody waits for a body, sends nothing. Where the link fails in a send, every body that has no
+    /// outcome is lost. Where memory runs out in one, the lane is spent: it never pumps again.
     pub fn send_wanted(&mut self)
         ensures sends { SendsAs self.old self.new }
         ensures same { IsSameRecord self.old self.new }
@@ -365,6 +368,9 @@ impl<L: Link> Lane<L> {
         }
         if self.down {
             return;
+        }
+        if !self.engine.waiting() {
+            return; // so memory runs out only where somebody waits
         }
         laws_of_pumps();
         laws_of_rounds();

@@ -77,14 +77,15 @@ pub fn a_finished_lane_is_whole()
 }
 
 /// The record of a lane, as whoever hands lanes on sees it, tells the settings, the status that the board told, the bus
-/// with which the board of a link that tells opened, and the entries: lanes with the same record have all these alike.
+/// with which the board of a link that tells opened, the entries, and the number of the link: lanes with the same record
+/// have all these alike.
 pub fn a_record_tells_its_lane()
-    ensures { (settings other_settings : Limits) (status other_status : BoardStatus)
+    ensures { (number other_number : ℕ) (settings other_settings : Limits) (status other_status : BoardStatus)
         (telling other_telling : Option Telling) (items other_items : List Item)
-        → record_shown settings status telling items
-        ≡ record_shown other_settings other_status other_telling other_items
+        → record_shown number settings status telling items
+        ≡ record_shown other_number other_settings other_status other_telling other_items
         → (settings ≡ other_settings) × (status ≡ other_status) × (opening_of telling ≡ opening_of other_telling)
-        × (items ≡ other_items) }
+        × (items ≡ other_items) × (number ≡ other_number) }
 {
     a_head_is_spelled_by_numbers();
     an_entry_is_spelled_by_numbers();

@@ -162,7 +162,7 @@ module _ {L : Type 0} (telling : L → Option Telling) where
       → Means client (shown_record telling old) (λ k. StepMeans k answer) (shown_record telling new)
   step_means old new client answer own legal opening s = let same = steps_same old new client answer s in
       steps_of client (shown_record telling old) (shown_record telling new)
-      (shown_of old new own legal (same_head telling old new same.0 same.1 opening)) answer
+      (shown_of old new own legal (same_head telling old new same.0 same.1 same.2 opening)) answer
       (steps_on old new client answer s)
 
   -- no entry was added
@@ -173,7 +173,7 @@ module _ {L : Type 0} (telling : L → Option Telling) where
       → Means client (shown_record telling old) (λ _. IsNone) (shown_record telling new)
   look_means old new client own legal opening s =
       looked client (shown_record telling old) (shown_record telling new) (shown_of old new own legal
-      (same_head telling old new s.settings s.status opening)) s.items
+      (same_head telling old new s.number s.settings s.status opening)) s.items
 
   pub same_means : (old new : LaneState L) (client : ℕ)
       → ((k : Knowledge) → Told k (shown_record telling old) → own_items k ≡ of_client k.number old.items)
@@ -208,4 +208,5 @@ module _ {L : Type 0} (telling : L → Option Telling) where
   -- what a lane shows stays where its head and its entries do
   pub shown_same : (old new : LaneState L) → opening_of (telling new.link) ≡ opening_of (telling old.link)
       → IsSameRecord old new → shown_record telling new ≡ shown_record telling old
-  shown_same old new opening s = (λ i. record_of (same_head telling old new s.settings s.status opening i) (s.items i))
+  shown_same old new opening s =
+      (λ i. record_of (same_head telling old new s.number s.settings s.status opening i) (s.items i))

@@ -24,21 +24,23 @@ IsPlanLaw = (items : List Item) (outcomes : List (Option Outcome)) (client seq :
 
 module _ {L : Type 0} (telling : L → Option Telling) where
   abbrev pub head : LaneState L → Head
-  head lane = head_of lane.settings lane.status (telling lane.link)
+  head lane = head_of lane.number lane.settings lane.status (telling lane.link)
 
-  pub same_head : (old new : LaneState L) → new.settings ≡ old.settings → new.status ≡ old.status
-      → opening_of (telling new.link) ≡ opening_of (telling old.link) → head new ≡ head old
-  same_head old new settings status opening = λ i. record {
+  pub same_head : (old new : LaneState L) → new.number ≡ old.number → new.settings ≡ old.settings
+      → new.status ≡ old.status → opening_of (telling new.link) ≡ opening_of (telling old.link) → head new ≡ head old
+  same_head old new number settings status opening = λ i. record {
     rounds = (settings i).rounds;
     window = (settings i).window;
     mtu = (status i).mtu;
     buffers = (status i).buffers;
     first = (status i).next;
+    link = number i;
     opening = opening i;
   }
 
   -- what an Ask leaves of a lane, before the lane sends
   record Offered (old asked : LaneState L) (client seq : ℕ) : Type 0 where
+    number : asked.number ≡ old.number
     settings : asked.settings ≡ old.settings
     status : asked.status ≡ old.status
     items : asked.items ≡ old.items ++ ask_of client seq old.give_ups ∷ []
@@ -47,11 +49,13 @@ module _ {L : Type 0} (telling : L → Option Telling) where
       → asked ≡ (if b then asked_in_vain old client seq else with_offer old client seq body)
       → Offered old asked client seq
   offered_either old asked client seq body true e = record {
+    number = ap (λ (l : LaneState L). l.number) e;
     settings = ap (λ (l : LaneState L). l.settings) e;
     status = ap (λ (l : LaneState L). l.status) e;
     items = ap (λ (l : LaneState L). l.items) e;
   }
   offered_either old asked client seq body false e = record {
+    number = ap (λ (l : LaneState L). l.number) e;
     settings = ap (λ (l : LaneState L). l.settings) e;
     status = ap (λ (l : LaneState L). l.status) e;
     items = ap (λ (l : LaneState L). l.items) e;
@@ -67,7 +71,8 @@ module _ {L : Type 0} (telling : L → Option Telling) where
       → head new ≡ head old
   ask_head old new client (asks.Asked seq) opening a =
       let offers = offered_by old new client seq a in
-      same_head old new (a.same.settings ∙ offers.settings) (a.same.status ∙ offers.status) opening
+      same_head old new (a.same.number ∙ offers.number) (a.same.settings ∙ offers.settings)
+      (a.same.status ∙ offers.status) opening
   ask_head old new client asks.Nothing opening a = ap head a.0
 
   pub asks_on : IsPlanLaw → (old new : LaneState L) (client : ℕ) (answer : Asked) → IsLegal old.items old.outcomes
@@ -81,17 +86,17 @@ module _ {L : Type 0} (telling : L → Option Telling) where
   asks_on law old new client asks.Nothing legal a = (a.1, ap (λ (l : LaneState L). l.items) a.0)
 
 pub steps_same : {L : Type 0} (old new : LaneState L) (client : ℕ) (answer : Stepped) → StepsAs old client new answer
-    → (new.settings ≡ old.settings) × (new.status ≡ old.status)
+    → (new.number ≡ old.number) × (new.settings ≡ old.settings) × (new.status ≡ old.status)
 steps_same {L} old new client (steps.Ready outcome) s = (
-  ap (λ (l : LaneState L). l.settings) s.takes.entry
-      ∙ s.same.settings,
+  ap (λ (l : LaneState L). l.number) s.takes.entry ∙ s.same.number,
+  ap (λ (l : LaneState L). l.settings) s.takes.entry ∙ s.same.settings,
   ap (λ (l : LaneState L). l.status) s.takes.entry ∙ s.same.status,
 )
-steps_same old new client (steps.NotYet turned) s = (s.same.settings, s.same.status)
+steps_same old new client (steps.NotYet turned) s = (s.same.number, s.same.settings, s.same.status)
 steps_same {L} old new client steps.Nothing s = (
+  ap (λ (l : LaneState L). l.number) s.0,
   ap (λ (l : LaneState L). l.settings) s.0,
-  ap
-      (λ (l : LaneState L). l.status) s.0,
+  ap (λ (l : LaneState L). l.status) s.0,
 )
 
 pub steps_on : {L : Type 0} (old new : LaneState L) (client : ℕ) (answer : Stepped) → StepsAs old client new answer

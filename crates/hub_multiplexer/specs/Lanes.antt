@@ -22,7 +22,7 @@ use Rattle.hub_lane.specs.declared.step.Stepped.TheVariants as steps
 
 -- the record of a lane, whose link tells this
 abbrev pub shown_record : {L : Type 0} → (L → Option Telling) → LaneState L → Record
-shown_record telling lane = record_shown lane.settings lane.status (telling lane.link) lane.items
+shown_record telling lane = record_shown lane.number lane.settings lane.status (telling lane.link) lane.items
 
 -- an Ask of the client's next planned body is added, or all were asked
 abbrev pub AsksOn : List Item → ℕ → Asked → List Item → Type 0

@@ -25,6 +25,7 @@ use Rattle.ipbus_program.specs.Owed.{UsedSome, Wrote, WroteOwed, WroteOwedPart}
 use Rattle.ipbus_program.specs.Steps.{InputLeaves, status_of}
 use Rattle.ipbus_program.proofs.Causes.{is_status, wrote_answer}
 use Rattle.ipbus_program.proofs.Deserved.{one_command}
+use Rattle.ipbus_program.proofs.OverLinks.{ran_by_words}
 
 -- ---- statuses
 
@@ -113,10 +114,12 @@ module _ (words : List (String Global)) (left : Option (List ℕ)) (made : List 
     specs = [];
     grown = sym (append-nil made);
     counted = refl;
+    in_order = tt;
     used = inl refl;
     served = none_served;
     taken = λ command asked. none_taken command;
     done = λ done. absurd (omega (arith, is, done));
+    over_any_link = λ done. tt;
     usage = usage;
     refused = λ told. absurd (omega (arith, is, told));
     reads = λ told. absurd (omega (arith, is, told));
@@ -174,10 +177,12 @@ module _ (words : List (String Global)) {command : Command} (laws : AreTerms (te
         specs = leaves.specs;
         grown = leaves.grown;
         counted = leaves.counted;
+        in_order = leaves.in_order;
         used = none_or_some leaves.used;
         served = leaves.back;
         taken = taken_by leaves.taken;
         done = λ done. absurd (omega (arith, done, textless));
+        over_any_link = λ done. absurd (omega (arith, done, textless));
         usage = λ told. absurd (omega (arith, told, textless));
         refused = λ told. absurd (omega (arith, told, textless));
         reads = λ told. (command, are, leaves.reads (is ∙ ap Err (one_reason why ReadFault told)));
@@ -203,10 +208,14 @@ module _ (words : List (String Global)) {command : Command} (laws : AreTerms (te
         specs = leaves.specs;
         grown = leaves.grown;
         counted = leaves.counted;
+        in_order = leaves.in_order;
         used = none_or_some leaves.used;
         served = leaves.back;
         taken = taken_by leaves.taken;
         done = wrote.done;
+        over_any_link = λ told.
+            ran_by_words left left_now leaves.specs given words command are leaves.used result written written_now
+            (wrote.done told);
         usage = λ told. absurd (omega (arith, found, told));
         refused = wrote.refused;
         reads = λ told. absurd (omega (arith, found, told));

@@ -46,6 +46,7 @@ module _ (terms : Terms) (before now : Option (List ℕ)) (took : TakesAtMost (m
       specs = leaves.specs;
       grown = leaves.grown;
       counted = leaves.counted;
+      in_order = leaves.in_order;
       used = used_from leaves.specs given.links leaves.used;
       back = leaves.back;
       taken = took;
@@ -71,6 +72,7 @@ module _ (terms : Terms) (before now : Option (List ℕ)) (took : TakesAtMost (m
       specs = [];
       grown = sym (append-nil made);
       counted = refl;
+      in_order = tt;
       used = inl refl;
       back = none_served;
       taken = took;

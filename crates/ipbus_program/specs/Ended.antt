@@ -6,7 +6,8 @@ use Rattle.std.specs.List.{AllByRecursion}
 use Rattle.ipb_base.specs.Faults.{Rose}
 use Rattle.ipb_outside.specs.Told.{TakesAtMost}
 use Rattle.board_specs.specs.declared.spec.LinkSpec.{LinkSpec}
-use Rattle.board_history.specs.Links.{IsUntouched}
+use Rattle.board_history.specs.Links.{AreInOrderMade, IsUntouched}
+use Rattle.board_history.specs.Machine.{RanAsMachine}
 use Rattle.session_serve.specs.Serving.{AreBack}
 use Rattle.command_words.specs.declared.command.Command.{Command}
 use Rattle.command_terms.specs.Numbers.{IsDoneStatus, done_status, not_all_done_status, usage_status, refused_status}
@@ -33,6 +34,8 @@ pub record Ended (words : List (String Global)) (outside : Outside) (status : �
   pub specs : List LinkSpec
   pub grown : outside.made_now ≡ outside.made ++ specs
   pub counted : length specs ≡ length outside.given_back.links
+  -- each link stands where the spec does that it was made of: it is the one that was made as the first, the second ..
+  pub in_order : AreInOrderMade (length outside.made) outside.given_back.links
   -- the specs and the links are those of the first boards of a session that the command uses, board by board, and where
   -- its scripts were run, what was sent to each board, and so what it executed, is a merge of bodies that they ask of
   -- it; or there are none
@@ -47,6 +50,9 @@ pub record Ended (words : List (String Global)) (outside : Outside) (status : �
   pub done : IsDoneStatus status
       → WroteOwed (OwesDone words outside.left outside.left_now outside.given_back status)
       outside.written outside.written_now
+  -- and over each link on which a board told its status passed what the hub's machine does with bodies of clients,
+  -- whether the link tells or not; that they are those which the command asks is said by what is owed
+  pub over_any_link : IsDoneStatus status → AllByRecursion RanAsMachine outside.given_back.links
   -- 2: the words are no command, and the usage line was written
   pub usage : status ≡ usage_status
       → WroteOwed (OwesUsage words outside.left outside.left_now) outside.written outside.written_now

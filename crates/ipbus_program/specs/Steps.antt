@@ -4,7 +4,7 @@ use Rattle.std.specs.Prelude.{◌≡◌, ◌⊎◌, ℕ, List, [], ◌++◌, ◌
 use Rattle.std.specs.List.{AllByRecursion}
 use Rattle.ipb_outside.specs.Told.{TakesAtMost, TakesCount}
 use Rattle.board_specs.specs.declared.spec.LinkSpec.{LinkSpec}
-use Rattle.board_history.specs.Links.{IsUntouched}
+use Rattle.board_history.specs.Links.{AreInOrderMade, IsUntouched}
 use Rattle.session_run.specs.declared.session.RunFault.{RunFault}
 use Rattle.session_run.specs.declared.session.RunFault.TheVariants as run
 use Rattle.session_serve.specs.declared.report.ServeFault.{ServeFault}
@@ -59,6 +59,7 @@ pub record InputLeaves (terms : Terms) (before now : Option (List ℕ)) (made ma
   pub specs : List LinkSpec
   pub grown : makes ≡ made ++ specs
   pub counted : length specs ≡ length given.links
+  pub in_order : AreInOrderMade (length made) given.links
   pub used : (given.links ≡ []) ⊎ UsedFrom terms before now specs given.links
   pub back : AreBack given.came given.back
   pub taken : TakesAtMost (most_bytes terms) before now

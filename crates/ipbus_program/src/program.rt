@@ -138,7 +138,8 @@ pub fn control<S: Source, O: Sink, R: Rack, D: Door, T: Threads + Wait + Sync, G
 ) -> u8
     // Whatever the status, links were made of the specs of the first boards of the session, each link was given back,
     // board by board, and each pair that came was served and given back, in order. What was written is tied by the
-    // status to the words, the input, these links and pairs.
+    // status to the words, the input, these links and pairs. With 0 and 1 what passed over each link on which a board
+    // told its status is what the hub's machine does with the bodies of clients (`over_any_link`).
     ensures ended { Keeps R.Rack R.L.Link rack.old rack.new
         (λ links. GivesBack D.Door D.Incoming.Source D.Outgoing.Sink door.old door.new
         (λ came back. Ended words.now (record {

@@ -86,14 +86,16 @@ one_head h g e =
     let mtu : h.mtu ≡ g.mtu = cc in
     let buffers : h.buffers ≡ g.buffers = cc in
     let first : h.first ≡ g.first = cc in
+    let link : h.link ≡ g.link = cc in
     let numbers : opening_numbers h.opening ≡ opening_numbers g.opening = cc in
     let opening : h.opening ≡ g.opening = one_opening h.opening g.opening numbers in
     ap (λ (n : ℕ). record h { rounds = n }) rounds
     ∙ (ap (λ (n : ℕ). record h { rounds = g.rounds; window = n }) window
     ∙ (ap (λ (n : ℕ). record h { rounds = g.rounds; window = g.window; mtu = n }) mtu
     ∙ (ap (λ (n : ℕ). record h { rounds = g.rounds; window = g.window; mtu = g.mtu; buffers = n }) buffers
-    ∙ (ap (λ (n : ℕ). record g { first = n; opening = h.opening }) first
-    ∙ ap (λ (o : Option CellMap). record g { opening = o }) opening))))
+    ∙ (ap (λ (n : ℕ). record g { first = n; link = h.link; opening = h.opening }) first
+    ∙ (ap (λ (n : ℕ). record g { link = n; opening = h.opening }) link
+    ∙ ap (λ (o : Option CellMap). record g { opening = o }) opening)))))
 
 -- ---- fronts
 

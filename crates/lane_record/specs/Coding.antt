@@ -120,14 +120,15 @@ item_from r = option_map (item_with r.entry) (what_from r.entry.kind r.content)
 
 -- ---- the head
 
--- What a lane knows from its greeting on: its settings, what the board told of itself, and over a link that tells the
--- bus with which the board opened.
+-- What a lane knows from its greeting on: its settings, what the board told of itself, which of the links of its rack it
+-- runs over, and over a link that tells the bus with which the board opened.
 pub record Head : Type 0 where
   pub rounds : ℕ
   pub window : ℕ
   pub mtu : ℕ
   pub buffers : ℕ
   pub first : ℕ
+  pub link : ℕ
   pub opening : Option CellMap
 
 abbrev pub kind_number : RangeKind → ℕ
@@ -145,7 +146,7 @@ opening_numbers None = 0 ∷ []
 opening_numbers (Some cells) = 1 ∷ cell_numbers cells
 
 abbrev pub head_numbers : Head → List ℕ
-head_numbers h = h.rounds ∷ h.window ∷ h.mtu ∷ h.buffers ∷ h.first ∷ opening_numbers h.opening
+head_numbers h = h.rounds ∷ h.window ∷ h.mtu ∷ h.buffers ∷ h.first ∷ h.link ∷ opening_numbers h.opening
 
 -- a lane's record as a value that is handed on shows it
 abbrev pub record_of : Head → List Item → Record

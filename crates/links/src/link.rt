@@ -49,7 +49,8 @@ pub enum Received {
 ///
 /// Contracts see four counts, none of which falls: its faults, the receives that were quiet and those that got a
 /// datagram, and the datagrams that it lost, delayed or dropped for age. A count stands still at 2^64 - 1. They see its
-/// traffic, of which the program need not keep a byte. A link may tell what it carries, as a simulated one does: then
+/// traffic, and its number among the links of its rack, of which the program need not keep a byte. A link may tell what
+/// it carries, as a simulated one does: then
 /// contracts see its board and all datagrams ever sent too, and a fault is counted only in a call that fails. Whether it
 /// tells never changes.
 pub trait Link {
@@ -74,6 +75,9 @@ pub trait Link {
     /// each receive that was quiet.
     ghost traffic: { Self → List Passed };
 
+    /// Which of the links of its rack it is, in the order in which they were made, counted from 0. No call changes it.
+    ghost number: { Self → ℕ };
+
     /// Sends a datagram to the board. A refused one changes nothing that the link tells.
     fn send(&mut self, bytes: &[u8]) -> Result<(), LinkFault>
         requires { length bytes.now ≤ MAX_DATAGRAM }
@@ -87,6 +91,7 @@ pub trait Link {
         ensures quiets { quiets self.new ≡ quiets self.old }
         ensures gots { gots self.new ≡ gots self.old }
         ensures traffic { traffic self.new ≡ sent_after result bytes.now (traffic self.old) }
+        ensures number { number self.new ≡ number self.old }
         ensures held { held self.old ≤ held self.new };
 
     /// Waits for a datagram from the board, and puts it into `into` in place of what stood there. `into` is empty where
@@ -104,6 +109,7 @@ pub trait Link {
         ensures gots { gots self.new ≡ gots_after result (gots self.old) }
         ensures gots_rise { gots self.old ≤ gots self.new }
         ensures traffic { traffic self.new ≡ received_after result into.new.items (traffic self.old) }
+        ensures number { number self.new ≡ number self.old }
         ensures held { held self.old ≤ held self.new };
 
     /// What waits for the next datagram beside the link. `None` where there is nothing to wait for, or no room for it.
@@ -114,6 +120,7 @@ pub trait Link {
         ensures quiets { quiets self.new ≡ quiets self.old }
         ensures gots { gots self.new ≡ gots self.old }
         ensures traffic { traffic self.new ≡ traffic self.old }
+        ensures number { number self.new ≡ number self.old }
         ensures held { held self.new ≡ held self.old }
     {
         None

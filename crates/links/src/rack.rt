@@ -50,8 +50,8 @@ pub trait Rack {
 
     /// Makes a link for a board, with counts of 0 and no traffic. For a simulated one its ranges are those of a bus,
     /// its MTU is 92 to 9000 bytes and it has 1 to 64 buffers; the link tells a fresh board and an empty air. One for a
-    /// board on a network does not tell. What it was made of stands behind the specs of the links before. It takes the
-    /// room that keeping the link needs. No more links are ever kept than were made.
+    /// board on a network does not tell. What it was made of stands behind the specs of the links before, and its number
+    /// is how many these are. It takes the room that keeping the link needs. No more links are ever kept than were made.
     fn make(&mut self, spec: &BoardSpec) -> Result<Self::L, RackFault>
         requires { IsMakeable spec.now.link }
         ensures told { IfOk result (λ link. Self.L.telling link ≡ telling_for spec.now.link) }
@@ -60,6 +60,7 @@ pub trait Rack {
         ensures no_gots { IfOk result (λ link. Self.L.gots link ≡ 0) }
         ensures none_held { IfOk result (λ link. Self.L.held link ≡ 0) }
         ensures no_traffic { IfOk result (λ link. Self.L.traffic link ≡ []) }
+        ensures number { IfOk result (λ link. Self.L.number link ≡ length (made self.old)) }
         ensures faults { RisesExactlyIf (result ≡ Err RackFault.Failed) (faults self.old) (faults self.new) }
         ensures kept { kept self.new ≡ kept self.old }
         ensures made { made self.new ≡ made_after result spec.now.link (made self.old) }

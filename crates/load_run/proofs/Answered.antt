@@ -27,6 +27,7 @@ module _ (count : ℕ) (bytes : List ℕ) (made makes : List LinkSpec) (links : 
     specs = leaves.links_made.specs;
     grown = leaves.links_made.grown;
     counted = leaves.links_made.many;
+    in_order = leaves.links_made.in_order;
     used = inr (record { first = leaves.links_made.first; left = leaves.left });
     back = none_came;
     owed = tt;
@@ -42,6 +43,7 @@ module _ (count : ℕ) (bytes : List ℕ) (made makes : List LinkSpec) (links : 
     specs = leaves.links_made.specs;
     grown = leaves.links_made.grown;
     counted = leaves.links_made.many;
+    in_order = leaves.links_made.in_order;
     used = inr (record { first = leaves.links_made.first; left = leaves.left });
     back = none_came;
     owed = inl (record { done = load.done; load = leaves.tells; told = told });

@@ -28,7 +28,7 @@ one_name runs run one i j d less within =
 
 module _ (Tells : ℕ → List LinkReport → Bool → List ℕ → Type 0) (count : ℕ) (made makes : List LinkSpec) where
   pub load_failed : (result : Result Load RunFault) (fault : RunFault) (links : List LinkReport)
-      → AreLeft 0 (boards count) (steps count) links → AreMadeFor (boards count) (length links) made makes
+      → AreLeft 0 (boards count) (steps count) links → AreMadeFor (boards count) links made makes
       → IsErr result → IsErrAnd result (λ why. why ≡ fault) → (fault ≡ Rack → AllByRecursion IsUntouched links)
       → LoadLeaves Tells count made makes result links
   load_failed (Ok load) fault links left links_made fails is untouched = absurd cc
@@ -40,7 +40,7 @@ module _ (Tells : ℕ → List LinkReport → Bool → List ℕ → Type 0) (cou
   }
 
   pub load_told : (load : Load) (links : List LinkReport) → AreLeft 0 (boards count) (steps count) links
-      → AreMadeFor (boards count) (length links) made makes → Tells count links load.done load.text.items
+      → AreMadeFor (boards count) links made makes → Tells count links load.done load.text.items
       → LoadLeaves Tells count made makes (Ok load) links
   load_told load links left links_made tells = record {
     left = left;

@@ -105,6 +105,6 @@ pub record IsGenerated (count : ℕ) (limits : Limits) (specs : List BoardSpec)
 pub record LoadLeaves (Tells : ℕ → List LinkReport → Bool → List ℕ → Type 0) (count : ℕ)
     (made makes : List LinkSpec) (result : Result Load RunFault) (links : List LinkReport) : Type 0 where
   pub left : AreLeft 0 (boards count) (steps count) links
-  pub links_made : AreMadeFor (boards count) (length links) made makes
+  pub links_made : AreMadeFor (boards count) links made makes
   pub tells : IfOk result (λ load. Tells count links load.done load.text.items)
   pub untouched : result ≡ Err Rack → AllByRecursion IsUntouched links

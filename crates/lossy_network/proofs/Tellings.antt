@@ -322,11 +322,13 @@ carried (Err fault) bytes old new is short none = none
 
 -- ---- the counts
 
--- but for its own counts, a receive leaves all counts but those of datagrams held; and it joins the traffic
+-- but for its own counts, a receive leaves all counts but those of datagrams held, and its number; and it joins the
+-- traffic
 pub record AreCounts (result : Result Received LinkFault) (bytes : List ℕ) (old new : Network) : Type 0 where
   pub quiets : new.quiets ≡ quiets_after result old.quiets
   pub gots : new.gots ≡ gots_after result old.gots
   pub passed : new.passed ≡ received_after result bytes old.passed
+  pub number : new.number ≡ old.number
   pub faults : (new.faults ≡ old.faults) ⊎ (new.faults ≡ one_more old.faults)
   pub unfaulted : result ≢ Err Failed → new.faults ≡ old.faults
 
@@ -343,6 +345,7 @@ counts_quiet old new bytes after_is quiet =
       gots = ap (λ (n : Network). n.gots) end ∙ sym (ap (λ (n : Network). n.gots) same);
       passed =
           ap (λ (n : Network). n.passed) end ∙ sym (ap (λ (n : Network). n.passed ++ passes.Quiet ∷ []) same);
+      number = ap (λ (n : Network). n.number) end ∙ sym (ap (λ (n : Network). n.number) same);
       faults = inl (ap (λ (n : Network). n.faults) end ∙ sym (ap (λ (n : Network). n.faults) same));
       unfaulted = λ _. ap (λ (n : Network). n.faults) end ∙ sym (ap (λ (n : Network). n.faults) same);
     }
@@ -360,6 +363,7 @@ counts_got old new bytes after_is bytes_is got =
           ∙ (sym (ap (λ (n : Network). n.passed ++ passes.Got got.bytes ∷ []) same)
           ∙ ap (λ (xs : List ℕ). old.passed ++ passes.Got xs ∷ [])
           (sym (bytes_is ∙ ap (λ (r : Receipt). r.bytes) got.is)));
+      number = ap (λ (n : Network). n.number) end ∙ sym (ap (λ (n : Network). n.number) same);
       faults = inl (ap (λ (n : Network). n.faults) end ∙ sym (ap (λ (n : Network). n.faults) same));
       unfaulted = λ _. ap (λ (n : Network). n.faults) end ∙ sym (ap (λ (n : Network). n.faults) same);
     }
@@ -374,6 +378,7 @@ counts (Err Failed) bytes old new is =
       quiets = ap (λ (n : Network). n.quiets) same;
       gots = ap (λ (n : Network). n.gots) same;
       passed = ap (λ (n : Network). n.passed) same;
+      number = ap (λ (n : Network). n.number) same;
       faults = inr (ap (λ (n : Network). n.faults) same);
       unfaulted = λ other. absurd (other refl);
     }
@@ -384,6 +389,7 @@ counts (Err NoMemory) bytes old new is =
       quiets = ap (λ (n : Network). n.quiets) same;
       gots = ap (λ (n : Network). n.gots) same;
       passed = ap (λ (n : Network). n.passed) same;
+      number = ap (λ (n : Network). n.number) same;
       faults = inl (ap (λ (n : Network). n.faults) same);
       unfaulted = λ _. ap (λ (n : Network). n.faults) same;
     }
@@ -481,3 +487,9 @@ pub send_passes : (result : Result (Unit {0}) LinkFault) (bytes : List ℕ) (old
 send_passes (Ok unit) bytes old new is = ap (λ (n : Network). n.passed) is.after
 send_passes (Err Failed) bytes old new is = ap (λ (n : Network). n.passed) (is.fault refl)
 send_passes (Err NoMemory) bytes old new is = ap (λ (n : Network). n.passed) (is.no_memory refl)
+
+pub send_keeps_number : (result : Result (Unit {0}) LinkFault) (bytes : List ℕ) (old new : Network)
+    → IsSending result bytes old new → new.number ≡ old.number
+send_keeps_number (Ok unit) bytes old new is = ap (λ (n : Network). n.number) is.after
+send_keeps_number (Err Failed) bytes old new is = ap (λ (n : Network). n.number) (is.fault refl)
+send_keeps_number (Err NoMemory) bytes old new is = ap (λ (n : Network). n.number) (is.no_memory refl)

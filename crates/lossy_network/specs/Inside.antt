@@ -50,6 +50,7 @@ network_of l = record {
   quiets = l.quiets;
   gots = l.gots;
   passed = l.passed;
+  number = l.number;
 }
 
 -- a datagram for the hub is not too long

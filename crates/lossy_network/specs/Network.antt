@@ -20,7 +20,7 @@ use Rattle.lossy_network.specs.Traffic.{Traffic, put_on, place_of}
 -- The board and all datagrams ever sent; those under way; the places of those that were handed out, in order; the fates
 -- of datagrams; and the numbers, from 1, of the calls that fail. It counts its calls, its faults, and the receives that
 -- were quiet and that got a datagram. A count stands still at 2^64 - 1. It knows what passed over it, in the order of the
--- calls that did not fail.
+-- calls that did not fail, and its number among the links of its rack.
 pub record Network : Type 0 where
   pub told : Told
   pub traffic : Traffic
@@ -32,8 +32,9 @@ pub record Network : Type 0 where
   pub quiets : ℕ
   pub gots : ℕ
   pub passed : List Passed
+  pub number : ℕ
 
--- a link to this board, before its first call
+-- a link to this board, before its first call, and the first of its rack unless the rack says otherwise
 abbrev pub new_network : Board → Fates → List ℕ → Network
 new_network board fates fail = record {
   told = record { board = board; air = [] };
@@ -46,7 +47,12 @@ new_network board fates fail = record {
   quiets = 0;
   gots = 0;
   passed = [];
+  number = 0;
 }
+
+-- the link with this number among those of its rack
+abbrev pub with_number : ℕ → Network → Network
+with_number number net = record net { number = number }
 
 -- what it tells: what is in the queue is still to be heard before the next quiet receive
 abbrev pub telling_of : Network → Telling

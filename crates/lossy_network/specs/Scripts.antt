@@ -28,8 +28,8 @@ lists_of lists = map (λ answers. bytes_of answers.items) lists
 -- ---- a link
 
 -- The answers that were handed out and those that are left, in order; the numbers, from 1, of the calls that fail; the
--- counts of its calls, its faults, and the receives that were quiet and that got an answer; and what passed over it, in the
--- order of the calls that did not fail. A count stands still at 2^64 - 1.
+-- counts of its calls, its faults, and the receives that were quiet and that got an answer; what passed over it, in the
+-- order of the calls that did not fail; and its number among the links of its rack. A count stands still at 2^64 - 1.
 pub record ScriptState : Type 0 where
   pub handed : List (List ℕ)
   pub left : List (List ℕ)
@@ -39,11 +39,16 @@ pub record ScriptState : Type 0 where
   pub quiets : ℕ
   pub gots : ℕ
   pub passed : List Passed
+  pub number : ℕ
 
--- a link with these answers, before its first call
+-- a link with these answers, before its first call, and the first of its rack unless the rack says otherwise
 abbrev pub new_script : List (List ℕ) → List ℕ → ScriptState
 new_script answers fail =
-    record { handed = []; left = answers; fail = fail; calls = 0; faults = 0; quiets = 0; gots = 0; passed = [] }
+    record { handed = []; left = answers; fail = fail; calls = 0; faults = 0; quiets = 0; gots = 0; passed = []; number = 0 }
+
+-- the link with this number among those of its rack
+abbrev pub script_with_number : ℕ → ScriptState → ScriptState
+script_with_number number link = record link { number = number }
 
 -- each call is counted, and those whose numbers are named fail
 abbrev pub script_call_counted : ScriptState → ScriptState

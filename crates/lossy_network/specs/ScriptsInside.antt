@@ -17,6 +17,7 @@ script_of l = record {
   quiets = l.quiets;
   gots = l.gots;
   passed = l.passed;
+  number = l.number;
 }
 
 abbrev pub IsScript : Inside → Type 0

@@ -5,7 +5,7 @@ ghost use Rattle.world_model.specs.Board.{bodies_executed};
 ghost use Rattle.links.specs.declared.link.TheConstants.{MAX_DATAGRAM};
 ghost use Rattle.links.specs.declared.link.LinkFault.TheVariants.{Failed, NoMemory as no_memory};
 ghost use Rattle.lossy_network.specs.Network.{Network, all_taken, with_call_counted, with_fault, fails, front, new_network, put_at};
-ghost use Rattle.lossy_network.specs.Network.{receipt_at, network_receipt, network_with_send, takes, with_sent};
+ghost use Rattle.lossy_network.specs.Network.{receipt_at, network_receipt, network_with_send, takes, with_number, with_sent};
 ghost use Rattle.lossy_network.specs.Inside.{IsTaken, stands};
 
 use crate::air::Air;
@@ -15,7 +15,7 @@ use crate::under_way::UnderWay;
 use board_node::Board;
 use board_specs::Fates;
 use ipb_base::NoMemory;
-use links::{LinkFault, MAX_DATAGRAM, Received, TrafficLog};
+use links::{LinkFault, LinkNumber, MAX_DATAGRAM, Received, TrafficLog};
 use rand_pcg::Lcg64Xsh32;
 use std::alloc::Global;
 use std::marker::Model;
@@ -35,6 +35,7 @@ pub struct SimLink {
     quiets: u64,
     gots: u64,
     passed: TrafficLog,
+    number: LinkNumber,
 }
 
 impl Model for SimLink {
@@ -76,7 +77,15 @@ impl SimLink {
             quiets: 0,
             gots: 0,
             passed: TrafficLog::new(),
+            number: LinkNumber::after(0),
         })
+    }
+
+    /// Numbers the link among those that its rack made, of which so many were made before. It does nothing when it runs.
+    pub fn set_number(&mut self, others: usize)
+        ensures { self.new ≡ with_number others self.old }
+    {
+        self.number = LinkNumber::after(others);
     }
 
     /// The simulated board at the end of the link.

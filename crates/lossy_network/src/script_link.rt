@@ -5,12 +5,12 @@ ghost use Rattle.std.specs.List.{slice_get};
 ghost use Rattle.links.specs.declared.link.TheConstants.{MAX_DATAGRAM};
 ghost use Rattle.links.specs.declared.link.LinkFault.TheVariants.{Failed, NoMemory as no_memory};
 ghost use Rattle.lossy_network.specs.Scripts.{AreDatagrams, bytes_of, script_call_counted, script_with_fault, fails, new_script};
-ghost use Rattle.lossy_network.specs.Scripts.{receipt_of, script_receipt, script_with_send};
+ghost use Rattle.lossy_network.specs.Scripts.{receipt_of, script_receipt, script_with_number, script_with_send};
 
 use crate::handing::hand_over;
 use crate::link::fits;
 use ipb_base::NoMemory;
-use links::{Link, LinkFault, MAX_DATAGRAM, Received, TrafficLog};
+use links::{Link, LinkFault, LinkNumber, MAX_DATAGRAM, Received, TrafficLog};
 use std::marker::Model;
 
 /// A link whose answers are given beforehand, whatever is sent: those of a board that may answer anything. It tells
@@ -25,6 +25,7 @@ pub struct ScriptLink {
     quiets: u64,
     gots: u64,
     passed: TrafficLog,
+    number: LinkNumber,
 }
 
 impl Model for ScriptLink {
@@ -62,7 +63,15 @@ impl ScriptLink {
             quiets: 0,
             gots: 0,
             passed: TrafficLog::new(),
+            number: LinkNumber::after(0),
         }
+    }
+
+    /// Numbers the link among those that its rack made, of which so many were made before. It does nothing when it runs.
+    pub fn set_number(&mut self, others: usize)
+        ensures { self.new ≡ script_with_number others self.old }
+    {
+        self.number = LinkNumber::after(others);
     }
 
     /// The answers that were handed out, in order.
@@ -174,6 +183,8 @@ impl Link for ScriptLink {
     ghost held = { λ link. 0 };
 
     ghost traffic = { λ link. link.passed };
+
+    ghost number = { λ link. link.number };
 
     fn send(&mut self, bytes: &[u8]) -> Result<(), LinkFault> {
         self.counts_fit();

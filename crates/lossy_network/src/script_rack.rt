@@ -4,7 +4,7 @@ ghost use Rattle.std.specs.Prelude.{◌≡◌, ◌↔◌, ◌≤◌, ◌<◌, �
 ghost use Rattle.std.specs.List.{All, slice_get};
 ghost use Rattle.links.specs.declared.rack.RackFault.TheVariants.{Failed};
 ghost use Rattle.lossy_network.specs.Scripts.{AreDatagrams, after_keep, after_make, is_simulated, lists_of, new_rack};
-ghost use Rattle.lossy_network.specs.Scripts.{bytes_of, lists_after, new_script, next_answers};
+ghost use Rattle.lossy_network.specs.Scripts.{bytes_of, lists_after, new_script, next_answers, script_with_number};
 
 use crate::link::fits;
 use crate::room::make_room;
@@ -84,7 +84,8 @@ impl ScriptRack {
     /// a simulated board: the rack counts it. It takes the room that keeping the link needs, before it takes the list,
     /// so a make that fails uses up none.
     pub fn make(&mut self, spec: &BoardSpec) -> Result<ScriptLink, RackFault>
-        ensures made { IfOk result (λ link. link ≡ new_script (next_answers self.old.left) []) }
+        ensures made { IfOk result (λ link.
+            link ≡ script_with_number (length self.old.made) (new_script (next_answers self.old.left) [])) }
         ensures fails { (result ≡ Err Failed) ↔ (is_simulated spec.now.link ≡ true) }
         ensures rack { self.new ≡ after_make result spec.now.link self.old }
     {
@@ -92,10 +93,13 @@ impl ScriptRack {
             self.faults = self.faults.saturating_add(1);
             return Err(RackFault::Failed);
         }
-        make_room(&mut self.kept, self.made.count())?;
+        let others = self.made.count();
+        make_room(&mut self.kept, others)?;
         self.made.add(&spec.link)?;
         let answers = next_list(self.alloc, &mut self.lists);
-        Ok(ScriptLink::new(answers, Vec::new(self.alloc)))
+        let mut link = ScriptLink::new(answers, Vec::new(self.alloc));
+        link.set_number(others);
+        Ok(link)
     }
 
     /// Takes a link back, behind those that were kept before. It takes no memory.

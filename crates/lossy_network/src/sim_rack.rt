@@ -87,7 +87,8 @@ impl SimRack {
     /// the rack counts it. It takes the room that keeping the link needs.
     pub fn make(&mut self, spec: &BoardSpec) -> Result<SimLink, RackFault>
         requires { IsMakeable spec.now.link }
-        ensures made { IfOk result (λ link. link_for self.old.fail_calls spec.now.link ≡ Some link) }
+        ensures made { IfOk result (λ link.
+            link_for (length self.old.made) self.old.fail_calls spec.now.link ≡ Some link) }
         ensures fails { (result ≡ Err Failed) ↔ (fails_to_make self.old spec.now.link ≡ true) }
         ensures rack { self.new ≡ after_make result spec.now.link self.old }
     {
@@ -96,7 +97,7 @@ impl SimRack {
         if is_named {
             return Err(self.count_fault());
         }
-        match link_for(self.alloc, &spec.link, &self.fail_calls)? {
+        match link_for(self.alloc, &spec.link, &self.fail_calls, self.made.count())? {
             Some(link) => Ok(made_link(self.put_down(&spec.link), link)?),
             None => Err(self.count_fault()),
         }
@@ -164,11 +165,17 @@ fn made_link(put_down: Result<(), NoMemory>, link: SimLink) -> Result<SimLink, N
     put_down.map(|()| link)
 }
 
-/// The link for a simulated board, on which the calls with these numbers fail. There is none for a board on a network.
-fn link_for(alloc: Global, spec: &LinkSpec, fail: &[u64]) -> Result<Option<SimLink>, NoMemory>
+/// The link for a simulated board, made after so many others, on which the calls with these numbers fail. There is none
+/// for a board on a network.
+fn link_for(
+    alloc: Global,
+    spec: &LinkSpec,
+    fail: &[u64],
+    others: usize,
+) -> Result<Option<SimLink>, NoMemory>
     requires { IsMakeable spec.now }
-    ensures link { IfOk result (λ link. link ≡ link_for fail.now spec.now) }
-    ensures simulated { OnErr result (is_none (link_for fail.now spec.now) ≡ false) }
+    ensures link { IfOk result (λ link. link ≡ link_for others fail.now spec.now) }
+    ensures simulated { OnErr result (is_none (link_for others fail.now spec.now) ≡ false) }
 {
     let LinkSpec::Sim {
         mtu,
@@ -183,7 +190,9 @@ fn link_for(alloc: Global, spec: &LinkSpec, fail: &[u64]) -> Result<Option<SimLi
     let fates = copy_fates(alloc, fates)?;
     let fail = Vec::from_slice(alloc, fail)?;
     let board = fresh_board(alloc, *mtu, *buffers, *first, ranges)?;
-    Ok(Some(SimLink::new(alloc, board, fates, fail)?))
+    let mut link = SimLink::new(alloc, board, fates, fail)?;
+    link.set_number(others);
+    Ok(Some(link))
 }
 
 /// A board that opens with these ranges and has executed nothing.

@@ -20,6 +20,8 @@ impl Link for SimLink {
 
     ghost traffic = { λ link. link.passed };
 
+    ghost number = { λ link. link.number };
+
     fn send(&mut self, bytes: &[u8]) -> Result<(), LinkFault> {
         self.counts_fit();
         SimLink::send(self, bytes)

@@ -5,11 +5,11 @@ use Rattle.board_specs.specs.declared.spec.LinkSpec.{LinkSpec}
 use Rattle.board_specs.specs.declared.spec.LinkSpec.TheVariants.{Sim as SimBoard, Udp as UdpBoard}
 use Rattle.reliable_engine.specs.Traffic.{Passed}
 use Rattle.links.specs.Telling.{Telling}
-use Rattle.lossy_network.specs.Network.{new_network, telling_of as network_telling}
+use Rattle.lossy_network.specs.Network.{new_network, telling_of as network_telling, with_number as numbered}
 use Rattle.links.specs.Racks.{fresh_board}
 use Rattle.links.specs.declared.rack.RackFault.{RackFault}
 use Rattle.links.specs.declared.rack.RackFault.TheVariants.{Failed, NoMemory}
-use Rattle.std_edges.specs.States.{new_udp}
+use Rattle.std_edges.specs.States.{new_udp, with_number as udp_numbered}
 use Rattle.net_edges.specs.declared.any_link.AnyLink.{AnyLink}
 use Rattle.net_edges.specs.declared.any_link.AnyLink.TheVariants.{Sim, Udp}
 
@@ -38,6 +38,15 @@ held_of (Udp link) = 0
 abbrev pub traffic_of : AnyLink → List Passed
 traffic_of (Sim link) = link.passed
 traffic_of (Udp link) = link.traffic
+
+-- its number among the links of its rack
+abbrev pub number_of : AnyLink → ℕ
+number_of (Sim link) = link.number
+number_of (Udp link) = link.number
+
+abbrev pub with_number : ℕ → AnyLink → AnyLink
+with_number number (Sim link) = Sim (numbered number link)
+with_number number (Udp link) = Udp (udp_numbered number link)
 
 -- The link that is made for a board: no call of a simulated one fails. One over UDP goes to the address and the port of
 -- the board, waits as long as its document says, and starts with counts of 0 and no traffic.

@@ -1,6 +1,7 @@
 //! Links of either kind.
 
 ghost use Rattle.std.specs.Prelude.{◌≡◌};
+ghost use Rattle.net_edges.specs.Links.{with_number};
 
 use links::{Link, LinkFault, Received, Waiter};
 use lossy_network::SimLink;
@@ -17,6 +18,24 @@ pub enum AnyLink {
 }
 
 impl AnyLink {
+    /// The link, numbered among those that its rack made, of which so many were made before.
+    pub(crate) fn numbered(self, others: usize) -> AnyLink
+        ensures { result ≡ with_number others self }
+    {
+        match self {
+            AnyLink::Sim(link) => {
+                let mut link = link;
+                link.set_number(others);
+                AnyLink::Sim(link)
+            }
+            AnyLink::Udp(link) => {
+                let mut link = link;
+                link.set_number(others);
+                AnyLink::Udp(link)
+            }
+        }
+    }
+
     /// The link is given back: says what was not said yet.
     pub(crate) fn finish(&mut self)
         ensures { self.new ≡ self.old }
@@ -28,7 +47,7 @@ impl AnyLink {
 }
 
 impl Link for AnyLink {
-    ghost use Rattle.net_edges.specs.Links.{telling_of_real, faults_of, quiets_of, gots_of, held_of, traffic_of};
+    ghost use Rattle.net_edges.specs.Links.{telling_of_real, faults_of, quiets_of, gots_of, held_of, traffic_of, number_of};
 
     ghost telling = { telling_of_real };
 
@@ -41,6 +60,8 @@ impl Link for AnyLink {
     ghost held = { held_of };
 
     ghost traffic = { traffic_of };
+
+    ghost number = { number_of };
 
     /// Sends a datagram on the link that it is.
     fn send(&mut self, bytes: &[u8]) -> Result<(), LinkFault> {

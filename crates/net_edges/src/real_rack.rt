@@ -2,7 +2,7 @@
 
 ghost use Rattle.std.specs.Prelude.{◌≡◌, ◌≤◌, [], length, IfOk, Err};
 ghost use Rattle.links.specs.Racks.{IsMakeable, made_after};
-ghost use Rattle.net_edges.specs.Links.{IsOnNetwork, after_make, new_link};
+ghost use Rattle.net_edges.specs.Links.{IsOnNetwork, after_make, new_link, with_number};
 
 use crate::any_link::AnyLink;
 use board_specs::{BoardSpec, LinkSpec};
@@ -75,7 +75,7 @@ impl<R: Net + AllocGlobal + Drop> RealRack<R> {
     /// another process has the lock of the board: the rack counts it. It takes the room that keeping the link needs.
     pub fn make(&mut self, spec: &BoardSpec) -> Result<AnyLink, RackFault>
         requires { IsMakeable spec.now.link }
-        ensures made { IfOk result (λ link. link ≡ new_link spec.now.link) }
+        ensures made { IfOk result (λ link. link ≡ with_number (length self.old.made) (new_link spec.now.link)) }
         ensures failed { result ≡ Err RackFault.Failed → IsOnNetwork spec.now.link }
         ensures rack { self.new ≡ after_make result spec.now.link self.old }
         ensures later { self.old.faults ≤ self.new.faults }
@@ -85,7 +85,7 @@ impl<R: Net + AllocGlobal + Drop> RealRack<R> {
         if self.kept.reserve(places).is_err() {
             return Err(RackFault::NoMemory);
         }
-        match make_link(&self.rt, spec, &mut self.notes) {
+        match numbered_link(&self.rt, spec, self.made.count(), &mut self.notes) {
             Ok(link) => Ok(put_down(&mut self.made, &spec.link, link)?),
             Err(RackFault::Failed) => {
                 self.faults = self.faults.saturating_add(1);
@@ -123,6 +123,23 @@ fn put_down(made: &mut SpecLog, spec: &LinkSpec, link: AnyLink) -> Result<AnyLin
     ensures made { made.new ≡ made_after result spec.now made.old }
 {
     made.add(spec).map(|()| link)
+}
+
+// A link for a board, numbered among those of its rack, of which so many were made before.
+fn numbered_link<R: Net + AllocGlobal>(
+    rt: &R,
+    spec: &BoardSpec,
+    others: usize,
+    notes: &mut RackNotes,
+) -> Result<AnyLink, RackFault>
+    requires { IsMakeable spec.now.link }
+    ensures made { IfOk result (λ link. link ≡ with_number others (new_link spec.now.link)) }
+    ensures failed { result ≡ Err RackFault.Failed → IsOnNetwork spec.now.link }
+{
+    match make_link(rt, spec, notes) {
+        Ok(link) => Ok(link.numbered(others)),
+        Err(fault) => Err(fault),
+    }
 }
 
 // A link for a board: a simulated one in memory of its own, or one over UDP.

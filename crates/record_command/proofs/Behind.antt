@@ -7,7 +7,8 @@ use Rattle.world_model.specs.declared.datagram.Datagram.{Datagram}
 use Rattle.world_model.specs.declared.datagram.Direction.{Direction}
 use Rattle.world_model.specs.declared.datagram.Direction.TheVariants.{ToBoard, ToHub}
 use Rattle.capture_reader.specs.declared.capture.Caught.{Caught}
-use Rattle.record_command.specs.Traffic.{sent_in, received_in, for_board, bytes_for_board, sent_item, received_item}
+use Rattle.record_command.specs.Passing.{sent_item, received_item}
+use Rattle.record_command.specs.Traffic.{sent_in, received_in, for_board, bytes_for_board}
 use Rattle.record_command.specs.Traffic.{AreForHubAt, ByKind, IsNextBehind, StandBehind, later_places, sent_before}
 
 by_kind : (kind : Bool) (A B C D : Type 0) → (A → C) → (B → D) → ByKind kind A B → ByKind kind C D

@@ -42,7 +42,8 @@ use Rattle.hub_lane.specs.Standing.{IsRunning, IsStanding}
 use Rattle.capture_reader.specs.declared.capture.Caught.{Caught}
 use Rattle.capture_reader.specs.CaptureText.{AreItems}
 use Rattle.capture_reader.specs.Proved.{HasProof, is_big, is_big_control, is_control, sent_after}
-use Rattle.record_command.specs.Traffic.{AreForHubAt, IsTrafficOf, WereAlive, bytes_for_board, for_board, received_in, sent_in, sent_item}
+use Rattle.record_command.specs.Passing.{sent_item}
+use Rattle.record_command.specs.Traffic.{AreForHubAt, IsTrafficOf, WereAlive, bytes_for_board, for_board, received_in, sent_in}
 use Rattle.record_command.proofs.Lists.{for_board-append}
 use Rattle.record_command.proofs.Traffic.{count_of_air, counted}
 use Rattle.record_command.specs.Captures.{bodies_from, body_in, items_of, new_body}

@@ -42,7 +42,7 @@ rises_by rack.NoMemory (Err why) before now fails is failed later calm =
 -- the answer was written, or memory ran out
 pub written_left : (Tells : List LinkReport → ℕ → List ℕ → Type 0) (session : Session) (steps : List (List Step))
     (made makes : List LinkSpec) (result : Result Answer RunFault) (links : List LinkReport)
-    → AreLeft 0 session.boards steps links → AreMadeFor session.boards (length links) made makes
+    → AreLeft 0 session.boards steps links → AreMadeFor session.boards links made makes
     → IfErr result (λ why. why ≡ NoMemory) → IfOk result (λ answer. Tells links answer.status answer.text.items)
     → RunLeaves Tells session steps made makes result links
 written_left Tells session steps made makes (Ok answer) links left links_made fails tells =
@@ -80,6 +80,7 @@ record_leaves law bytes session steps made makes result links is can =
       told = records.writes.told;
       link = records.link;
       one_link = records.one_link;
+      is_traffic = records.is_traffic;
       telling = records.telling;
       tells = records.tells;
       shows = records.shows;

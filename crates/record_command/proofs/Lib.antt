@@ -10,5 +10,6 @@ pub mod Runs
 pub mod Lanes
 pub mod Lists
 pub mod Traffic
+mod Passing
 mod Births
 mod Behind

@@ -10,7 +10,8 @@ use Rattle.world_model.specs.Links.{Told, then_told}
 use Rattle.capture_reader.specs.declared.capture.Caught.{Caught}
 use Rattle.record_command.specs.Traffic.{sent_in, received_in, for_board, is_sent, is_received, bytes_of, bytes_for_board}
 use Rattle.world_model.specs.Air.{is_for_board}
-use Rattle.record_command.specs.Traffic.{sent_item, received_item, IsForHubAt, AreForHubAt}
+use Rattle.record_command.specs.Passing.{sent_item, received_item}
+use Rattle.record_command.specs.Traffic.{IsForHubAt, AreForHubAt}
 
 pub get_front : {A : Type 0} (xs ys : List A) (k : ℕ) (x : A) → slice_get xs k ≡ Some x
     → slice_get (xs ++ ys) k ≡ Some x

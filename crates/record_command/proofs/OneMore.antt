@@ -20,7 +20,7 @@ use Rattle.world_model.specs.Links.{is_first_send}
 use Rattle.world_model.proofs.Lists.{either}
 use Rattle.capture_reader.specs.declared.capture.Caught.{Caught}
 use Rattle.capture_reader.specs.Proved.{HasProof, sent_after}
-use Rattle.record_command.specs.Traffic.{sent_item}
+use Rattle.record_command.specs.Passing.{sent_item}
 use Rattle.record_command.specs.Captures.{bodies_from, new_body}
 use Rattle.record_command.proofs.Walks.{bodies_append, count_append, count_from, proof_front}
 

@@ -40,7 +40,8 @@ use Rattle.world_model.proofs.Places.{has_below, has_from}
 use Rattle.record_command.proofs.Joint.{Laws}
 use Rattle.capture_reader.specs.declared.capture.Caught.{Caught}
 use Rattle.capture_reader.specs.Proved.{HasProof}
-use Rattle.record_command.specs.Traffic.{for_board, received_item, sent_in, sent_item}
+use Rattle.record_command.specs.Passing.{received_item, sent_item}
+use Rattle.record_command.specs.Traffic.{for_board, sent_in}
 use Rattle.record_command.proofs.Lists.{for_board-append, none_sent, one_more_for_board, one_more_sent}
 use Rattle.record_command.proofs.Traffic.{answer_for_hub}
 use Rattle.record_command.specs.Captures.{bodies_from, heard_at, heard_in, items_of, items_then, sent_since}

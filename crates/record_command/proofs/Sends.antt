@@ -25,7 +25,7 @@ use Rattle.world_model.proofs.Hubs.{IsWantedOr, IsWish, named_fits, sendable_at,
 use Rattle.world_model.proofs.Lists.{at_exists, at_seam, either}
 use Rattle.world_model.proofs.Places.{has_below, has_from, id_fits, one_place}
 use Rattle.capture_reader.specs.Proved.{is_big, is_big_control, is_control, sent_after}
-use Rattle.record_command.specs.Traffic.{sent_item}
+use Rattle.record_command.specs.Passing.{sent_item}
 use Rattle.record_command.specs.Captures.{body_in, new_body}
 
 -- a packet is the next one that is sent for the first time

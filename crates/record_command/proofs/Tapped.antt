@@ -1,5 +1,5 @@
 -- A board that was greeted over a tap, and what is given back behind it.
-use Rattle.std.proofs.Common.{◌≡◌, ◌≤◌, ◌∙◌, ℕ, ◌++◌, ◌&&◌, Bool, true, false, List, [], ◌∷◌, length}
+use Rattle.std.proofs.Common.{◌≡◌, ◌≤◌, ◌∙◌, ℕ, ◌++◌, ◌&&◌, Bool, true, false, List, [], ◌∷◌, length, map}
 use Rattle.std.proofs.Common.{Result, Ok, Err, IfOk, Option, Some, None, IfSome}
 use Rattle.std.proofs.Common.{ap, ap₂, refl, slice_index_or, subst, sym, arith}
 use Rattle.std.proofs.lemmas.List.{length-map}
@@ -20,11 +20,13 @@ use Rattle.hub_lane.specs.declared.greeting.Greeted.TheVariants.{Ready, Silent, 
 use Rattle.hub_lane.specs.Greeting.{link_of}
 use Rattle.hub_lane.specs.Standing.{IsStanding}
 use Rattle.lane_record.specs.declared.outcome.Outcome.{Outcome}
-use Rattle.board_history.specs.Links.{IsBoardOf, LinkReport, board_there}
+use Rattle.board_history.specs.Links.{IsBoardOf, LinkReport, board_there, numbers_of}
 use Rattle.board_history.specs.LinkRuns.{AreRunsOver, IsMergeOfAsked}
 use Rattle.board_history.proofs.LaneShown.{at_some}
 use Rattle.board_greeting.specs.Boards.{AreReached, HasMemory, IsFreshLink, IsReached}
+use Rattle.board_greeting.specs.Reports.{shown_by}
 use Rattle.board_greeting.specs.Standings.{links_in, standing_of}
+use Rattle.links.specs.declared.link.Link.{Ghosts}
 use Rattle.board_greeting.specs.declared.standing.Standing.{Standing}
 use Rattle.board_greeting.proofs.Boards.{stands_as_told}
 use Rattle.script_steps.specs.declared.operation.Step.{Step}
@@ -104,18 +106,31 @@ same_alone one other same = ap (λ (l : List _). slice_index_or l 0 one) same
 
 -- as many taps are given back as there are boards, so one
 pub kept_one : {L : Type 0} (shows : L → LinkReport) (old new : List L) → old ≡ [] → (specs : List BoardSpec)
-    → length specs ≡ 1 → (holds : List LinkReport → Type 0)
-    → Told shows old new (λ links. holds links × (length links ≡ length specs)) → length new ≡ 1
-kept_one shows old new none specs one holds told =
+    → length specs ≡ 1 → (holds : List LinkReport → Type 0) (numbers : List ℕ)
+    → Told shows old new (λ links. holds links × (length links ≡ length specs) × (numbers_of links ≡ numbers))
+    → length new ≡ 1
+kept_one shows old new none specs one holds numbers told =
     ap length (told.1 ∙ ap (λ (l : List _). l ++ told.0) none) ∙ sym (length-map told.0 shows) ∙ told.2.1 ∙ one
 
 -- and what is left is told of that one
 pub stays_left : {L : Type 0} (shows : L → LinkReport) (old new : List L) (tap : L) → old ≡ [] → new ≡ tap ∷ []
-    → (specs : List BoardSpec) (holds : List LinkReport → Type 0)
-    → Told shows old new (λ links. holds links × (length links ≡ length specs)) → holds (shows tap ∷ [])
-stays_left shows old new tap none is specs holds told =
-    (at_links shows old new (tap ∷ []) (is ∙ ap (λ (l : List _). l ++ tap ∷ []) (sym none))
-    (λ links. holds links × (length links ≡ length specs)) told).0
+    → (specs : List BoardSpec) (holds : List LinkReport → Type 0) (numbers : List ℕ)
+    → Told shows old new (λ links. holds links × (length links ≡ length specs) × (numbers_of links ≡ numbers))
+    → holds (shows tap ∷ []) × (numbers_of (shows tap ∷ []) ≡ numbers)
+stays_left shows old new tap none is specs holds numbers told =
+    let all = at_links shows old new (tap ∷ []) (is ∙ ap (λ (l : List _). l ++ tap ∷ []) (sym none))
+    (λ links. holds links × (length links ≡ length specs) × (numbers_of links ≡ numbers)) told in
+    (all.0, all.2)
+
+-- its link has the number of the one that was greeted
+pub number_stays : {L : Type 0} (seen : Ghosts L) (tap : L) (board : Greeted L) (boards : List (Standing L))
+    → boards ≡ standing_of board ∷ []
+    → numbers_of (shown_by seen tap ∷ []) ≡ numbers_of (map (shown_by seen) (links_in boards))
+    → seen.number tap ≡ seen.number (link_of board)
+number_stays {L} seen tap board boards one same =
+    same_alone (seen.number tap) (seen.number (link_of board))
+    (same ∙ ap (λ (ls : List L). numbers_of (map (shown_by seen) ls))
+    (ap (λ (bs : List (Standing L)). links_in bs) one ∙ link_alone board))
 
 pub ran_alone : {L E : Type 0} (shows : L → LinkReport) (old new : List L) (tap : L) → old ≡ [] → new ≡ tap ∷ []
     → (holds : List BoardRun → List LinkReport → Type 0) (result : Result (Vec BoardRun) E)
@@ -200,7 +215,7 @@ module _ (sent : SentLaw) (executes : ExecutedLaw) (proves : ProvedLaw) (front :
       → session.boards ≡ board ∷ []
       → IfOk result (λ runs. AreRunsOver session.settings 0 session.boards steps runs.items (shown ∷ []))
       → AreLeft 0 session.boards steps (shown ∷ []) → first_of board.link ≡ Some capture.first
-      → HasCaught shown.telling capture.items → WritesOf steps result capture answer
+      → HasCaught shown.telling shown.traffic capture.items → WritesOf steps result capture answer
       → Records session steps (shown ∷ []) answer.status answer.text.items
   records_of session steps board (Ok runs) capture answer shown one ran left first caught writes =
       let is = (subst (λ (bs : List BoardSpec). AreLeft 0 bs steps (shown ∷ [])) one left).0 in
@@ -217,6 +232,7 @@ module _ (sent : SentLaw) (executes : ExecutedLaw) (proves : ProvedLaw) (front :
         writes = writes;
         link = shown;
         one_link = refl;
+        is_traffic = caught.is_traffic;
         telling = told.0;
         tells = told.1;
         shows = shows_traffic board steps told.0 capture.first capture.items writes.proved told.2 stood traffic

@@ -20,15 +20,20 @@ use Rattle.links.specs.declared.link.Received.{Received}
 use Rattle.links.specs.declared.link.Received.TheVariants.{Got, Quiet}
 use Rattle.links.specs.Births.{birth_after}
 use Rattle.links.specs.Telling.{IfTelling, IsCarried, IsSent, Receives, Telling}
+use Rattle.links.specs.Traffic.{received_after}
+use Rattle.reliable_engine.specs.Traffic.{Passed}
+use Rattle.reliable_engine.specs.Traffic as passes
 use Rattle.packet_codec.specs.Packet.{AreBytes}
 use Rattle.capture_reader.specs.declared.capture.Caught.{Caught}
 use Rattle.capture_reader.specs.CaptureText.{AreItems, IsItem}
-use Rattle.record_command.specs.Traffic.{sent_in, received_in, for_board, bytes_for_board, sent_item, received_item, caught_after}
+use Rattle.record_command.specs.Passing.{sent_item, received_item}
+use Rattle.record_command.specs.Traffic.{sent_in, received_in, for_board, bytes_for_board, caught_after}
 use Rattle.record_command.specs.Traffic.{ByKind, WereAlive, IsNextAlive, behind_next, IsTrafficOf, IsUnused, HasCaught}
 use Rattle.record_command.specs.Traffic.{AreBorn}
 use Rattle.record_command.proofs.Births.{KeepsBoard, are_born_heard, are_born_sent}
 use Rattle.record_command.proofs.Behind.{behind_more, behind_received, behind_sent, few_before, many_places}
 use Rattle.record_command.proofs.Lists.{for_board-append, one_more_for_board, one_more_sent, none_received}
+use Rattle.record_command.proofs.Passing.{receive_shows, send_shows}
 use Rattle.record_command.proofs.Lists.{one_more_received, none_sent, there_in_more, one_more_there, found_both, goes}
 
 -- ---- the count of first sends
@@ -273,15 +278,18 @@ born_sent bytes before now (Some old) (Some new) is sent =
 
 -- ---- with the lengths of the datagrams
 
-pub caught_sent : (bytes : List ℕ) (before now : ℕ) (old new : Option Telling) (items more : List Caught)
-    → HasCaught old items → IfTelling old new (IsSent bytes before now) → AreBytes bytes → length bytes ≤ 9000
-    → more ≡ items ++ sent_item bytes ∷ [] → HasCaught new more
-caught_sent bytes before now old new items more is sent fits short e = subst (HasCaught new) (sym e) (record {
-  short = AllByRecursion-append IsItem items (sent_item bytes ∷ []) is.short
-      (record { bytes = fits; length = short }, tt);
-  traffic = send_keeps bytes before now old new items is.traffic sent;
-  born = born_sent bytes before now old new is.born sent;
-})
+pub caught_sent : (bytes : List ℕ) (before now : ℕ) (old new : Option Telling) (passed passed_now : List Passed)
+    (items more : List Caught) → HasCaught old passed items → IfTelling old new (IsSent bytes before now)
+    → passed_now ≡ passed ++ passes.Sent bytes ∷ [] → AreBytes bytes → length bytes ≤ 9000
+    → more ≡ items ++ sent_item bytes ∷ [] → HasCaught new passed_now more
+caught_sent bytes before now old new passed passed_now items more is sent grows fits short e =
+    subst (HasCaught new passed_now) (sym e) (record {
+      short = AllByRecursion-append IsItem items (sent_item bytes ∷ []) is.short
+          (record { bytes = fits; length = short }, tt);
+      is_traffic = send_shows bytes passed passed_now items is.is_traffic grows;
+      traffic = send_keeps bytes before now old new items is.traffic sent;
+      born = born_sent bytes before now old new is.born sent;
+    })
 
 are_items : (result : Result Received LinkFault) (bytes : List ℕ) → IsCarried result bytes
     → (result ≡ Ok Got → AreBytes bytes) → AreItems (caught_after result bytes)
@@ -291,17 +299,21 @@ are_items (Err fault) bytes short fits = tt
 
 -- behind the datagrams that there was room for, which are those before
 pub caught_received : KeepsAir → KeepsBoard → (result : Result Received LinkFault) (bytes read : List ℕ)
-    (before now : ℕ) (old new : Option Telling) (items room more : List Caught) → HasCaught old items
-    → IfTelling old new (Receives result bytes before now) → IsCarried result bytes → read ≡ bytes
-    → (result ≡ Ok Got → AreBytes read) → room ≡ items → more ≡ room ++ caught_after result read → HasCaught new more
-caught_received air board result bytes read before now old new items room more is received short same fits items_same e =
+    (before now : ℕ) (old new : Option Telling) (passed passed_now : List Passed) (items room more : List Caught)
+    → HasCaught old passed items → IfTelling old new (Receives result bytes before now)
+    → passed_now ≡ received_after result bytes passed → IsCarried result bytes → read ≡ bytes
+    → (result ≡ Ok Got → AreBytes read) → room ≡ items → more ≡ room ++ caught_after result read
+    → HasCaught new passed_now more
+caught_received air board result bytes read before now old new passed passed_now items room more is received grows
+    short same fits items_same e =
     let added : more ≡ items ++ caught_after result bytes =
     e ∙ (ap (λ (front : List Caught). front ++ caught_after result read) items_same
     ∙ ap (λ (left : List ℕ). items ++ caught_after result left) same) in
     let are : result ≡ Ok Got → AreBytes bytes = (λ got. subst AreBytes same (fits got)) in
     let born = born_after board result bytes before now old new is.born received in
-    subst (HasCaught new) (sym added) (record {
+    subst (HasCaught new passed_now) (sym added) (record {
       short = AllByRecursion-append IsItem items (caught_after result bytes) is.short (are_items result bytes short are);
+      is_traffic = receive_shows result bytes passed passed_now items is.is_traffic grows;
       traffic = receive_keeps air board result bytes before now old new items is.traffic born received;
       born = born;
     })

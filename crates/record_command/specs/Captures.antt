@@ -14,7 +14,8 @@ use Rattle.world_model.specs.World.{World, step}
 use Rattle.capture_reader.specs.declared.capture.Caught.{Caught}
 use Rattle.capture_reader.specs.declared.capture.Capture.{Capture}
 use Rattle.capture_reader.specs.Proved.{is_big_control, sent_after}
-use Rattle.record_command.specs.Traffic.{for_board, received_item, sent_item}
+use Rattle.record_command.specs.Passing.{received_item, sent_item}
+use Rattle.record_command.specs.Traffic.{for_board}
 
 -- ---- the bodies of a capture
 

@@ -6,7 +6,8 @@
 --   a run of it                  IsSessionRun                            run_laws/specs/Runs
 --   the text                     capture_text                            capture_reader/specs/CaptureText
 --   what the capture proves      IsProved                                capture_reader/specs/Proved
---   the datagrams of the link    IsTrafficOf                             record_command/specs/Traffic
+--   the traffic of the link      caught_in                               record_command/specs/Passing
+--   the datagrams in its air     IsTrafficOf                             record_command/specs/Traffic
 --   what the capture shows sent  bodies_in                               record_command/specs/Captures
 --   what the scripts ask         IsMergeOfAsked                          board_history/specs/LinkRuns
 use Rattle.std.specs.Prelude.{◌≡◌, ℕ, ◌≤◌, ◌==◌, ◌&&◌, List, [], ◌∷◌, length, sum_by, Option, Some, None}
@@ -30,6 +31,7 @@ use Rattle.command_terms.specs.Numbers.{told_status}
 use Rattle.capture_reader.specs.declared.capture.Capture.{Capture}
 use Rattle.capture_reader.specs.CaptureText.{IsCapture, capture_text}
 use Rattle.capture_reader.specs.Proved.{IsProved}
+use Rattle.record_command.specs.Passing.{caught_in}
 use Rattle.record_command.specs.Traffic.{IsTrafficOf}
 use Rattle.record_command.specs.Captures.{bodies_in}
 
@@ -84,9 +86,12 @@ pub record IsRecordOf (bytes : List ℕ) (links : List LinkReport) (status : ℕ
   pub proved : ℕ
   pub is_proved : IsProved capture proved
   pub told : status ≡ told_status (all_good (transcript_of steps runs).clients && (proved == body_count runs))
-  -- the link of the board was given back, it tells, and the capture shows its traffic
+  -- the link of the board was given back, and the capture is what passed over it: each datagram that was sent on it or
+  -- received from it, in the order of the calls
   pub link : LinkReport
   pub one_link : links ≡ link ∷ []
+  pub is_traffic : capture.items ≡ caught_in link.traffic
+  -- it tells, and the capture shows this of the datagrams in its air
   pub telling : Telling
   pub tells : link.telling ≡ Some telling
   pub shows : ShowsTraffic board steps capture proved telling

@@ -3,4 +3,5 @@ pub mod Terms
 pub mod Steps
 pub mod Taps
 pub mod Captures
+pub mod Passing
 pub mod Traffic

@@ -16,6 +16,7 @@ use Rattle.capture_reader.specs.declared.capture.Capture.{Capture}
 use Rattle.capture_reader.specs.CaptureText.{IsCapture, capture_text}
 use Rattle.capture_reader.specs.Proved.{IsProved}
 use Rattle.record_command.specs.Headline.{ShowsTraffic, body_count, first_of}
+use Rattle.record_command.specs.Passing.{caught_in}
 
 -- the text of a capture, and the status that goes with it after these outcomes
 pub record Writes (steps : List (List Step)) (runs : List BoardRun) (capture : Capture) (status : ℕ) (text : List ℕ)
@@ -43,6 +44,7 @@ pub record Records (session : Session) (steps : List (List Step)) (links : List 
   pub writes : Writes steps runs capture status text
   pub link : LinkReport
   pub one_link : links ≡ link ∷ []
+  pub is_traffic : capture.items ≡ caught_in link.traffic
   pub telling : Telling
   pub tells : link.telling ≡ Some telling
   pub shows : ShowsTraffic board steps capture writes.proved telling

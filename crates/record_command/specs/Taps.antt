@@ -20,4 +20,5 @@ tap_ghosts seen = record {
   gots = λ tap. seen.gots tap.link;
   held = λ tap. seen.held tap.link;
   traffic = λ tap. seen.traffic tap.link;
+  number = λ tap. seen.number tap.link;
 }

@@ -11,20 +11,15 @@ use Rattle.links.specs.declared.link.Received.{Received}
 use Rattle.links.specs.declared.link.Received.TheVariants.{Got, Quiet}
 use Rattle.links.specs.Births.{birth_after}
 use Rattle.links.specs.Telling.{Telling}
+use Rattle.reliable_engine.specs.Traffic.{Passed}
 use Rattle.capture_reader.specs.declared.capture.Caught.{Caught}
 use Rattle.capture_reader.specs.CaptureText.{AreItems}
+use Rattle.record_command.specs.Passing.{caught_in, received_item}
 
 -- a link, and the datagrams that were sent on it and received from it, in the order of the calls
 pub record Tapped (L : Type 0) : Type 0 where
   pub link : L
   pub caught : List Caught
-
--- a datagram that the hub sent, and one that it received
-abbrev pub sent_item : List ℕ → Caught
-sent_item bytes = record { sent = true; bytes = bytes }
-
-abbrev pub received_item : List ℕ → Caught
-received_item bytes = record { sent = false; bytes = bytes }
 
 -- the bytes of those that were sent, and of those that were received, each in their order
 abbrev pub is_sent : Caught → Bool
@@ -131,8 +126,9 @@ caught_after (Ok Got) bytes = received_item bytes ∷ []
 caught_after (Ok Quiet) bytes = []
 caught_after (Err fault) bytes = []
 
--- what a tap has caught, over a link that tells this
-pub record HasCaught (telling : Option Telling) (items : List Caught) : Type 0 where
+-- what a tap has caught, over a link that tells this, and over which this has passed
+pub record HasCaught (telling : Option Telling) (passed : List Passed) (items : List Caught) : Type 0 where
   pub short : AreItems items
+  pub is_traffic : items ≡ caught_in passed
   pub traffic : IfSome telling (λ t. IsTrafficOf t items)
   pub born : IfSome telling (λ t. AreBorn t.told)

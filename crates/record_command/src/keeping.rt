@@ -3,7 +3,8 @@
 ghost use Rattle.std.specs.Prelude.{◌≡◌, ◌≤◌, ◌<◌, ◌+◌, ◌++◌, [], length, Ok, IfOk, OnOk};
 ghost use Rattle.std.specs.Vec.{vec_capacity, vec_len};
 ghost use Rattle.packet_codec.specs.Packet.{AreBytes};
-ghost use Rattle.record_command.specs.Traffic.{caught_after, received_item, sent_item};
+ghost use Rattle.record_command.specs.Passing.{received_item, sent_item};
+ghost use Rattle.record_command.specs.Traffic.{caught_after};
 
 use capture_reader::{Bytes, Caught};
 use ipb_base::NoMemory;

@@ -154,6 +154,7 @@ fn greet_tapped<R: Rack>(
     ensures faults { RisesExactlyIf (result ≡ Err RackFault.Failed) (R.faults rack.old) (R.faults rack.new) }
     ensures kept { R.kept rack.new ≡ R.kept rack.old }
     ensures made { R.made rack.new ≡ made_after result spec.now.link (R.made rack.old) }
+    ensures number { IfOk result (λ board. R.L.number (link_of board).link ≡ length (R.made rack.old)) }
     ensures within { length (R.kept rack.old) ≤ length (R.made rack.old) }
 {
     words_stay_words();
@@ -186,6 +187,7 @@ fn run_tapped<L: Link + Send + Drop, T: Threads + Wait + Sync, G: Gate>(
     ensures ran { IfOk result.1 (λ runs. AreRunsOver settings 0 specs.now steps.now runs.items
         (shown_by L.Link result.0.link ∷ [])) }
     ensures left { AreLeft 0 specs.now steps.now (shown_by L.Link result.0.link ∷ []) }
+    ensures number { L.number result.0.link ≡ L.number (link_of greeted).link }
 {
     a_fresh_link_is_left();
     let no_memory = is_out_of_memory(&greeted);

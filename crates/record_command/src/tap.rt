@@ -4,7 +4,8 @@ ghost use Rattle.std.specs.Prelude.{◌≡◌, ◌≢◌, ◌≤◌, ◌++◌, �
 ghost use Rattle.ipb_base.specs.Faults.{Rose};
 ghost use Rattle.links.specs.Traffic.{received_after, sent_after};
 ghost use Rattle.links.specs.Telling.{gots_after, IfTelling, IsCarried, IsSent, quiets_after, Receives};
-ghost use Rattle.record_command.specs.Traffic.{HasCaught, IsUnused, caught_after, sent_item};
+ghost use Rattle.record_command.specs.Passing.{sent_item};
+ghost use Rattle.record_command.specs.Traffic.{HasCaught, IsUnused, caught_after};
 
 use crate::keeping::{keep, sent, take_room};
 use capture_reader::{Capture, Caught, Id, Items};
@@ -35,13 +36,15 @@ impl<L: Link> Model for TapLink<L> {
 
     ghost view = { λ tap. record { link = tap.link; caught = tap.caught.items } };
 
-    ghost invariant = { λ tap. HasCaught (L.telling tap.link) tap.caught.items × (tap.spare.items ≡ []) };
+    ghost invariant = { λ tap.
+        HasCaught (L.telling tap.link) (L.traffic tap.link) tap.caught.items × (tap.spare.items ≡ []) };
 }
 
 impl<L: Link> TapLink<L> {
-    /// A tap of a link on which nothing was sent yet, if it tells.
+    /// A tap of a link over which nothing has passed yet. Of one that tells, nothing is in the air either.
     pub fn new(alloc: Global, link: L) -> TapLink<L>
-        requires { IfSome (L.telling link) IsUnused }
+        requires traffic { L.traffic link ≡ [] }
+        requires told { IfSome (L.telling link) IsUnused }
         ensures { result ≡ record { link = link; caught = [] } }
     {
         TapLink {
@@ -68,7 +71,7 @@ impl<L: Link> TapLink<L> {
 
     /// What holds of the datagrams of every tap. It does nothing when it runs.
     pub fn is_sound(&self)
-        ensures { HasCaught (L.telling self.now.link) self.now.caught }
+        ensures { HasCaught (L.telling self.now.link) (L.traffic self.now.link) self.now.caught }
     {
         let _caught = &self.caught;
     }
@@ -77,7 +80,7 @@ impl<L: Link> TapLink<L> {
     pub fn into_parts(self, first: Id) -> (L, Capture)
         ensures link { result.0 ≡ self.link }
         ensures capture { result.1 ≡ record { first = first; items = self.caught } }
-        ensures caught { HasCaught (L.telling result.0) result.1.items }
+        ensures caught { HasCaught (L.telling result.0) (L.traffic result.0) result.1.items }
     {
         let TapLink { link, caught, .. } = self;
         let items = Items::from_vec(caught);
@@ -99,6 +102,7 @@ impl<L: Link> TapLink<L> {
         ensures quiets { L.quiets self.new.link ≡ L.quiets self.old.link }
         ensures gots { L.gots self.new.link ≡ L.gots self.old.link }
         ensures traffic { L.traffic self.new.link ≡ sent_after result bytes.now (L.traffic self.old.link) }
+        ensures number { L.number self.new.link ≡ L.number self.old.link }
         ensures held { L.held self.old.link ≤ L.held self.new.link }
     {
         let item = sent(self.alloc, &mut self.caught, bytes)?;
@@ -122,6 +126,7 @@ impl<L: Link> TapLink<L> {
         ensures gots { L.gots self.new.link ≡ gots_after result (L.gots self.old.link) }
         ensures gots_rise { L.gots self.old.link ≤ L.gots self.new.link }
         ensures traffic { L.traffic self.new.link ≡ received_after result into.new.items (L.traffic self.old.link) }
+        ensures number { L.number self.new.link ≡ L.number self.old.link }
         ensures held { L.held self.old.link ≤ L.held self.new.link }
     {
         a_receive_goes_step_by_step();
@@ -146,6 +151,8 @@ impl<L: Link> Link for TapLink<L> {
     ghost held = { λ tap. L.held tap.link };
 
     ghost traffic = { λ tap. L.traffic tap.link };
+
+    ghost number = { λ tap. L.number tap.link };
 
     fn send(&mut self, bytes: &[u8]) -> Result<(), LinkFault> {
         TapLink::send(self, bytes)

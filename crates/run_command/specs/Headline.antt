@@ -6,10 +6,9 @@
 -- every simulated board does: what is printed as the reply to an operation, in time or late, is what a bus with a single
 -- thread answers at the printed places of that order, and each packet that the board executed stands there once.
 -- `timeout` is printed only after as many rounds as the line says, and where the link tells, of a packet that was
--- executed once or never, and once where a late answer stands behind it. Of any board, as of one on a network whose
--- link does not tell: what is printed as a reply is the body of a control packet that the link received behind the
--- board's first status, with the identifier of the printed place; and the quiet receives that a `timeout` took came
--- behind that status too.
+-- executed once or never, and once where a late answer stands behind it. Of any live board, as of one on a network
+-- whose link does not tell: what passed over its link is a greeting, and then a run of the hub's machine with the bodies
+-- that the clients asked; and what is printed of each body, in time or late, is its fate in that run.
 --
 -- It is one record, `IsTranscriptOf`, whose parts are these words. What it says of the lines is said of the steps of
 -- any run, by `IsSessionRun` of run_laws/specs/Runs. Profile.
@@ -38,7 +37,9 @@
 --   where nothing was held back  AreWholeRuns, ShowAloneRuns             board_history/specs/LinkRuns
 --   where all was done           ShowAloneRunsWhereTold                  board_history/specs/LinkRuns
 --   over any link, told or not   HoldsOverAnyLink                        board_history/specs/LinkRuns
+--   what passed over any link    IsMachineBoard                          board_history/specs/Machine
 --   at every status              RanSomeOf, below, by AreLeft            session_run/specs/Links
+--   which link is which          in_order of Ended                       ipbus_program/specs/Ended
 --
 -- What holds of one board and its link is `IsRunOver` of board_history/specs/LinkRuns, which has a sentence for each part.
 use Rattle.std.specs.Prelude.{◌≡◌, ℕ, List}

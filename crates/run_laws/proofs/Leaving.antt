@@ -88,7 +88,7 @@ module _ (Tells : List LinkReport → ℕ → List ℕ → Type 0) (session : Se
 
   -- there is no answer
   pub run_failed : (result : Result Answer RunFault) (fault : RunFault) (links : List LinkReport)
-      → AreLeft 0 session.boards steps links → AreMadeFor session.boards (length links) made makes
+      → AreLeft 0 session.boards steps links → AreMadeFor session.boards links made makes
       → IsErr result → IsErrAnd result (λ why. why ≡ fault) → (fault ≡ Rack → AllByRecursion IsUntouched links)
       → RunLeaves Tells session steps made makes result links
   run_failed result fault links left links_made fails is untouched = record {
@@ -100,7 +100,7 @@ module _ (Tells : List LinkReport → ℕ → List ℕ → Type 0) (session : Se
 
   -- there is one
   pub run_answered : (answer : Answer) (links : List LinkReport) → AreLeft 0 session.boards steps links
-      → AreMadeFor session.boards (length links) made makes → Tells links answer.status answer.text.items
+      → AreMadeFor session.boards links made makes → Tells links answer.status answer.text.items
       → RunLeaves Tells session steps made makes (Ok answer) links
   run_answered answer links left links_made tells =
       record { left = left; links_made = links_made; tells = tells; untouched = λ never. absurd cc }
@@ -108,13 +108,13 @@ module _ (Tells : List LinkReport → ℕ → List ℕ → Type 0) (session : Se
   -- the same of the links that a rack was given back, where the boards of the session were run under another name
   module _ {L : Type 0} (shown : L → LinkReport) (old new : List L) (boards : List BoardSpec)
       (same : boards ≡ session.boards) (left : Told shown old new (AreLeft 0 boards steps))
-      (links_made : Told shown old new (λ links. AreMadeFor boards (length links) made makes)) where
+      (links_made : Told shown old new (λ links. AreMadeFor boards links made makes)) where
     pub run_failed_over : (result : Result Answer RunFault) (fault : RunFault) → IsErr result
         → IsErrAnd result (λ why. why ≡ fault) → (fault ≡ Rack → Told shown old new (AllByRecursion IsUntouched))
         → Told shown old new (RunLeaves Tells session steps made makes result)
     run_failed_over =
         failed_over shown old new same (λ boards. AreLeft 0 boards steps)
-        (λ boards links. AreMadeFor boards (length links) made makes) left links_made (AllByRecursion IsUntouched) Rack
+        (λ boards links. AreMadeFor boards links made makes) left links_made (AllByRecursion IsUntouched) Rack
         (RunLeaves Tells session steps made makes)
         (λ why links left made untouched. run_failed (Err why) why links left made refl refl untouched)
 
@@ -131,7 +131,7 @@ module _ (Tells : List LinkReport → ℕ → List ℕ → Type 0) (session : Se
       left.0,
       left.1,
       run_answered answer _ (here (λ boards. AreLeft 0 boards steps) left)
-          (here (λ boards links. AreMadeFor boards (length links) made makes) links_made)
+          (here (λ boards links. AreMadeFor boards links made makes) links_made)
           (tells _ (here (λ boards. AreRunsOver session.settings 0 boards steps runs) over)),
     )
 
@@ -157,6 +157,7 @@ module _ (Tells : List LinkReport → ℕ → List ℕ → Type 0) (session : Se
         specs = made'.specs;
         grown = made'.grown;
         counted = made'.many;
+        in_order = made'.in_order;
         used = inr used;
         back = none_came;
         owed = owed_by terms bytes result links done leaves.tells;

@@ -16,6 +16,6 @@ use Rattle.command_terms.specs.declared.answer.Answer.{Answer}
 pub record RunLeaves (Tells : List LinkReport → ℕ → List ℕ → Type 0) (session : Session) (steps : List (List Step))
     (made makes : List LinkSpec) (result : Result Answer RunFault) (links : List LinkReport) : Type 0 where
   pub left : AreLeft 0 session.boards steps links
-  pub links_made : AreMadeFor session.boards (length links) made makes
+  pub links_made : AreMadeFor session.boards links made makes
   pub tells : IfOk result (λ answer. Tells links answer.status answer.text.items)
   pub untouched : result ≡ Err Rack → AllByRecursion IsUntouched links

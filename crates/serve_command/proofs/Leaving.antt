@@ -82,6 +82,7 @@ serve_leaves laws count bytes session made makes result given can leaves =
       specs = made'.specs;
       grown = made'.grown;
       counted = made'.many;
+      in_order = made'.in_order;
       used = inr linked;
       back = leaves.back;
       owed = service_owed laws count bytes session given result can leaves.serves;

@@ -49,7 +49,7 @@ module _ (settings : Limits)
 
 pub serve_failed : (session : Session) (count : ℕ) (made makes : List LinkSpec) (result : Result Answer ServeFault)
     (fault : ServeFault) (given : GivenBack) → AreLinksTo session.boards given.links
-    → AreMadeFor session.boards (length given.links) made makes
+    → AreMadeFor session.boards given.links made makes
     → AreBack given.came given.back → IsErr result → IsErrAnd result (λ why. why ≡ fault)
     → (fault ≡ Rack → AllByRecursion IsUntouched given.links)
     → ServeLeaves session count made makes result given
@@ -90,7 +90,7 @@ served_back settings specs links came back connections lines is = (
 pub served_done : (session : Session) (count : ℕ) (made makes : List LinkSpec) (boards : List BoardSpec)
     → boards ≡ session.boards → (answer : Answer) (connections : List Served) (lines : List BoardLine)
     (given : GivenBack)
-    → AreLinksTo boards given.links → AreMadeFor boards (length given.links) made makes
+    → AreLinksTo boards given.links → AreMadeFor boards given.links made makes
     → AreServed session.settings boards given.links given.came given.back connections lines
     → length connections ≡ count → AllByRecursion HadMemory connections
     → answer.text.items ≡ serve_text connections lines → answer.status ≡ serve_status connections
@@ -101,7 +101,7 @@ served_done session count made makes boards same answer connections lines given 
     subst (λ specs. AreServed session.settings specs given.links given.came given.back connections lines) same served in
     record {
       linked = subst (λ specs. AreLinksTo specs given.links) same linked;
-      links_made = subst (λ specs. AreMadeFor specs (length given.links) made makes) same links_made;
+      links_made = subst (λ specs. AreMadeFor specs given.links made makes) same links_made;
       back = served_back session.settings session.boards given.links given.came given.back connections lines here;
       serves = record {
         connections = connections;

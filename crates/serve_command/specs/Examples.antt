@@ -69,6 +69,7 @@ quiet_link quiets = record {
   gots = 0;
   held = 0;
   traffic = replicate quiets passed.Quiet;
+  number = 0;
   telling = None;
 }
 
@@ -80,5 +81,6 @@ greeted_link quiets = record {
   gots = 1;
   held = 0;
   traffic = passed.Got status_datagram ∷ replicate quiets passed.Quiet;
+  number = 0;
   telling = None;
 }

@@ -39,6 +39,7 @@
 --                                                                        client_history/specs/Shown
 --   each board and its link      IsServedOver: IsLiveRun, IsSilentRun,   client_history/specs/Boards,
 --                                IsDownRun                               board_history/specs/LinkRuns
+--   what passed over any link    IsMachineBoard                          board_history/specs/Machine
 --   timeouts in those lines      TimeOutsWaited                          board_history/specs/LinkRuns
 --   replies in those lines       RepliesCame                             board_history/specs/LinkRuns
 --   lost packets in those lines  HasLostOnlyIfFailed                     client_history/specs/Shown

@@ -36,7 +36,7 @@ pub record ServesSession (session : Session) (count : ℕ) (given : GivenBack) (
 pub record ServeLeaves (session : Session) (count : ℕ) (made makes : List LinkSpec)
     (result : Result Answer ServeFault) (given : GivenBack) : Type 0 where
   pub linked : AreLinksTo session.boards given.links
-  pub links_made : AreMadeFor session.boards (length given.links) made makes
+  pub links_made : AreMadeFor session.boards given.links made makes
   pub back : AreBack given.came given.back
   pub serves : IfOk result (λ answer. ServesSession session count given answer.status answer.text.items)
   pub untouched : result ≡ Err Rack → AllByRecursion IsUntouched given.links

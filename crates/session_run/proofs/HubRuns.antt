@@ -60,11 +60,12 @@ PartlyLaw = (plans : List ClientPlan) (seats : ℕ) (bodies : List (List (List �
     → final ≡ record_of head_now items_now → IsPartlyPlanned bodies items_now
 
 abbrev pub TellsLaw : Type 0
-TellsLaw = (settings other_settings : Limits) (status other_status : BoardStatus)
+TellsLaw = (number other_number : ℕ) (settings other_settings : Limits) (status other_status : BoardStatus)
     (telling other_telling : Option Telling) (items other_items : List Item)
-    → record_shown settings status telling items ≡ record_shown other_settings other_status other_telling other_items
+    → record_shown number settings status telling items
+    ≡ record_shown other_number other_settings other_status other_telling other_items
     → (settings ≡ other_settings) × (status ≡ other_status) × (opening_of telling ≡ opening_of other_telling)
-    × (items ≡ other_items)
+    × (items ≡ other_items) × (number ≡ other_number)
 
 -- ---- what the clients ask of a lane
 
@@ -147,7 +148,9 @@ gone_same law tells scripts (p ∷ positions) (o ∷ olds) (m ∷ mids) [] gone 
 gone_same {L} law tells scripts (p ∷ positions) (o ∷ olds) (m ∷ mids) (n ∷ news) gone same =
     let head : shown_record tells n ≡ shown_record tells m = cc in
     let tail : map (shown_record tells) news ≡ map (shown_record tells) mids = cc in
-    let told = law n.settings m.settings n.status m.status (tells n.link) (tells m.link) n.items m.items head in
+    let told = law n.number m.number n.settings m.settings n.status m.status (tells n.link) (tells m.link) n.items m.items
+    head in
+    let number : n.number ≡ m.number = told.4 in
     let settings : n.settings ≡ m.settings = told.0 in
     let status : n.status ≡ m.status = told.1 in
     let opening : opening_of (tells n.link) ≡ opening_of (tells m.link) = told.2 in

@@ -83,6 +83,8 @@ idle_over settings spec board scripts run link told idle shows greeted lates = r
   board' = idle.fresh.board';
   as_told = subst (IsAsTold settings spec run link) (sym greeted) (as_idle settings spec run link told idle.as_told);
   lates = lates;
+  each_late = λ payload live.
+      absurd (subst (λ (g : Greeting). IsIdleAs settings g link) (sym greeted ∙ live) idle.as_told);
 }
 
 -- what three facts tell of a result

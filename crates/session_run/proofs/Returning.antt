@@ -1,6 +1,6 @@
 -- Boards whose lanes came back, and what came of each.
 use Rattle.std.proofs.Common.{◌≡◌, ◌⊎◌, inl, inr, ℕ, ◌+◌, List, [], ◌∷◌, length, Option}
-use Rattle.std.proofs.Common.{refl, sym, ap, subst, arith}
+use Rattle.std.proofs.Common.{refl, sym, ap, subst, arith, ◌∙◌}
 use Rattle.ipb_base.specs.Numbers.{payload_of}
 use Rattle.links.specs.declared.link.Link.{Ghosts}
 use Rattle.links.specs.Telling.{Telling}
@@ -24,6 +24,7 @@ use Rattle.session_run.specs.Clients.{bodies_of_plans}
 use Rattle.session_run.specs.Lanes.{AllThree, HasGoneOn, IsRunOn, IsStoppedLane}
 use Rattle.session_run.specs.Places.{AreCameOf}
 use Rattle.board_greeting.proofs.Lanes.{lane_back}
+use Rattle.board_greeting.proofs.Numbers.{lane_numbers}
 
 -- ---- what came of a lane
 
@@ -100,3 +101,17 @@ boards_came seen settings scripts specs boards news parts long are gone (inl non
     rw none (none_came seen settings scripts 0 specs boards news long are gone)
 boards_came seen settings scripts specs boards news parts long are gone (inr ran) =
     all_came seen settings scripts 0 specs boards news parts long are gone ran
+
+-- lanes that came back have the numbers of those that went
+pub gone_numbers : {L : Type 0} (tells : L → Option Telling) (scripts : List (List Step)) (positions : List ℕ)
+    (olds news : List (LaneState L)) → AllThree (HasGoneOn tells scripts) positions olds news
+    → lane_numbers news ≡ lane_numbers olds
+gone_numbers tells scripts [] [] [] gone = refl
+gone_numbers tells scripts [] [] (n ∷ news) gone = absurd gone
+gone_numbers tells scripts [] (o ∷ olds) news gone = absurd gone
+gone_numbers tells scripts (p ∷ positions) [] news gone = absurd gone
+gone_numbers tells scripts (p ∷ positions) (o ∷ olds) [] gone = absurd gone
+gone_numbers {L} tells scripts (p ∷ positions) (o ∷ olds) (n ∷ news) gone =
+    let first : n.number ≡ o.number = ap (λ (h : Head). h.link) gone.0.head in
+    ap (λ (k : ℕ). k ∷ lane_numbers news) first
+    ∙ ap (λ (ks : List ℕ). o.number ∷ ks) (gone_numbers tells scripts positions olds news gone.1)

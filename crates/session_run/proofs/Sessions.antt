@@ -1,10 +1,10 @@
 -- Boards one after another: the links given back so far, and the runs.
-use Rattle.std.proofs.Common.{◌≡◌, ℕ, ◌+◌, ◌<◌, ◌∙◌, inl, inr, Bool, true, List, [], ◌∷◌, ◌++◌, length, map}
+use Rattle.std.proofs.Common.{◌≡◌, ℕ, ◌+◌, ◌<◌, ◌≤◌, ◌∙◌, inl, inr, Bool, true, List, [], ◌∷◌, ◌++◌, length, map}
 use Rattle.std.proofs.Common.{refl, sym, ap, subst, arith, append_assoc, append-nil, length-append, take}
 use Rattle.std.proofs.Common.{drop, get_or}
 use Rattle.std.specs.Prelude.{IfOk, IsErrAnd, MatchResult, Result, Ok, Err, is_ok}
 use Rattle.std.specs.List.{AllByRecursion}
-use Rattle.std.proofs.lemmas.List.{length-drop, length-map, length-take-le, map_push, take_more}
+use Rattle.std.proofs.lemmas.List.{drop_all, length-drop, length-map, length-take-le, map_push, take_more}
 use Rattle.world_model.specs.Settings.{Limits}
 use Rattle.ipb_outside.specs.Faults.{RisesExactlyIf}
 use Rattle.links.specs.declared.rack.RackFault.{RackFault}
@@ -110,6 +110,23 @@ some_left shows settings scripts k specs [] parts came within =
     let long = length-drop k specs in
     absurd (none_of shows settings scripts k (drop k specs) parts came (omega (arith, long, within)))
 some_left shows settings scripts k specs (b ∷ boards) parts came within = omega arith
+
+-- no more links than boards
+pub left_within : (board : ℕ) (specs : List BoardSpec) (scripts : List (List Step)) (links : List LinkReport)
+    → AreLeft board specs scripts links → length links ≤ length specs
+left_within board specs scripts [] left = omega arith
+left_within board [] scripts (l ∷ links) left = absurd left
+left_within board (s ∷ specs) scripts (l ∷ links) left =
+    let rest = left_within (board + 1) specs scripts links left.1 in omega (arith, rest)
+
+-- none is left behind the last one
+pub none_left : {L : Type 0} (shows : L → LinkReport) (settings : Limits) (scripts : List (List Step)) (k : ℕ)
+    (specs : List BoardSpec) (boards : List (Standing L)) (parts : List (List ClientPart))
+    → AreCameOf shows settings scripts k (drop k specs) boards parts → length specs ≤ k → boards ≡ []
+none_left shows settings scripts k specs [] parts came over = refl
+none_left shows settings scripts k specs (b ∷ boards) parts came over =
+    absurd (subst (λ (ss : List BoardSpec). AreCameOf shows settings scripts k ss (b ∷ boards) parts)
+    (drop_all k specs over) came)
 
 pub room_for_one : {L : Type 0} (shows : L → LinkReport) (settings : Limits) (k : ℕ) (specs : List BoardSpec)
     (scripts : List (List Step)) (runs : List BoardRun) (is_whole : Bool) (kept now : List L) (made : ℕ)

@@ -11,8 +11,9 @@ use Rattle.script_plans.specs.Plan.{ClientBodies}
 
 -- ---- the lane around its record
 
--- the lane is of the same board: `before` and `now` are what its link tells
+-- the lane is of the same board, over the same link: `before` and `now` are what that tells
 pub record KeepsLane {L : Type 0} (old new : LaneState L) (before now : Option Telling) : Type 0 where
+  pub number : new.number ≡ old.number
   pub settings : new.settings ≡ old.settings
   pub status : new.status ≡ old.status
   pub board : board_of now ≡ board_of before

@@ -4,10 +4,11 @@ ghost use Rattle.std.specs.Prelude.{◌≡◌, ◌<◌, ◌^◌, ◌++◌, ◌�
 ghost use Rattle.std.specs.List.{AllByRecursion};
 ghost use Rattle.std.specs.Vec.Iter.{into_iter_items};
 ghost use Rattle.script_steps.specs.Packing.{CanBePacked, HaveFewPieces};
-ghost use Rattle.board_history.specs.Links.{LinkReport};
+ghost use Rattle.board_history.specs.Links.{LinkReport, numbers_of};
 ghost use Rattle.board_history.specs.LinkRuns.{AreRunsOver, IsRunOver, ShowsLates, ShowsScripts};
 ghost use Rattle.board_greeting.specs.Boards.{HasRoom, IsIdle};
 ghost use Rattle.board_greeting.specs.Reports.{shown_by};
+ghost use Rattle.board_greeting.specs.Standings.{number_in, numbers_in};
 ghost use Rattle.session_run.specs.Boards.{IsNamed, OnRun};
 ghost use Rattle.session_run.specs.Lanes.{IsRunOn, IsStoppedLane};
 ghost use Rattle.session_run.specs.Links.{AreLeft, IsLeft, Keeps};
@@ -63,6 +64,7 @@ fn finish_live<L: Link>(
     ensures ran { IfOk result.1 (λ run. IsRunOver settings spec.now position scripts.now run
         (shown_by L.Link result.0)) }
     ensures left { IsLeft spec.now position scripts.now (shown_by L.Link result.0) }
+    ensures number { L.number result.0 ≡ lane.number }
 {
     a_finished_lane_is_a_live_run();
     a_lane_sends_a_merge_at_any_moment();
@@ -118,6 +120,7 @@ fn finish_board<L: Link>(
     ensures ran { IfOk result.1 (λ run. IsRunOver settings spec.now position scripts.now run
         (shown_by L.Link result.0)) }
     ensures left { IsLeft spec.now position scripts.now (shown_by L.Link result.0) }
+    ensures number { L.number result.0 ∷ [] ≡ number_in L.number board }
 {
     a_fresh_link_is_left();
     match board {
@@ -178,7 +181,8 @@ pub(crate) fn finish_boards<R: Rack>(
     ensures ran { IfOk result (λ runs. Keeps R.Rack R.L.Link rack.old rack.new
         (AreRunsOver settings 0 specs.now scripts.now runs.items)) }
     ensures left { Keeps R.Rack R.L.Link rack.old rack.new
-        (λ links. AreLeft 0 specs.now scripts.now links × (length links ≡ length specs.now)) }
+        (λ links. AreLeft 0 specs.now scripts.now links × (length links ≡ length specs.now)
+        × (numbers_of links ≡ numbers_in R.L.number boards.items)) }
     ensures made { R.made rack.new ≡ R.made rack.old }
     ensures faults { R.faults rack.new ≡ R.faults rack.old }
 {

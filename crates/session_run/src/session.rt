@@ -1,12 +1,13 @@
 //! A whole session over the links of a rack.
 
-ghost use Rattle.std.specs.Prelude.{◌≡◌, ◌^◌, ◌<◌, [], length, Err, IfOk, OnErr};
+ghost use Rattle.std.specs.Prelude.{◌≡◌, ◌^◌, ◌<◌, [], length, map, Err, IfOk, OnErr};
 ghost use Rattle.std.specs.List.{AllByRecursion};
 ghost use Rattle.ipb_outside.specs.Faults.{RisesExactlyIf};
-ghost use Rattle.board_history.specs.Links.{IsUntouched};
+ghost use Rattle.board_history.specs.Links.{IsUntouched, numbers_of};
 ghost use Rattle.board_history.specs.LinkRuns.{AreRunsOver};
 ghost use Rattle.board_greeting.specs.Boards.{AreReached, HasRoom};
 ghost use Rattle.board_greeting.specs.Reports.{shown_by};
+ghost use Rattle.board_greeting.specs.Standings.{links_in};
 ghost use Rattle.session_run.specs.Scripts.{CanBeRun};
 ghost use Rattle.session_run.specs.Links.{AreLeft, AreMadeFor, CanBeReached, Keeps};
 
@@ -90,7 +91,8 @@ pub fn run_greeted<R: Rack, T: Threads + Wait + Sync, G: Gate>(
     ensures ran { IfOk result (λ runs. Keeps R.Rack R.L.Link rack.old rack.new
         (AreRunsOver settings 0 specs.now scripts.now runs.items)) }
     ensures left { Keeps R.Rack R.L.Link rack.old rack.new
-        (λ links. AreLeft 0 specs.now scripts.now links × (length links ≡ length specs.now)) }
+        (λ links. AreLeft 0 specs.now scripts.now links × (length links ≡ length specs.now)
+        × (numbers_of links ≡ numbers_of (map (shown_by R.L.Link) (links_in boards.items)))) }
     ensures made { R.made rack.new ≡ R.made rack.old }
     ensures faults { R.faults rack.new ≡ R.faults rack.old }
 {
@@ -122,11 +124,11 @@ pub fn run_session<R: Rack, T: Threads + Wait + Sync, G: Gate>(
     // What the runs show of each board is what its link bears out.
     ensures ran { IfOk result (λ runs. Keeps R.Rack R.L.Link rack.old rack.new
         (AreRunsOver settings 0 specs.now scripts.now runs.items)) }
-    // Whatever came of it, links were made of the specs of the first boards, and they are given back board by board; what
-    // was sent to each board is what the scripts ask of it.
+    // Whatever came of it, links were made of the specs of the first boards, and they are given back board by board: the
+    // link of a board is the one that was made of its spec. What was sent to each board is what the scripts ask of it.
     ensures left { Keeps R.Rack R.L.Link rack.old rack.new (AreLeft 0 specs.now scripts.now) }
     ensures made { Keeps R.Rack R.L.Link rack.old rack.new
-        (λ links. AreMadeFor specs.now (length links) (R.made rack.old) (R.made rack.new)) }
+        (λ links. AreMadeFor specs.now links (R.made rack.old) (R.made rack.new)) }
     ensures rack_faults { RisesExactlyIf (result ≡ Err RunFault.Rack) (R.faults rack.old) (R.faults rack.new) }
     ensures untouched { result ≡ Err RunFault.Rack → Keeps R.Rack R.L.Link rack.old rack.new
         (AllByRecursion IsUntouched) }

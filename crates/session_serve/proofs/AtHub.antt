@@ -68,17 +68,19 @@ opens_all tells (lane ∷ lanes) unused = (
 -- ---- lanes that did not go to a hub
 
 abbrev pub TellsLaw : Type 0
-TellsLaw = (settings other_settings : Limits) (status other_status : BoardStatus) (telling other_telling : Option
-    Telling)
-    (items other_items : List Item)
-    → record_shown settings status telling items ≡ record_shown other_settings other_status other_telling other_items
+TellsLaw = (number other_number : ℕ) (settings other_settings : Limits) (status other_status : BoardStatus)
+    (telling other_telling : Option Telling) (items other_items : List Item)
+    → record_shown number settings status telling items
+    ≡ record_shown other_number other_settings other_status other_telling other_items
     → (settings ≡ other_settings) × (status ≡ other_status) × (opening_of telling ≡ opening_of other_telling)
-    × (items ≡ other_items)
+    × (items ≡ other_items) × (number ≡ other_number)
 
 same_head : {L : Type 0} → TellsLaw → (tells : L → Option Telling) (m n : LaneState L) → shown_record tells n ≡ shown_record tells m
     → KeepsHead tells m n
 same_head law tells m n is =
-    let told = law n.settings m.settings n.status m.status (tells n.link) (tells m.link) n.items m.items is in
+    let told = law n.number m.number n.settings m.settings n.status m.status (tells n.link) (tells m.link) n.items m.items
+    is in
+    let number : n.number ≡ m.number = told.4 in
     let settings : n.settings ≡ m.settings = told.0 in
     let status : n.status ≡ m.status = told.1 in
     let opening : opening_of (tells n.link) ≡ opening_of (tells m.link) = told.2 in
@@ -99,7 +101,7 @@ shown_at tells (x ∷ ms) (y ∷ ns) (suc i) m n is em en =
 pub same_items : {L : Type 0} → TellsLaw → (tells : L → Option Telling) (m n : LaneState L)
     → shown_record tells n ≡ shown_record tells m → n.items ≡ m.items
 same_items law tells m n is =
-    (law n.settings m.settings n.status m.status (tells n.link) (tells m.link) n.items m.items is).3
+    (law n.number m.number n.settings m.settings n.status m.status (tells n.link) (tells m.link) n.items m.items is).3
 
 pub returned_long : {L : Type 0} (tells : L → Option Telling) (olds news : List (LaneState L))
     → map (shown_record tells) news ≡ map (shown_record tells) olds → length news ≡ length olds

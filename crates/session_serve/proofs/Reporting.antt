@@ -1,6 +1,6 @@
 -- What is shown of boards once their lanes came back.
 use Rattle.std.proofs.Common.{◌≡◌, ◌∙◌, ℕ, ◌+◌, List, [], ◌∷◌, map, length, Some, refl, sym, ap, subst}
-use Rattle.std.proofs.Common.{◌++◌, drop, suc, take, zero}
+use Rattle.std.proofs.Common.{◌++◌, drop, suc, take, zero, Option}
 use Rattle.std.proofs.Common.{arith}
 use Rattle.std.proofs.lemmas.List.{length-map}
 use Rattle.std.proofs.lemmas.Option.{none-some, same_Some}
@@ -8,6 +8,7 @@ use Rattle.std.specs.List.{AllByRecursion, slice_get}
 use Rattle.ipb_base.specs.Numbers.{payload_of}
 use Rattle.ipb_outside.specs.Pairs.{PairReport}
 use Rattle.links.specs.declared.link.Link.{Ghosts}
+use Rattle.links.specs.Telling.{Telling}
 use Rattle.world_model.specs.Settings.{Limits}
 use Rattle.board_specs.specs.declared.spec.BoardSpec.{BoardSpec}
 use Rattle.lane_record.specs.Coding.{Head}
@@ -25,7 +26,7 @@ use Rattle.transcript.specs.declared.line.BoardLine.{BoardLine}
 use Rattle.transcript.specs.declared.line.BoardLine.TheVariants as line
 use Rattle.transcript.specs.Lines.{board_line}
 use Rattle.board_history.specs.Runs.{opens_with}
-use Rattle.board_history.specs.Links.{IsUntouched, LinkReport}
+use Rattle.board_history.specs.Links.{IsUntouched, LinkReport, numbers_of}
 use Rattle.board_history.specs.Lanes.{IsSoundLane}
 use Rattle.board_history.specs.LinkRuns.{TellsPayload}
 use Rattle.client_history.specs.Boards.{AreServedOver, IsServedOver, ServedBoard, run_of}
@@ -33,9 +34,10 @@ use Rattle.client_history.specs.Planned.{KeepLimits}
 use Rattle.board_greeting.specs.Boards.{AreFreshLinks, AreReached, IsEndedLane, IsLaneTo}
 use Rattle.board_greeting.specs.Boards.{head_shown}
 use Rattle.board_greeting.specs.Reports.{shown_by}
-use Rattle.board_greeting.specs.Standings.{all_at_hub, lane_after, lanes_in, links_in, state_at, with_lanes}
+use Rattle.board_greeting.specs.Standings.{all_at_hub, lane_after, lanes_in, links_in, numbers_in, state_at, with_lanes}
 use Rattle.board_greeting.proofs.Boards.{fresh_links, reached_fresh}
 use Rattle.board_greeting.proofs.Lanes.{lane_back}
+use Rattle.board_greeting.proofs.Numbers.{lane_numbers, numbers_back}
 use Rattle.session_serve.specs.Boards.{AreLinksTo, lines_of, states_from, states_of}
 use Rattle.hub_session.specs.declared.served.Served.{Served}
 use Rattle.session_serve.specs.Connections.{Conversation, HaveExchanged, submissions_to}
@@ -405,6 +407,47 @@ links_back {L} {seen} {settings} {specs} {boards} {news} {ended} back sound =
     let to = links_to L seen settings 0 specs boards news back.all back.reached back.heads
     (subst (AllByRecursion (IsSound seen)) back.is sound) in
     rw back.is (to.0, length-map (links_in (with_lanes (all_at_hub boards) news)) shows ∙ to.1)
+
+side_numbers : {L : Type 0} (tells : L → Option Telling) (lane : ℕ) (olds news : List (LaneState L))
+    → SideBySide lane olds news (λ n. KeepsHead tells) → lane_numbers news ≡ lane_numbers olds
+side_numbers tells lane [] [] side = refl
+side_numbers tells lane [] (n ∷ news) side = absurd (let l = side.long in omega (arith, l))
+side_numbers tells lane (o ∷ olds) [] side = absurd (let l = side.long in omega (arith, l))
+side_numbers {L} tells lane (o ∷ olds) (n ∷ news) side =
+    let head = first_of lane o olds n news (λ k. KeepsHead tells) side in
+    let first : n.number ≡ o.number = ap (λ (h : Head). h.link) head in
+    ap (λ (k : ℕ). k ∷ lane_numbers news) first
+    ∙ ap (λ (ks : List ℕ). o.number ∷ ks)
+    (side_numbers tells (lane + 1) olds news (rest_of lane o olds n news (λ k. KeepsHead tells) side))
+
+sound_numbers : {L : Type 0} (seen : Ghosts L) (boards : List (Standing L)) → AllByRecursion (IsSound seen) boards
+    → numbers_of (map (shown_by seen) (links_in boards)) ≡ numbers_in seen.number boards
+sound_numbers seen [] sound = refl
+sound_numbers {L} seen (Live lane ∷ boards) sound =
+    ap (λ (k : ℕ). k ∷ numbers_of (map (shown_by seen) (links_in boards))) sound.0.2
+    ∙ ap (λ (ks : List ℕ). lane.number ∷ ks) (sound_numbers seen boards sound.1)
+sound_numbers seen (AtHub ∷ boards) sound = sound_numbers seen boards sound.1
+sound_numbers seen (Silent link ∷ boards) sound =
+    ap (λ (ks : List ℕ). seen.number link ∷ ks) (sound_numbers seen boards sound.1)
+sound_numbers seen (Down link ∷ boards) sound =
+    ap (λ (ks : List ℕ). seen.number link ∷ ks) (sound_numbers seen boards sound.1)
+
+-- the links have the numbers of those that the lanes went with
+pub numbers_still : {L : Type 0} {settings : Limits} {specs : List BoardSpec} {left : List (Standing L)}
+    {prepared : Prepared L} {news : List (LaneState L)} {ended : List (Standing L)} (seen : Ghosts L)
+    (ready : IsReady (shown_by seen) settings specs left prepared)
+    → BoardsBack seen settings specs ready.boards news ended → AllByRecursion (IsSound seen) ended
+    → numbers_of (map (shown_by seen) (links_in ended)) ≡ numbers_in seen.number (with_lanes left prepared.lanes.items)
+numbers_still {L} {settings} {specs} {left} {prepared} {news} {ended} seen ready back sound =
+    let boards = ready.boards in
+    let number = seen.number in
+    sound_numbers seen ended sound
+    ∙ (ap (λ (bs : List (Standing L)). numbers_in number bs) back.is
+    ∙ (numbers_back seen settings specs boards news back.reached
+    (side_numbers seen.telling 0 (lanes_in boards) news back.heads)
+    ∙ (sym (numbers_back seen settings specs boards (lanes_in boards) back.reached refl)
+    ∙ sym (ap (λ (bs : List (Standing L)). numbers_in number (with_lanes bs prepared.lanes.items)) ready.left'
+    ∙ ap (λ (ls : List (LaneState L)). numbers_in number (with_lanes (all_at_hub boards) ls)) ready.prepared'.lanes'))))
 
 -- ---- links of boards that were greeted
 

@@ -1,5 +1,5 @@
 -- The boards once their lanes came back. What private functions promise one another; no public clause speaks of these.
-use Rattle.std.specs.Prelude.{ℕ, List, [], ◌∷◌, length, count_by}
+use Rattle.std.specs.Prelude.{◌≡◌, ℕ, List, [], ◌∷◌, length, count_by}
 use Rattle.links.specs.declared.link.Link.{Ghosts}
 use Rattle.world_model.specs.Settings.{Limits}
 use Rattle.board_specs.specs.declared.spec.BoardSpec.{BoardSpec}
@@ -36,13 +36,15 @@ lines_in [] boards = []
 lines_in (name ∷ names) [] = []
 lines_in (name ∷ names) (one ∷ boards) = line_in name one ∷ lines_in names boards
 
--- Of a live board: its lane keeps what a lane keeps, and has all that the history of its board rests on.
+-- Of a live board: its lane keeps what a lane keeps, has all that the history of its board rests on, and is over the link
+-- with its number.
 abbrev pub IsSound : {L : Type 0} → Ghosts L → Standing L → Type 0
 IsSound seen (Live lane) =
     IsLane lane.settings lane.status lane.hub lane.items lane.outcomes lane.lates lane.give_ups lane.down lane.spent
     (seen.telling lane.link) (seen.faults lane.link) (seen.quiets lane.link)
     × ((settings : Limits) (spec : BoardSpec) → IsLaneTo settings spec (seen.telling lane.link) lane
     → IsEndedLane settings spec lane (shown_by seen lane.link))
+    × (seen.number lane.link ≡ lane.number)
 IsSound seen AtHub = Unit {0}
 IsSound seen (Silent link) = Unit {0}
 IsSound seen (Down link) = Unit {0}

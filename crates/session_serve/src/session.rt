@@ -1,14 +1,15 @@
 //! Connections of a door served at the boards of a document.
 
-ghost use Rattle.std.specs.Prelude.{◌≡◌, ◌≢◌, ◌^◌, ◌<◌, length, Err, IfOk, IsOk};
+ghost use Rattle.std.specs.Prelude.{◌≡◌, ◌≢◌, ◌^◌, ◌<◌, length, map, Err, IfOk, IsOk};
 ghost use Rattle.std.specs.List.{AllByRecursion};
 ghost use Rattle.ipb_outside.specs.Faults.{RisesExactlyIf};
 ghost use Rattle.ipb_outside.specs.Doors.{Listens};
 ghost use Rattle.ipb_outside.specs.Pairs.{GivesBack};
-ghost use Rattle.board_history.specs.Links.{IsUntouched};
+ghost use Rattle.board_history.specs.Links.{IsUntouched, numbers_of};
 ghost use Rattle.board_greeting.specs.Boards.{AreReached, HasRoom};
 ghost use Rattle.board_greeting.specs.Reports.{shown_by};
 ghost use Rattle.board_greeting.specs.Links.{AreMadeFor, CanBeReached, Keeps};
+ghost use Rattle.board_greeting.specs.Standings.{links_in, numbers_in, with_lanes};
 ghost use Rattle.session_serve.specs.Boards.{AreLinksTo};
 ghost use Rattle.session_serve.specs.Executed.{CameInFrames};
 ghost use Rattle.session_serve.specs.Prepared.{IsReady};
@@ -51,7 +52,8 @@ fn serve_prepared<R: Rack, D: Door, T: Threads + Wait + Sync>(
     ensures all { IfOk result (λ report. length report.connections.items ≡ count) }
     ensures had_memory { IfOk result (λ report. AllByRecursion HadMemory report.connections.items) }
     ensures links { Keeps R.Rack R.L.Link rack.old rack.new
-        (λ links. AreLinksTo specs.now links × (length links ≡ length specs.now)) }
+        (λ links. AreLinksTo specs.now links × (length links ≡ length specs.now)
+        × (numbers_of links ≡ numbers_in R.L.number (with_lanes boards.items prepared.lanes.items))) }
     ensures pairs { GivesBack D.Door D.Incoming.Source D.Outgoing.Sink door.old door.new AreBack }
     ensures in_frames { Keeps R.Rack R.L.Link rack.old rack.new
         (λ links. GivesBack D.Door D.Incoming.Source D.Outgoing.Sink door.old door.new (CameInFrames links)) }
@@ -103,7 +105,8 @@ fn serve_greeted<R: Rack, D: Door, T: Threads + Wait + Sync>(
     ensures all { IfOk result (λ report. length report.connections.items ≡ count) }
     ensures had_memory { IfOk result (λ report. AllByRecursion HadMemory report.connections.items) }
     ensures links { Keeps R.Rack R.L.Link rack.old rack.new
-        (λ links. AreLinksTo specs.now links × (length links ≡ length specs.now)) }
+        (λ links. AreLinksTo specs.now links × (length links ≡ length specs.now)
+        × (numbers_of links ≡ numbers_of (map (shown_by R.L.Link) (links_in boards.items)))) }
     ensures pairs { GivesBack D.Door D.Incoming.Source D.Outgoing.Sink door.old door.new AreBack }
     ensures in_frames { Keeps R.Rack R.L.Link rack.old rack.new
         (λ links. GivesBack D.Door D.Incoming.Source D.Outgoing.Sink door.old door.new (CameInFrames links)) }
@@ -156,9 +159,9 @@ pub fn serve_session<R: Rack, D: Door, T: Threads + Wait + Sync>(
     ensures had_memory { IfOk result (λ report. AllByRecursion HadMemory report.connections.items) }
 
     // Whatever came of it, links were made of the specs of the first boards, and each is given back once, in board
-    // order, and each connection that was let in once, in the order of acceptance.
+    // order, so that the link of a board is the one that was made of its spec, and each connection that was let in once, in the order of acceptance.
     ensures links { Keeps R.Rack R.L.Link rack.old rack.new
-        (λ links. AreLinksTo specs.now links × AreMadeFor specs.now (length links) (R.made rack.old)
+        (λ links. AreLinksTo specs.now links × AreMadeFor specs.now links (R.made rack.old)
         (R.made rack.new)) }
     ensures pairs { GivesBack D.Door D.Incoming.Source D.Outgoing.Sink door.old door.new AreBack }
     ensures none_out { D.out door.new ≡ D.out door.old }

@@ -59,6 +59,8 @@ pub record UdpState : Type 0 where
   pub gots : ℕ
   -- what passed over it, in the order of the calls that did not fail
   pub traffic : List Passed
+  -- its number among the links of its rack
+  pub number : ℕ
   -- whether something waits beside it
   pub is_watched : Bool
   -- what its socket tells, if it tells anything
@@ -74,6 +76,7 @@ new_link tells address port wait = record {
   quiets = 0;
   gots = 0;
   traffic = [];
+  number = 0;
   is_watched = false;
   told = told_at_first tells (At every_address any_port) (wait_nanos wait);
 }
@@ -81,3 +84,7 @@ new_link tells address port wait = record {
 -- the same over a socket of std, which tells nothing
 abbrev pub new_udp : List ℕ → ℕ → ℕ → UdpState
 new_udp address port wait = new_link false address port wait
+
+-- the link with this number among those of its rack
+abbrev pub with_number : ℕ → UdpState → UdpState
+with_number number link = record link { number = number }

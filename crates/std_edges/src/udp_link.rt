@@ -7,7 +7,7 @@ ghost use Rattle.links.specs.Traffic.{received_after, sent_after};
 ghost use Rattle.links.specs.Sockets.{AreCalls, SendTo};
 ghost use Rattle.links.specs.Telling.{gots_after, IsCarried, quiets_after};
 ghost use Rattle.std_edges.specs.Heard.{datagram_in, ReceivesOver, told_of, with_heard_counted};
-ghost use Rattle.std_edges.specs.States.{new_link, new_udp};
+ghost use Rattle.std_edges.specs.States.{new_link, new_udp, with_number};
 
 use crate::bound::{BoundSocket, socket_that_waits};
 use crate::counting::incremented;
@@ -18,7 +18,7 @@ use crate::link_socket::LinkSocket;
 use crate::places::place_of_board;
 use ipb_base::NoMemory;
 use ipb_outside::Failed;
-use links::{Link, LinkFault, MAX_DATAGRAM, Received, Sighting, TrafficLog, Waiter};
+use links::{Link, LinkFault, LinkNumber, MAX_DATAGRAM, Received, Sighting, TrafficLog, Waiter};
 use std::alloc::Global;
 use std::io;
 use std::marker::Model;
@@ -42,6 +42,7 @@ pub struct UdpLink<S: LinkSocket + Drop = UdpSocket> {
     quiets: u64,
     gots: u64,
     traffic: TrafficLog,
+    number: LinkNumber,
     notes: LinkNotes,
 }
 
@@ -59,6 +60,7 @@ impl<S: LinkSocket + Drop> Model for UdpLink<S> {
       quiets = link.quiets;
       gots = link.gots;
       traffic = link.traffic;
+      number = link.number;
       is_watched = is_some link.sighting;
       told = link.socket.told;
     } };
@@ -103,6 +105,7 @@ impl<S: LinkSocket + Drop> UdpLink<S> {
                 quiets: 0,
                 gots: 0,
                 traffic: TrafficLog::new(),
+                number: LinkNumber::after(0),
                 notes,
             }),
             Err(error) => {
@@ -111,6 +114,13 @@ impl<S: LinkSocket + Drop> UdpLink<S> {
                 Err(Failed)
             }
         }
+    }
+
+    /// Numbers the link among those that its rack made, of which so many were made before. It does nothing when it runs.
+    pub fn set_number(&mut self, others: usize)
+        ensures { self.new ≡ with_number others self.old }
+    {
+        self.number = LinkNumber::after(others);
     }
 
     // Whether the waiter waited as long as a receive does, and found nothing, and nothing was sent since.
@@ -162,6 +172,7 @@ impl<S: LinkSocket + Drop> UdpLink<S> {
         ensures quiets { self.old.quiets ≤ self.new.quiets }
         ensures gots { self.old.gots ≤ self.new.gots }
         ensures traffic { self.new.traffic ≡ self.old.traffic }
+        ensures number { self.new.number ≡ self.old.number }
     {
         match heard {
             Heard::Board(_) => Ok(self.count_got()),
@@ -204,6 +215,8 @@ impl<S: LinkSocket + Drop> Link for UdpLink<S> {
 
     ghost traffic = { λ link. link.traffic };
 
+    ghost number = { λ link. link.number };
+
     /// One datagram to the board. An error, of any kind, is counted, and so is a datagram of which a part alone went.
     /// After an error that passes (`is_passing`) the datagram counts as sent: it is lost, as on the network.
     fn send(&mut self, bytes: &[u8]) -> Result<(), LinkFault>
@@ -212,6 +225,7 @@ impl<S: LinkSocket + Drop> Link for UdpLink<S> {
         ensures quiets { self.new.quiets ≡ self.old.quiets }
         ensures gots { self.new.gots ≡ self.old.gots }
         ensures traffic { self.new.traffic ≡ sent_after result bytes.now self.old.traffic }
+        ensures number { self.new.number ≡ self.old.number }
         ensures handed { AreCalls (SendTo self.old.board bytes.now ∷ []) self.old.told self.new.told }
     {
         let sent = self.socket.send(bytes, self.board);
@@ -253,6 +267,7 @@ impl<S: LinkSocket + Drop> Link for UdpLink<S> {
         ensures gots { self.new.gots ≡ gots_after result self.old.gots }
         ensures gots_rise { self.old.gots ≤ self.new.gots }
         ensures traffic { self.new.traffic ≡ received_after result into.new.items self.old.traffic }
+        ensures number { self.new.number ≡ self.old.number }
         ensures handed { ReceivesOver self.old.board self.old.is_watched self.old.told self.new.told result into.new.items }
     {
         into.clear();

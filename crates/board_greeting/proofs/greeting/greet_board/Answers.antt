@@ -12,4 +12,5 @@ pub returns-clause-reached : goal.returns-clause-reached
 returns-clause-reached g c =
     is_reached g.R.L.Link c.args.settings c.args.spec.now c.in_ok-link.link c.greet.result c.in_ok-link.ensures.told
     c.greet.ensures.fresh c.greet.ensures.ready c.greet.ensures.told c.greet.ensures.silent c.greet.ensures.silent_told
-    c.greet.ensures.none_told c.greet.ensures.down_none_told c.greet.ensures.down
+    c.greet.ensures.none_told c.greet.ensures.down_none_told c.greet.ensures.silent_asked c.greet.ensures.down_asked
+    c.greet.ensures.down

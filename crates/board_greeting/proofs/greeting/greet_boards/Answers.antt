@@ -1,5 +1,4 @@
-use Rattle.std.proofs.Common.{◌≤◌, ◌∙◌, ◌++◌, [], ap, append-nil, length, map, subst, sym}
-use Rattle.std.proofs.lemmas.List.{length-map}
+use Rattle.std.proofs.Common.{◌≤◌, ◌∙◌, ◌++◌, [], ap, append-nil, map, refl, subst, sym}
 use Rattle.ipb_base.specs.Faults.{Rose}
 use Rattle.board_greeting.specs.Boards.{HasRoom}
 use Rattle.board_greeting.specs.Standings.{links_in}
@@ -30,9 +29,9 @@ returns-in-Err-clause-left g c =
       c.keep_all.ensures.kept ∙ ap (λ kept. kept ++ links) c.greet_into.ensures.kept,
       (
         fresh.0,
-        made_still c.args.specs.now (length boards) (length (map shows links)) (g.R.Rack.made c.args.rack.now)
-            (g.R.Rack.made c.greet_into.new.rack) (g.R.Rack.made c.keep_all.new.rack) c.greet_into.ensures.made
-            (length-map links shows ∙ fresh.1) c.keep_all.ensures.made,
+        made_still c.args.specs.now (map shows links) (map shows links) (g.R.Rack.made c.args.rack.now)
+            (g.R.Rack.made c.greet_into.new.rack) (g.R.Rack.made c.keep_all.new.rack) c.greet_into.ensures.made refl
+            c.keep_all.ensures.made,
       ),
     )
 

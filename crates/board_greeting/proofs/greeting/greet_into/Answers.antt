@@ -1,12 +1,12 @@
-use Rattle.std.proofs.Common.{◌≡◌, ◌∙◌, ◌∷◌, ◌++◌, ◌+◌, ℕ, [], Some, ap, length, length-append, refl, subst, sym, arith}
+use Rattle.std.proofs.Common.{◌≡◌, ◌∙◌, ◌∷◌, ◌++◌, ◌+◌, ℕ, [], Some, ap, length, length-append, map, refl, subst, sym, arith}
 use Rattle.std.proofs.lemmas.Grind.{common_steps}
 use Rattle.std.specs.List.{slice_get}
 use Rattle.std.proofs.lemmas.Option.{slice_get-get_or}
 use Rattle.board_specs.specs.declared.spec.BoardSpec.{BoardSpec}
 use Rattle.board_greeting.specs.Boards.{AreReached, IsFreshAt, LeavesRoom, OfFirst, StandsAsTold}
 use Rattle.board_greeting.specs.Reports.{shown_by}
-use Rattle.board_greeting.specs.Standings.{standing_of}
-use Rattle.board_greeting.proofs.Boards.{first_of_more, fresh_as_greeted, made_more, made_still, one_more_made}
+use Rattle.board_greeting.specs.Standings.{links_in, standing_of}
+use Rattle.board_greeting.proofs.Boards.{first_of_more, fresh_as_greeted, greeted_more, made_still, one_more_made}
 use Rattle.board_greeting.proofs.Boards.{reached_fresh, room_for_more, stands_as_told}
 use Rattle.board_greeting.proofs.greeting.greet_into.Goals as goal
 
@@ -40,16 +40,15 @@ returns-then-is_last-clause-made g c =
     let boards = c.loop-spec.boards.items in
     let before = g.R.Rack.made c.args.rack.now in
     let new = g.R.Rack.made c.greet_board.new.rack in
-    let longer : length c.push_reserved.new.self.items ≡ length boards + 1 =
-    ap length c.push_reserved.ensures.items ∙ length-append boards (c.standing_of.result ∷ []) in
     let there : slice_get c.args.specs.now (length boards) ≡ Some c.spec-item.result =
     ap (slice_get c.args.specs.now) c.loop-spec.invariant.many
     ∙ (slice_get-get_or c.args.specs.now c.loop-spec.spec-index c.spec-item.result (let test = c.loop-spec-test.true in
     let end = c.loop-spec.auto.spec-index-end in omega (arith, test, end))
     ∙ ap (λ (x : BoardSpec). Some x) (sym c.spec-item.is)) in
-    made_still c.args.specs.now (length boards + 1) (length c.push_reserved.new.self.items) before new new
-    (made_more c.args.specs.now (length boards) c.spec-item.result before (g.R.Rack.made c.loop-spec.rack) new there
-    c.loop-spec.invariant.made c.in_ok-board.ensures.made) longer refl
+    greeted_more g.R.L.Link c.args.settings c.args.specs.now boards c.push_reserved.new.self.items c.spec-item.result
+    c.in_ok-board.board before (g.R.Rack.made c.loop-spec.rack) new
+    (c.push_reserved.ensures.items ∙ ap (λ one. boards ++ one ∷ []) c.standing_of.ensures) there
+    c.loop-spec.invariant.reached c.loop-spec.invariant.made c.in_ok-board.ensures.number c.in_ok-board.ensures.made
 
 pub returns-then-is_last-clause-room : goal.returns-then-is_last-clause-room
 returns-then-is_last-clause-room g c =
@@ -65,8 +64,8 @@ returns-then-is_last-clause-room g c =
 
 pub returns-in_err-board-clause-made : goal.returns-in_err-board-clause-made
 returns-in_err-board-clause-made g c =
-    let boards = c.loop-spec.boards.items in
-    made_still c.args.specs.now (length boards) (length boards) (g.R.Rack.made c.args.rack.now)
+    let links = map (shown_by g.R.L.Link) (links_in c.loop-spec.boards.items) in
+    made_still c.args.specs.now links links (g.R.Rack.made c.args.rack.now)
     (g.R.Rack.made c.loop-spec.rack) (g.R.Rack.made c.greet_board.new.rack) c.loop-spec.invariant.made refl
     c.in_err-board.ensures.made
 
@@ -96,9 +95,9 @@ loop-spec-preserved g c =
           (c.is_out_of_memory-is_last.ensures c.if-is_last.false) c.in_ok-board.ensures.reached));
       faults = c.in_ok-board.ensures.faults.2 (λ e. cc) ∙ c.loop-spec.invariant.faults;
       kept = c.greet_board.ensures.kept ∙ c.loop-spec.invariant.kept;
-      made = made_still c.args.specs.now (length boards + 1) (length c.push_reserved.new.self.items)
-          (g.R.Rack.made c.args.rack.now) new new (made_more c.args.specs.now (length boards) c.spec-item.result
-          (g.R.Rack.made c.args.rack.now) old new there c.loop-spec.invariant.made made) longer refl;
+      made = greeted_more g.R.L.Link c.args.settings c.args.specs.now boards c.push_reserved.new.self.items
+          c.spec-item.result board (g.R.Rack.made c.args.rack.now) old new pushed there c.loop-spec.invariant.reached
+          c.loop-spec.invariant.made c.in_ok-board.ensures.number made;
       room = subst (LeavesRoom (length (g.R.Rack.kept c.greet_board.new.rack)) (length new)) (sym longer)
           (room_for_more (length (g.R.Rack.kept c.loop-spec.rack)) (length (g.R.Rack.kept c.greet_board.new.rack))
           (length old) (length new) (length boards) c.greet_board.ensures.within

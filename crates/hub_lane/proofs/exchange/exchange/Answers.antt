@@ -1,17 +1,20 @@
-use Rattle.std.proofs.Common.{◌∙◌, ap, subst, refl, sym, arith}
+use Rattle.std.proofs.Common.{◌∙◌, [], ap, subst, refl, sym, arith}
 use Rattle.world_model.specs.Hub.{Hub, after_handing_out}
 use Rattle.lane_record.specs.Lates.{put_lates}
 use Rattle.lane_record.specs.Offers.{put_all}
 use Rattle.hub_lane.specs.Exchange.{Hears}
-use Rattle.hub_lane.specs.Hearing.{give_ups_of, gots_of, quiets_of, receives_of}
+use Rattle.hub_lane.specs.Hearing.{give_ups_of, gots_of, hub_after, quiets_of, receives_of}
 use Rattle.hub_lane.specs.Sends.{HasSent}
 use Rattle.hub_lane.proofs.Carrying.{carried}
-use Rattle.hub_lane.proofs.Links.{keeps_then, nothing_keeps, on_any_err}
+use Rattle.hub_lane.proofs.Links.{keeps_then, nothing_keeps, on_any_err, on_that_err}
 use Rattle.hub_lane.proofs.Linked.{stopped_after}
 use Rattle.hub_lane.proofs.Ready.{exchanged, exchanged_unanswered, ready_sent, same_sent}
 use Rattle.hub_lane.proofs.Rounds.{exchanged_pays}
 use Rattle.hub_lane.proofs.InRounds.{round_exchanged}
-use Rattle.hub_lane.proofs.Runs.{runs_received, runs_then, runs_unheard}
+use Rattle.hub_lane.specs.Run as ends
+use Rattle.hub_lane.specs.Run.{RunsTo, ending_by}
+use Rattle.links.specs.declared.link.LinkFault.{LinkFault}
+use Rattle.hub_lane.proofs.Runs.{goes_then, runs_received, runs_unheard}
 use Rattle.hub_lane.proofs.exchange.exchange.Goals as goal
 
 pub receive-requires-clause-drained : goal.receive-requires-clause-drained
@@ -152,23 +155,33 @@ pub returns-clause-ran : goal.returns-clause-ran
 returns-clause-ran g c =
     let traffic = g.L.Link.traffic in
     let mid = c.send_all.new.hub in
-    runs_then c.laws_of_runs.ensures c.in_ok-send_all.ensures.ran
-    (runs_received c.in_ok-pumped.pumped c.receive.new.buffer.items mid c.receive.new.hub c.settle.new.hub
-    c.send_all.new.run c.add_received.new.self (traffic c.send_all.new.link) (traffic c.receive.new.link)
-    c.in_ok-send_all.ensures.none
+    let pumped = c.in_ok-pumped.pumped in
+    let bytes = c.receive.new.buffer.items in
+    subst (λ (h : Hub). RunsTo ends.GoesOn [] c.args.hub.now (hub_after pumped bytes h) c.args.run.now
+    c.add_received.new.self (traffic c.args.link.now) (traffic c.receive.new.link)) c.in_ok-send_all.ensures.all
+    (goes_then c.laws_of_runs.ensures c.in_ok-send_all.ensures.ran
+    (runs_received pumped bytes mid c.receive.new.hub c.send_all.new.run c.add_received.new.self
+    (traffic c.send_all.new.link) (traffic c.receive.new.link) c.in_ok-send_all.ensures.none
     ((same_sent c.args.hub.now mid c.send_all.ensures.some).waits ∙ c.requires.waits)
-    c.in_ok-pumped.ensures.heard c.settle.ensures.hub c.add_received.ensures c.in_ok-pumped.ensures.passed)
-
-pub returns-in_err-send_all-clause-cut : goal.returns-in_err-send_all-clause-cut
-returns-in_err-send_all-clause-cut g c = on_any_err c.from_residual.result c.in_err-send_all.ensures.cut
+    c.in_ok-pumped.ensures.heard c.add_received.ensures c.in_ok-pumped.ensures.passed))
 
 pub returns-in_err-pumped-clause-cut : goal.returns-in_err-pumped-clause-cut
 returns-in_err-pumped-clause-cut g c =
     let traffic = g.L.Link.traffic in
-    on_any_err c.from_residual-in_err-pumped.result
-    (runs_then c.laws_of_runs.ensures c.in_ok-send_all.ensures.ran
-    (runs_unheard c.send_all.new.hub c.receive.new.hub c.send_all.new.run (traffic c.send_all.new.link)
+    let fault = c.in_err-pumped.field-0.0 in
+    on_that_err (λ (e : LinkFault). RunsTo (ending_by e) [] c.args.hub.now c.receive.new.hub c.args.run.now
+    c.send_all.new.run (traffic c.args.link.now) (traffic c.receive.new.link))
+    c.from_residual-in_err-pumped.result fault c.from_residual-in_err-pumped.ensures.1
+    (goes_then c.laws_of_runs.ensures c.in_ok-send_all.ensures.ran
+    (runs_unheard fault c.send_all.new.hub c.receive.new.hub c.send_all.new.run (traffic c.send_all.new.link)
     (traffic c.receive.new.link) c.in_err-pumped.ensures.unheard c.in_err-pumped.ensures.lost))
+
+pub returns-in_err-send_all-clause-cut : goal.returns-in_err-send_all-clause-cut
+returns-in_err-send_all-clause-cut g c =
+    let traffic = g.L.Link.traffic in
+    on_that_err (λ (e : LinkFault). RunsTo (ending_by e) [] c.args.hub.now c.send_all.new.hub c.args.run.now
+    c.send_all.new.run (traffic c.args.link.now) (traffic c.send_all.new.link)) c.from_residual.result
+    c.in_err-send_all.field-0.0 c.from_residual.ensures.1 c.in_err-send_all.ensures.cut
 
 pub returns-in_err-pumped-clause-stopped : goal.returns-in_err-pumped-clause-stopped
 returns-in_err-pumped-clause-stopped g c =

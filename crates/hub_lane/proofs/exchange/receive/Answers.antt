@@ -1,4 +1,4 @@
-use Rattle.std.proofs.Common.{◌∙◌, ℕ, List, Ok, inl, inr, sym, subst, ap}
+use Rattle.std.proofs.Common.{◌∙◌, ℕ, List, Ok, inr, sym, subst, ap}
 use Rattle.world_model.specs.Hub.{Hub, take_message}
 use Rattle.links.specs.declared.link.Received.{Received}
 use Rattle.links.specs.Telling.{IfTelling, Receives}
@@ -9,9 +9,12 @@ use Rattle.hub_lane.specs.Rounds.{PaysFor, Pumps, RoundFor}
 use Rattle.hub_lane.specs.Standing.{GoesOn, StaysUnanswered}
 use Rattle.hub_lane.proofs.Carrying.{got_brings, quiet_brings}
 use Rattle.hub_lane.proofs.Linked.{fault_on, got_on, got_stays, quiet_on, quiet_stays, unheard_on, was_received}
+use Rattle.links.specs.declared.link.LinkFault.{LinkFault}
+use Rattle.links.specs.declared.link.LinkFault.TheVariants.{NoMemory}
 use Rattle.links.specs.declared.link.Received.TheVariants.{Got}
-use Rattle.hub_lane.proofs.Links.{got_once, on_any_err, quiet_once, received_keeps, was_quiet}
-use Rattle.hub_lane.proofs.Runs.{got_passed, got_traffic, quiet_traffic}
+use Rattle.hub_lane.specs.Run.{IsUnheard}
+use Rattle.hub_lane.proofs.Links.{got_once, on_each_err, on_that_err, quiet_once, received_keeps, was_quiet}
+use Rattle.hub_lane.proofs.Runs.{got_passed, got_traffic, quiet_traffic, unheard_same}
 use Rattle.hub_lane.proofs.Rounds.{got_for, quiet_for}
 use Rattle.hub_lane.proofs.InRounds.{round_got, round_quiet}
 use Rattle.hub_lane.proofs.exchange.receive.Goals as goal
@@ -145,24 +148,24 @@ pub returns-in_err-receive-clause-counts : goal.returns-in_err-receive-clause-co
 returns-in_err-receive-clause-counts g c = received_keeps g.L.Link c.a_link_forgets_nothing.ensures.board
     c.receive.result
     c.receive.new.into.items c.args.link.now c.receive.new.self c.receive.ensures.faults c.receive.ensures.quiets_rise
-    c.receive.ensures.gots_rise c.receive.ensures.traffic c.receive.ensures.held c.receive.ensures.received
+    c.receive.ensures.gots_rise c.receive.ensures.traffic c.receive.ensures.number c.receive.ensures.held c.receive.ensures.received
 
 pub returns-in_err-hear-in-Got-clause-counts : goal.returns-in_err-hear-in-Got-clause-counts
 returns-in_err-hear-in-Got-clause-counts g c = received_keeps g.L.Link c.a_link_forgets_nothing.ensures.board
     c.receive.result
     c.receive.new.into.items c.args.link.now c.receive.new.self c.receive.ensures.faults c.receive.ensures.quiets_rise
-    c.receive.ensures.gots_rise c.receive.ensures.traffic c.receive.ensures.held c.receive.ensures.received
+    c.receive.ensures.gots_rise c.receive.ensures.traffic c.receive.ensures.number c.receive.ensures.held c.receive.ensures.received
 
 pub returns-in_ok-hear-in-Got-clause-counts : goal.returns-in_ok-hear-in-Got-clause-counts
 returns-in_ok-hear-in-Got-clause-counts g c = received_keeps g.L.Link c.a_link_forgets_nothing.ensures.board
     c.receive.result
     c.receive.new.into.items c.args.link.now c.receive.new.self c.receive.ensures.faults c.receive.ensures.quiets_rise
-    c.receive.ensures.gots_rise c.receive.ensures.traffic c.receive.ensures.held c.receive.ensures.received
+    c.receive.ensures.gots_rise c.receive.ensures.traffic c.receive.ensures.number c.receive.ensures.held c.receive.ensures.received
 
 pub returns-in-Quiet-clause-counts : goal.returns-in-Quiet-clause-counts
 returns-in-Quiet-clause-counts g c = received_keeps g.L.Link c.a_link_forgets_nothing.ensures.board c.receive.result
     c.receive.new.into.items c.args.link.now c.receive.new.self c.receive.ensures.faults c.receive.ensures.quiets_rise
-    c.receive.ensures.gots_rise c.receive.ensures.traffic c.receive.ensures.held c.receive.ensures.received
+    c.receive.ensures.gots_rise c.receive.ensures.traffic c.receive.ensures.number c.receive.ensures.held c.receive.ensures.received
 
 pub returns-in_ok-hear-in-Got-clause-received : goal.returns-in_ok-hear-in-Got-clause-received
 returns-in_ok-hear-in-Got-clause-received g c =
@@ -194,11 +197,16 @@ returns-in-Quiet-clause-passed g c =
     c.in_ok-receive.ensures.traffic
 
 pub returns-in_err-receive-clause-lost : goal.returns-in_err-receive-clause-lost
-returns-in_err-receive-clause-lost g c = on_any_err _ (inl c.in_err-receive.ensures.traffic)
+returns-in_err-receive-clause-lost g c = on_each_err _ (λ fault.
+    unheard_same fault (g.L.Link.traffic c.args.link.now) (g.L.Link.traffic c.receive.new.self)
+    c.in_err-receive.ensures.traffic)
 
 pub returns-in_err-hear-in-Got-clause-lost : goal.returns-in_err-hear-in-Got-clause-lost
-returns-in_err-hear-in-Got-clause-lost g c = on_any_err _ (inr (
-  c.receive.new.into.items,
-  got_traffic c.in_ok-receive.field-0 c.receive.new.into.items (g.L.Link.traffic c.args.link.now) c.in-Got.is
-      c.in_ok-receive.ensures.traffic,
-))
+returns-in_err-hear-in-Got-clause-lost g c =
+    let traffic = g.L.Link.traffic in
+    on_that_err (λ (fault : LinkFault). IsUnheard fault (traffic c.args.link.now) (traffic c.receive.new.self))
+    c.from_residual-in_err-hear-in-Got.result NoMemory c.from_residual-in_err-hear-in-Got.ensures.1 (inr (
+      c.receive.new.into.items,
+      got_traffic c.in_ok-receive.field-0 c.receive.new.into.items (traffic c.args.link.now) c.in-Got.is
+          c.in_ok-receive.ensures.traffic,
+    ))

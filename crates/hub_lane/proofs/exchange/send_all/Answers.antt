@@ -1,8 +1,9 @@
-use Rattle.std.proofs.Common.{◌∙◌, ℕ, List, [], ◌∷◌, ◌++◌, ap, inl, inr, subst, refl, sym, arith, false, true}
-use Rattle.reliable_engine.specs.Traffic.{Passed, Sent}
+use Rattle.std.proofs.Common.{◌∙◌, ℕ, List, [], ◌∷◌, ◌++◌, ap, subst, refl, sym, arith}
+use Rattle.reliable_engine.specs.Traffic.{Sent}
 use Rattle.world_model.specs.Sends.{bytes_to_send}
-use Rattle.hub_lane.specs.Run.{RunsOn}
-use Rattle.hub_lane.proofs.Runs.{runs_here, runs_send, runs_then}
+use Rattle.hub_lane.specs.Run as ends
+use Rattle.hub_lane.specs.Run.{RunsTo}
+use Rattle.hub_lane.proofs.Runs.{goes_then, lacks_last, runs_here, runs_send}
 use Rattle.world_model.specs.Hub.{Hub}
 use Rattle.world_model.specs.Sends.{Next}
 use Rattle.links.specs.Telling.{IfTelling, IsSent}
@@ -16,7 +17,7 @@ use Rattle.hub_lane.specs.Standing.{GoesOn, StaysUnanswered}
 use Rattle.hub_lane.proofs.Carrying.{put_more, put_none_by}
 use Rattle.hub_lane.proofs.Linked.{none_counted, refused_on, refused_stays, sent_board, sent_on, sent_stays, stays_here}
 use Rattle.hub_lane.proofs.Linked.{still_spelled, still_uncounted}
-use Rattle.hub_lane.proofs.Links.{on_any_err}
+use Rattle.hub_lane.proofs.Links.{on_any_err, on_each_err}
 use Rattle.hub_lane.proofs.Rounds.{pays_sent}
 use Rattle.hub_lane.proofs.InRounds.{none_sent, round_sent, same_link}
 use Rattle.hub_lane.proofs.exchange.send_all.Goals as goal
@@ -44,6 +45,7 @@ loop-send-init g c =
       quiet = refl;
       got = refl;
       receive = refl;
+      same = refl;
       hold = omega arith;
       pays = λ limits outcomes lates mtu rounds given_up start paid. paid;
       round = none_sent c.args.hub.now (g.L.Link.held c.args.link.now) telling;
@@ -98,10 +100,11 @@ loop-send-preserved g c =
       got = c.send.ensures.gots ∙ before.invariant.got;
       receive = none_received c.send.result _ (g.L.Link.traffic before.link) c.send.ensures.traffic
           ∙ before.invariant.receive;
+      same = c.send.ensures.number ∙ before.invariant.same;
       board = sent_board _ _ _ _ _ call ∙ before.invariant.board;
       put = put_more c.args.hub.now old next (held before.link) (held c.send.new.self) (telling c.args.link.now)
           (telling before.link) (telling c.send.new.self) is before.invariant.put call;
-      ran = runs_then c.laws_of_runs.ensures before.invariant.ran
+      ran = goes_then c.laws_of_runs.ensures before.invariant.ran
           (runs_send old next new before.run c.add_send.new.self (g.L.Link.traffic before.link)
           (g.L.Link.traffic c.send.new.self) is refl c.add_send.ensures
           (c.in_ok-send.ensures.traffic
@@ -200,6 +203,7 @@ returns-clause-unreceived g c =
       quiets = is.quiet;
       gots = is.got;
       receives = is.receive;
+      number = is.same;
       held = is.hold;
       board = is.board;
     }
@@ -212,6 +216,7 @@ returns-in_err-write_send-clause-unreceived g c =
       quiets = is.quiet;
       gots = is.got;
       receives = is.receive;
+      number = is.same;
       held = is.hold;
       board = is.board;
     }
@@ -220,8 +225,8 @@ pub returns-clause-ran : goal.returns-clause-ran
 returns-clause-ran g c =
     let traffic = g.L.Link.traffic in
     let told = sym c.in_default.is ∙ c.next_send.ensures.send in
-    subst (λ (hub : Hub). RunsOn false [] c.args.hub.now hub c.args.run.now c.loop-send.run (traffic c.args.link.now)
-    (traffic c.loop-send.link))
+    subst (λ (hub : Hub). RunsTo ends.GoesOn [] c.args.hub.now hub c.args.run.now c.loop-send.run
+    (traffic c.args.link.now) (traffic c.loop-send.link))
     (sym (same_hub c.loop-send.hub c.next_send.new.self told c.next_send.ensures.hub)) c.loop-send.invariant.ran
 
 -- the last send was taken from the hub, and did not pass
@@ -231,10 +236,10 @@ returns-in_err-write_send-clause-cut g c =
     let traffic = g.L.Link.traffic in
     let next : Next = record { send = c.in-Some.send; hub = c.next_send.new.self } in
     let is = next_is before.hub c.next_send.new.self c.in-Some.send c.in-Some.ensures.send c.next_send.ensures.hub in
-    on_any_err c.from_residual.result (runs_then c.laws_of_runs.ensures before.invariant.ran
-    (runs_send {stopped = true} before.hub next c.next_send.new.self before.run c.add_send.new.self
+    on_each_err c.from_residual.result (λ fault. goes_then c.laws_of_runs.ensures before.invariant.ran
+    (runs_send before.hub next c.next_send.new.self before.run c.add_send.new.self
     (traffic before.link) (traffic before.link) is refl c.add_send.ensures
-    (inr (inl (bytes_to_send next.hub next.send, refl)))))
+    (lacks_last fault (traffic before.link) (bytes_to_send next.hub next.send) refl)))
 
 pub returns-in_err-send-clause-cut : goal.returns-in_err-send-clause-cut
 returns-in_err-send-clause-cut g c =
@@ -243,7 +248,7 @@ returns-in_err-send-clause-cut g c =
     let next : Next = record { send = c.in-Some.send; hub = c.next_send.new.self } in
     let is = next_is before.hub c.next_send.new.self c.in-Some.send c.in-Some.ensures.send c.next_send.ensures.hub in
     let bytes = bytes_to_send next.hub next.send in
-    on_any_err c.from_residual-in_err-send.result (runs_then c.laws_of_runs.ensures before.invariant.ran
-    (runs_send {stopped = true} before.hub next c.next_send.new.self before.run c.add_send.new.self
+    on_each_err c.from_residual-in_err-send.result (λ fault. goes_then c.laws_of_runs.ensures before.invariant.ran
+    (runs_send before.hub next c.next_send.new.self before.run c.add_send.new.self
     (traffic before.link) (traffic c.send.new.self) is refl c.add_send.ensures
-    (inr (inl (bytes, ap (λ (xs : List Passed). xs ++ Sent bytes ∷ []) (sym c.in_err-send.ensures.traffic))))))
+    (lacks_last fault (traffic before.link) bytes c.in_err-send.ensures.traffic)))

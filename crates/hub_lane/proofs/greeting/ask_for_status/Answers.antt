@@ -1,11 +1,11 @@
-use Rattle.std.proofs.Common.{arith}
+use Rattle.std.proofs.Common.{◌∙◌, arith}
 use Rattle.std.proofs.lemmas.Result.{IfOk-from_err}
 use Rattle.hub_lane.proofs.GreetingRounds.{asked_after, asked_in_vain, asked_so_far, asking_first, asking_on}
 use Rattle.hub_lane.proofs.GreetingRounds.{begins_so_far, faults_after, few_gots_so_far, few_quiets_so_far}
 use Rattle.hub_lane.proofs.GreetingRounds.{found_heard, fresh_after, greeting_found, waited_long, within_after}
 use Rattle.hub_lane.proofs.GreetingRounds.{within_so_far}
 use Rattle.hub_lane.proofs.Listening.{on_err}
-use Rattle.hub_lane.proofs.GreetingPasses.{greeted_so}
+use Rattle.hub_lane.proofs.GreetingPasses.{greeted_so, greeting_cut_off, vain_all}
 use Rattle.hub_lane.proofs.greeting.ask_for_status.Goals as goal
 
 pub loop-round-init : goal.loop-round-init
@@ -149,3 +149,27 @@ returns-in-Some-clause-passed g c =
     greeted_so c.in-Some.is
     (let below = c.loop-round-test.true in let end = c.rounds-round-end.ensures.value in omega (arith, below, end))
     c.loop-round.invariant.passed c.in_ok-status.ensures.passed
+
+pub returns-in_err-status-clause-number : goal.returns-in_err-status-clause-number
+returns-in_err-status-clause-number g c = c.ask_once.ensures.counts.number ∙ c.loop-round.invariant.number
+
+pub returns-in-Some-clause-number : goal.returns-in-Some-clause-number
+returns-in-Some-clause-number g c = c.ask_once.ensures.counts.number ∙ c.loop-round.invariant.number
+
+pub returns-clause-number : goal.returns-clause-number
+returns-clause-number g c = c.loop-round.invariant.number
+
+pub returns-in_err-status-clause-in_vain : goal.returns-in_err-status-clause-in_vain
+returns-in_err-status-clause-in_vain g c =
+    IfOk-from_err c.from_residual.result _ c.from_residual.ensures.0
+
+pub returns-in_err-status-clause-cut_off : goal.returns-in_err-status-clause-cut_off
+returns-in_err-status-clause-cut_off g c =
+    on_err c.from_residual.result _ (greeting_cut_off
+    (let below = c.loop-round-test.true in let end = c.rounds-round-end.ensures.value in omega (arith, below, end))
+    c.loop-round.invariant.passed c.in_err-status.ensures.cut_off)
+
+pub returns-clause-in_vain : goal.returns-clause-in_vain
+returns-clause-in_vain g c =
+    vain_all (g.L.Link.traffic c.loop-round.link) c.loop-round.invariant.passed c.rounds-round-end.ensures.value
+    c.loop-round-test.false c.loop-round.auto.round-end

@@ -6,7 +6,7 @@ use Rattle.hub_lane.proofs.Greetings.{fresh_begins, request_fresh}
 use Rattle.hub_lane.proofs.GreetingRounds.{asking_ends, asking_told, counts_asked, counts_sent, fresh_then}
 use Rattle.hub_lane.proofs.GreetingRounds.{refused_asks, refused_fresh, request_asks}
 use Rattle.hub_lane.proofs.Listening.{on_err, rose_later}
-use Rattle.hub_lane.proofs.GreetingPasses.{asked_then}
+use Rattle.hub_lane.proofs.GreetingPasses.{asked_then, asked_then_cut_off, refused_round}
 use Rattle.hub_lane.proofs.greeting.ask_once.Goals as goal
 
 pub listen-requires-clause-few_quiets : goal.listen-requires-clause-few_quiets
@@ -52,7 +52,7 @@ returns-in_err-send-clause-none_told g c =
 pub returns-in_err-send-clause-counts : goal.returns-in_err-send-clause-counts
 returns-in_err-send-clause-counts g c =
     counts_sent g.L.Link c.args.link.now c.send.new.self c.send.ensures.faults c.send.ensures.quiets
-    c.send.ensures.gots c.send.ensures.held
+    c.send.ensures.gots c.send.ensures.number c.send.ensures.held
 
 pub returns-clause-fresh : goal.returns-clause-fresh
 returns-clause-fresh g c =
@@ -84,7 +84,7 @@ returns-clause-none_told g c =
 pub returns-clause-counts : goal.returns-clause-counts
 returns-clause-counts g c =
     counts_asked g.L.Link c.args.link.now c.send.new.self c.listen.new.link c.send.ensures.faults
-    c.send.ensures.quiets c.send.ensures.gots c.send.ensures.held c.listen.ensures.counts
+    c.send.ensures.quiets c.send.ensures.gots c.send.ensures.number c.send.ensures.held c.listen.ensures.counts
 
 pub returns-clause-failed : goal.returns-clause-failed
 returns-clause-failed g c =
@@ -101,3 +101,13 @@ returns-clause-passed g c =
     asked_then c.listen.result (g.L.Link.traffic c.args.link.now) (g.L.Link.traffic c.send.new.self)
     (g.L.Link.traffic c.listen.new.link)
     c.write_status_request-request.ensures c.in_ok-send.ensures.traffic c.listen.ensures.passed
+
+pub returns-in_err-send-clause-cut_off : goal.returns-in_err-send-clause-cut_off
+returns-in_err-send-clause-cut_off g c =
+    on_err c.from_residual.result _ (refused_round c.in_err-send.ensures.traffic)
+
+pub returns-clause-cut_off : goal.returns-clause-cut_off
+returns-clause-cut_off g c =
+    asked_then_cut_off c.listen.result (g.L.Link.traffic c.args.link.now) (g.L.Link.traffic c.send.new.self)
+    (g.L.Link.traffic c.listen.new.link)
+    c.write_status_request-request.ensures c.in_ok-send.ensures.traffic c.listen.ensures.cut_off

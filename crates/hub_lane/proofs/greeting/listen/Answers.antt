@@ -3,7 +3,7 @@ use Rattle.hub_lane.specs.Greeting.{HasAskedNothing, StaysFresh}
 use Rattle.hub_lane.proofs.Listening.{begins_so_far, counts_heard, counts_others, counts_unheard, ends_others}
 use Rattle.hub_lane.proofs.Listening.{ends_quiet, ends_told, fresh_so_far, listening_first, none_asked, on_err}
 use Rattle.hub_lane.proofs.Listening.{others_came, round_nothing, round_others, round_told, same_later}
-use Rattle.hub_lane.proofs.GreetingPasses.{heard_none, heard_others, heard_status}
+use Rattle.hub_lane.proofs.GreetingPasses.{heard_none, heard_none_yet, heard_others, heard_status}
 use Rattle.hub_lane.proofs.greeting.listen.Goals as goal
 
 pub loop-other-init : goal.loop-other-init
@@ -127,3 +127,8 @@ returns-in-Nothing-clause-passed g c =
 pub returns-clause-passed : goal.returns-clause-passed
 returns-clause-passed g c =
     heard_others c.loop-other.invariant.passed c.loop-other-test.false c.loop-other.auto.other-end
+
+pub returns-in_err-status-clause-cut_off : goal.returns-in_err-status-clause-cut_off
+returns-in_err-status-clause-cut_off g c =
+    on_err c.from_residual.result _
+    (heard_none_yet c.loop-other.invariant.passed c.loop-other-test.true c.in_err-status.ensures.cut_off)

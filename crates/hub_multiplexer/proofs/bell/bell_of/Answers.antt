@@ -8,4 +8,4 @@ pub returns : goal.returns
 returns g c =
     let old = c.args.lane.now in
     ap (shown_record g.L.Link.telling) c.waiter.ensures.lane
-    ∙ ap (λ (t : Option Telling). record_shown old.settings old.status t old.items) c.waiter.ensures.shows.telling
+    ∙ ap (λ (t : Option Telling). record_shown old.number old.settings old.status t old.items) c.waiter.ensures.shows.telling

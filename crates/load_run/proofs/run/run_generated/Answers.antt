@@ -28,8 +28,8 @@ returns-in_err-runs-clause-leaves g c =
       load_failed PrintsLoad c.args.count made makes c.from_residual.result c.in_err-runs.field-0.0 links
           (subst (λ scripts. AreLeft 0 (boards c.args.count) scripts links) c.requires.scripts'
           (subst (λ specs. AreLeft 0 specs c.args.steps.now links) c.requires.specs' left.2))
-          (subst (λ specs. AreMadeFor specs (length links) made makes) c.requires.specs'
-          (at_links shown _ _ left.0 left.1 (λ links. AreMadeFor c.args.boards.now (length links) made makes)
+          (subst (λ specs. AreMadeFor specs links made makes) c.requires.specs'
+          (at_links shown _ _ left.0 left.1 (λ links. AreMadeFor c.args.boards.now links made makes)
           c.run_session.ensures.made))
           c.from_residual.ensures.0 c.from_residual.ensures.1
           (λ rack. at_links shown _ _ left.0 left.1 (AllByRecursion IsUntouched)
@@ -48,8 +48,8 @@ returns-in_err-printed-clause-leaves g c =
       load_failed PrintsLoad c.args.count made makes c.from_residual-in_err-printed.result _ links
           (subst (λ scripts. AreLeft 0 (boards c.args.count) scripts links) c.requires.scripts'
           (subst (λ specs. AreLeft 0 specs c.args.steps.now links) c.requires.specs' left.2))
-          (subst (λ specs. AreMadeFor specs (length links) made makes) c.requires.specs'
-          (at_links shown _ _ left.0 left.1 (λ links. AreMadeFor c.args.boards.now (length links) made makes)
+          (subst (λ specs. AreMadeFor specs links made makes) c.requires.specs'
+          (at_links shown _ _ left.0 left.1 (λ links. AreMadeFor c.args.boards.now links made makes)
           c.run_session.ensures.made))
           c.from_residual-in_err-printed.ensures.0 c.from_residual-in_err-printed.ensures.1
           (λ rack. absurd (no_memory_is_no_rack _ refl rack)),
@@ -74,8 +74,8 @@ returns-clause-leaves g c =
       load_told PrintsLoad count made makes load links
           (subst (λ scripts. AreLeft 0 (boards count) scripts links) parts.scripts'
           (subst (λ specs. AreLeft 0 specs c.args.steps.now links) parts.specs' left.2))
-          (subst (λ specs. AreMadeFor specs (length links) made makes) parts.specs'
-          (at_links shown _ _ left.0 left.1 (λ links. AreMadeFor c.args.boards.now (length links) made makes)
+          (subst (λ specs. AreMadeFor specs links made makes) parts.specs'
+          (at_links shown _ _ left.0 left.1 (λ links. AreMadeFor c.args.boards.now links made makes)
           c.run_session.ensures.made))
           (record {
             runs = runs;

@@ -6,8 +6,8 @@ use Rattle.record_command.specs.Taps.{tap_ghosts}
 use Rattle.record_command.proofs.Tapped.{unused_for}
 use Rattle.record_command.proofs.record.greet_tapped.Goals as goal
 
-pub new-requires : goal.new-requires
-new-requires g c = unused_for c.args.spec.now.link (g.R.L.Link.telling c.in_ok-link.link) c.in_ok-link.ensures.told
+pub new-requires-clause-told : goal.new-requires-clause-told
+new-requires-clause-told g c = unused_for c.args.spec.now.link (g.R.L.Link.telling c.in_ok-link.link) c.in_ok-link.ensures.told
 
 pub greet-requires-clause-unused : goal.greet-requires-clause-unused
 greet-requires-clause-unused g c =
@@ -31,4 +31,5 @@ returns-clause-reached g c =
     is_reached (tap_ghosts g.R.L.Link) c.args.settings c.args.spec.now c.new.result c.greet.result
     (ap (λ (tap : Tapped _). g.R.L.Link.telling tap.link) c.new.ensures ∙ c.in_ok-link.ensures.told)
     c.greet.ensures.fresh c.greet.ensures.ready c.greet.ensures.told c.greet.ensures.silent c.greet.ensures.silent_told
-    c.greet.ensures.none_told c.greet.ensures.down_none_told c.greet.ensures.down
+    c.greet.ensures.none_told c.greet.ensures.down_none_told c.greet.ensures.silent_asked c.greet.ensures.down_asked
+    c.greet.ensures.down

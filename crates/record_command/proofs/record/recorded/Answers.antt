@@ -39,7 +39,7 @@ returns-in-Err-clause-leaves g c =
       c.greet_tapped.ensures.kept ∙ sym (append-nil (g.R.Rack.kept c.args.rack.now)),
       run_failed (Records c.args.session.now c.args.steps.now) c.args.session.now c.args.steps.now made makes
           (Err c.from.result) (run_fault c.in-Err.fault) [] tt
-          (made_still boards 0 0 made made makes (none_made boards made) refl c.in-Err.ensures.made)
+          (made_still boards [] [] made made makes (none_made boards made) refl c.in-Err.ensures.made)
           refl c.from.ensures (λ rack. tt),
     )
 
@@ -95,7 +95,10 @@ returns-clause-leaves g c =
     c.run_tapped-tap.ensures.left) in
     let made = g.R.Rack.made c.args.rack.now in
     let makes = g.R.Rack.made c.keep.new.self in
-    let links_made = one_made session.boards board made makes one (c.keep.ensures.made ∙ c.in-Ok.ensures.made) in
+    let numbered = ap g.R.L.Link.number c.into_parts-link.ensures.link ∙ (c.run_tapped-tap.ensures.number
+    ∙ c.in-Ok.ensures.number) in
+    let links_made = one_made session.boards board (shows link) made makes one numbered
+    (c.keep.ensures.made ∙ c.in-Ok.ensures.made) in
     let records = IfOk-weaker c.written.result _
     (λ (answer : Answer). Records session steps (shows link ∷ []) answer.status answer.text.items)
     (λ answer writes. records_of laws.sent laws.executed laws.proved c.a_lane_sends_a_merge_at_any_moment.ensures.first

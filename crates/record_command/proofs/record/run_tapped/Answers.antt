@@ -9,7 +9,7 @@ use Rattle.board_history.specs.LinkRuns.{AreRunsOver}
 use Rattle.record_command.specs.Traffic.{Tapped}
 use Rattle.record_command.specs.Taps.{tap_ghosts}
 use Rattle.record_command.proofs.Tapped.{back_alone, kept_one, left_alone, link_alone, pushed_alone, ran_alone, reached_alone}
-use Rattle.record_command.proofs.Tapped.{same_alone, stays_left}
+use Rattle.record_command.proofs.Tapped.{number_stays, same_alone, stays_left}
 use Rattle.record_command.proofs.record.run_tapped.Goals as goal
 
 pub returns-then-no_memory-clause-left : goal.returns-then-no_memory-clause-left
@@ -64,12 +64,12 @@ keep_all-requires-clause-room g c κs within =
 pub into_tap-requires-2 : goal.into_tap-requires-2
 into_tap-requires-2 g c =
     kept_one (shown_by (tap_ghosts g.L.Link)) _ _ c.requires.none_kept c.args.specs.now c.requires.one
-    (AreLeft 0 c.args.specs.now c.args.steps.now) c.run_greeted-runs.ensures.left
+    (AreLeft 0 c.args.specs.now c.args.steps.now) _ c.run_greeted-runs.ensures.left
 
 pub returns-clause-left : goal.returns-clause-left
 returns-clause-left g c =
-    stays_left (shown_by (tap_ghosts g.L.Link)) _ _ c.into_tap-2.result c.requires.none_kept c.into_tap-2.ensures
-    c.args.specs.now (AreLeft 0 c.args.specs.now c.args.steps.now) c.run_greeted-runs.ensures.left
+    (stays_left (shown_by (tap_ghosts g.L.Link)) _ _ c.into_tap-2.result c.requires.none_kept c.into_tap-2.ensures
+    c.args.specs.now (AreLeft 0 c.args.specs.now c.args.steps.now) _ c.run_greeted-runs.ensures.left).0
 
 pub returns-clause-ran : goal.returns-clause-ran
 returns-clause-ran g c =
@@ -77,3 +77,18 @@ returns-clause-ran g c =
     ran_alone shows _ _ c.into_tap-2.result c.requires.none_kept c.into_tap-2.ensures
     (AreRunsOver c.args.settings 0 c.args.specs.now c.args.steps.now) c.run_greeted-runs.result
     c.run_greeted-runs.ensures.ran
+
+pub returns-then-no_memory-clause-number : goal.returns-then-no_memory-clause-number
+returns-then-no_memory-clause-number g c =
+    let back = back_alone c.args.taps.kept c.push_reserved.new.self.items c.keep_all.new.rack.kept c.args.greeted c.keep_all.ensures.kept
+    c.requires.none_kept (pushed_alone c.args.room.items c.push_reserved.new.self.items (standing_of c.args.greeted) (c.push_reserved.ensures.items ∙ ap (λ one. c.args.room.items ++ one ∷ []) c.standing_of.ensures) c.requires.empty) in
+    ap (λ (tap : Tapped _). g.L.Link.number tap.link)
+    (sym (same_alone (link_of c.args.greeted) c.into_tap.result (sym back ∙ c.into_tap.ensures)))
+
+pub returns-clause-number : goal.returns-clause-number
+returns-clause-number g c =
+    number_stays (tap_ghosts g.L.Link) c.into_tap-2.result c.args.greeted c.push_reserved.new.self.items
+    (pushed_alone c.args.room.items c.push_reserved.new.self.items (standing_of c.args.greeted)
+    (c.push_reserved.ensures.items ∙ ap (λ one. c.args.room.items ++ one ∷ []) c.standing_of.ensures) c.requires.empty)
+    (stays_left (shown_by (tap_ghosts g.L.Link)) _ _ c.into_tap-2.result c.requires.none_kept c.into_tap-2.ensures
+    c.args.specs.now (AreLeft 0 c.args.specs.now c.args.steps.now) _ c.run_greeted-runs.ensures.left).1

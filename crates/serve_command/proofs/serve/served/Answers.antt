@@ -31,7 +31,7 @@ returns-in_err-report-clause-leaves g c =
         serve_failed c.args.session.now c.args.count made makes
             c.from_residual.result c.in_err-report.field-0.0 _
             (subst (λ boards. AreLinksTo boards links) c.as_slice-boards.ensures left.2.0)
-            (subst (λ boards. AreMadeFor boards (length links) made makes) c.as_slice-boards.ensures left.2.1) back.4
+            (subst (λ boards. AreMadeFor boards links made makes) c.as_slice-boards.ensures left.2.1) back.4
             c.from_residual.ensures.0 c.from_residual.ensures.1
             (λ rack. at_links shown _ _ left.0 left.1 (AllByRecursion IsUntouched)
             (c.in_err-report.ensures.untouched (ap Err rack))),
@@ -55,7 +55,7 @@ returns-in_err-printed-clause-leaves g c =
         back.3,
         serve_failed c.args.session.now c.args.count made makes c.from_residual-in_err-printed.result _ _
             (subst (λ boards. AreLinksTo boards links) c.as_slice-boards.ensures left.2.0)
-            (subst (λ boards. AreMadeFor boards (length links) made makes) c.as_slice-boards.ensures left.2.1) back.4
+            (subst (λ boards. AreMadeFor boards links made makes) c.as_slice-boards.ensures left.2.1) back.4
             c.from_residual-in_err-printed.ensures.0 c.from_residual-in_err-printed.ensures.1
             (λ rack. absurd (no_memory_is_no_rack _ refl rack)),
       ),
@@ -72,7 +72,7 @@ returns-clause-leaves g c =
     let connections = c.in_ok-report.report.connections.items in
     let lines = c.in_ok-report.report.boards.items in
     with_links shown g.D.Incoming.Source g.D.Outgoing.Sink _ _ _ _ _ _
-    (λ links. AreLinksTo boards links × AreMadeFor boards (length links) made makes)
+    (λ links. AreLinksTo boards links × AreMadeFor boards links made makes)
     (λ given. AreServed session.settings boards given.links given.came given.back connections lines)
     (ServeLeaves session c.args.count made makes (Ok answer))
     (λ given of_links served. served_done session c.args.count made makes boards c.as_slice-boards.ensures answer

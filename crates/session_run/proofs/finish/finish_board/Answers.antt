@@ -1,10 +1,12 @@
-use Rattle.std.proofs.Common.{◌≡◌, subst, arith}
+use Rattle.std.proofs.Common.{◌≡◌, ◌∙◌, ◌∷◌, [], ℕ, ap, subst, sym, arith}
 use Rattle.std.proofs.lemmas.Grind.{common_steps}
 use Rattle.script_plans.specs.declared.board_run.BoardRun.{BoardRun}
 use Rattle.board_history.specs.Links.{LinkReport}
 use Rattle.board_history.specs.LinkRuns.{IsRunOver, ShowsLates, ShowsScripts}
 use Rattle.board_greeting.specs.Reports.{shown_by}
 use Rattle.board_greeting.specs.Boards.{IsIdleBoard}
+use Rattle.board_greeting.specs.Standings.{number_in}
+use Rattle.board_greeting.specs.declared.standing.Standing.{Standing}
 use Rattle.script_plans.specs.declared.greeting.Greeting.TheVariants as greeting
 use Rattle.session_run.specs.Places.{IsCameOf}
 use Rattle.session_run.proofs.Idle.{idle_over, of_three}
@@ -75,3 +77,14 @@ returns-in-Live-clause-ran g c = grind (arith, common_steps)
 
 pub returns-in-Live-clause-left : goal.returns-in-Live-clause-left
 returns-in-Live-clause-left g c = grind (arith, common_steps)
+
+pub returns-in-Live-clause-number : goal.returns-in-Live-clause-number
+returns-in-Live-clause-number g c =
+    ap (λ (n : ℕ). n ∷ []) c.finish_live.ensures.number
+    ∙ sym (ap (λ (one : Standing _). number_in g.L.Link.number one) c.in-Live.is)
+
+pub returns-in-Silent-clause-number : goal.returns-in-Silent-clause-number
+returns-in-Silent-clause-number g c = sym (ap (λ (one : Standing _). number_in g.L.Link.number one) c.in-Silent.is)
+
+pub returns-in-Down-clause-number : goal.returns-in-Down-clause-number
+returns-in-Down-clause-number g c = sym (ap (λ (one : Standing _). number_in g.L.Link.number one) c.in-Down.is)

@@ -129,6 +129,7 @@ pub returns-clause-keeps : goal.returns-clause-keeps
 returns-clause-keeps g c =
     let same = returns-clause-planned g c in
     record {
+      number = ap (λ l. l.number) same;
       settings = ap (λ l. l.settings) same;
       status = ap (λ l. l.status) same;
       board = ap (λ l. board_of (g.L.Link.telling l.link)) same;

@@ -1,18 +1,19 @@
-use Rattle.std.proofs.Common.{◌∙◌, ◌++◌, ℕ, List, ap, length, map, subst, sym}
+use Rattle.std.proofs.Common.{◌∙◌, ◌++◌, ℕ, List, ap, length, map, refl, subst, sym}
 use Rattle.std.proofs.lemmas.List.{length-map}
 use Rattle.std.specs.List.{AllByRecursion}
 use Rattle.std.specs.Prelude.{IfOk}
 use Rattle.hub_lane.specs.Lanes.{LaneState}
 use Rattle.board_greeting.specs.Boards.{HasNoEntry, LeavesRoom}
 use Rattle.board_greeting.specs.Reports.{shown_by}
-use Rattle.board_greeting.specs.Standings.{all_at_hub, lanes_in, links_in, positions_at_hub, with_lanes}
+use Rattle.board_greeting.specs.Standings.{all_at_hub, lanes_in, links_in, numbers_in, positions_at_hub, with_lanes}
 use Rattle.board_greeting.specs.declared.standing.Standing.{Standing}
 use Rattle.board_greeting.proofs.Boards.{fresh_links, reached_fresh}
 use Rattle.board_greeting.proofs.Lanes.{lanes_unused}
+use Rattle.board_greeting.proofs.Numbers.{numbers_back}
 use Rattle.board_greeting.proofs.Standings.{positions_long, written_whole}
 use Rattle.session_run.specs.Lanes.{AllThree, HasGoneOn, IsRunOn}
 use Rattle.session_run.specs.Places.{AreCameOf}
-use Rattle.session_run.proofs.Returning.{boards_came}
+use Rattle.session_run.proofs.Returning.{boards_came, gone_numbers}
 use Rattle.session_run.proofs.Sessions.{fresh_are_left}
 use Rattle.session_run.proofs.Sides.{items_or_none}
 use Rattle.session_run.proofs.session.run_greeted.Goals as goal
@@ -45,6 +46,7 @@ returns-in_default-clause-left g c =
       (
         fresh_are_left c.a_fresh_link_is_left.ensures settings 0 specs c.args.scripts.now (map shows links) fresh.0,
         length-map links shows ∙ (fresh.1 ∙ c.requires.all),
+        refl,
       ),
     )
 
@@ -90,3 +92,34 @@ finish_boards-requires-clause-came g c κs within =
     ∙ (c.put_back.ensures ∙ ap (λ (bs : List (Standing _)). with_lanes bs news) (c.deref_mut-2.ensures.value ∙ left)) in
     subst (λ (bs : List (Standing _)). AreCameOf (shown_by link) c.args.settings scripts 0 specs bs parts) (sym back)
     (boards_came link c.args.settings scripts specs boards news parts c.requires.all c.requires.reached gone there)
+
+pub returns-clause-left : goal.returns-clause-left
+returns-clause-left g c =
+    let link = g.R.L.Link in
+    let scripts = c.args.scripts.now in
+    let specs = c.args.specs.now in
+    let boards = c.args.boards.items in
+    let news = c.run_lanes-lanes.result.0.items in
+    let value = c.deref_mut.ensures.value in
+    let taken = written_whole c.take_lanes.new.boards c.deref_mut.ensures.len value c.take_lanes.auto.boards
+    ∙ (c.in-Ok.ensures.left ∙ ap (λ bs. all_at_hub bs) value) in
+    let at_hub = c.deref.ensures.value ∙ taken in
+    let positions = positions_at_hub 0 (all_at_hub boards) in
+    let gone = subst (λ (l : List (LaneState _)). AllThree (HasGoneOn link.telling scripts) positions l news)
+    (c.in-Ok.ensures.lanes ∙ ap (λ bs. lanes_in bs) value)
+    (subst (λ (bs : List (Standing _)). AllThree (HasGoneOn link.telling scripts) (positions_at_hub 0 bs)
+    c.in-Ok.lanes.items news) at_hub c.run_lanes-lanes.ensures.gone_on) in
+    let back = written_whole c.put_back.new.boards c.deref_mut-2.ensures.len c.deref_mut-2.ensures.value
+    c.put_back.auto.boards
+    ∙ (c.put_back.ensures ∙ ap (λ (bs : List (Standing _)). with_lanes bs news) (c.deref_mut-2.ensures.value ∙ taken)) in
+    let left = c.finish_boards.ensures.left in (
+      left.0,
+      left.1,
+      (
+        left.2.0,
+        left.2.1,
+        left.2.2 ∙ (ap (λ (bs : List (Standing _)). numbers_in link.number bs) back
+            ∙ numbers_back link c.args.settings specs boards news c.requires.reached
+            (gone_numbers link.telling scripts positions (lanes_in boards) news gone)),
+      ),
+    )

@@ -1,9 +1,10 @@
-use Rattle.std.proofs.Common.{◌∙◌, ◌++◌, Vec, Global, ap, length, map, arith}
+use Rattle.std.proofs.Common.{◌∙◌, ◌++◌, Vec, Global, ap, map, arith}
 use Rattle.std.proofs.lemmas.Grind.{common_steps}
 use Rattle.std.proofs.lemmas.Result.{IfOk-from_err, IfOk-weaker}
 use Rattle.script_plans.specs.declared.board_run.BoardRun.{BoardRun}
 use Rattle.board_history.specs.LinkRuns.{AreRunsOver}
 use Rattle.board_greeting.specs.Reports.{shown_by}
+use Rattle.board_greeting.specs.Standings.{links_in}
 use Rattle.board_greeting.proofs.Boards.{made_still}
 use Rattle.session_run.specs.Links.{Keeps}
 use Rattle.session_run.proofs.Sessions.{fresh_are_left, rack_stands, ran_still, untouched_all}
@@ -43,9 +44,9 @@ returns-clause-made g c =
     let left = c.run_greeted.ensures.left in (
       left.0,
       left.1 ∙ ap (λ kept. kept ++ left.0) c.in_ok-boards.ensures.kept,
-      made_still c.args.specs.now (length c.args.specs.now) (length (map shows left.0))
+      made_still c.args.specs.now (map shows (links_in c.in_ok-boards.boards.items)) (map shows left.0)
           (g.R.Rack.made c.args.rack.now) (g.R.Rack.made c.greet_boards.new.rack)
-          (g.R.Rack.made c.run_greeted.new.rack) c.in_ok-boards.ensures.made left.2.1 c.run_greeted.ensures.made,
+          (g.R.Rack.made c.run_greeted.new.rack) c.in_ok-boards.ensures.made left.2.2 c.run_greeted.ensures.made,
     )
 
 pub returns-clause-rack_faults : goal.returns-clause-rack_faults

@@ -1,4 +1,4 @@
-use Rattle.std.proofs.Common.{subst, sym}
+use Rattle.std.proofs.Common.{◌∙◌, ap, subst, sym}
 use Rattle.board_greeting.specs.Boards.{IsEndedLane}
 use Rattle.board_greeting.specs.Reports.{shown_by}
 use Rattle.session_serve.specs.Finish.{IsSound}
@@ -12,4 +12,5 @@ returns-in-Live-clause-sound g c =
       c.is_sound.ensures,
       λ settings spec to. subst (λ (l : g.row.L.Denot). IsEndedLane settings spec lane (shown_by link l))
           c.close_lane.ensures.link (c.close_lane.ensures.ended settings spec to),
+      ap link.number (sym c.close_lane.ensures.link) ∙ c.close_lane.ensures.number,
     )

@@ -13,7 +13,8 @@ use Rattle.session_serve.specs.Hubs.{AreServedAt}
 use Rattle.session_serve.specs.Prepared.{told_by}
 use Rattle.session_serve.proofs.EachDone.{err_same, ok_not_err}
 use Rattle.session_serve.proofs.Executing.{came_in_frames}
-use Rattle.session_serve.proofs.Reporting.{are_served, boards_back, boards_here, boards_long, links_back, put_whole}
+use Rattle.session_serve.proofs.Reporting.{are_served, boards_back, boards_here, boards_long, links_back, numbers_still}
+use Rattle.session_serve.proofs.Reporting.{put_whole}
 use Rattle.session_serve.proofs.Standing.{all_here, back_as_told, ready_states, states_within}
 use Rattle.session_serve.proofs.session.serve_prepared.Goals as goal
 
@@ -55,14 +56,22 @@ finish_boards-requires-clause-room g c κs within =
 pub returns-in-Err-clause-links : goal.returns-in-Err-clause-links
 returns-in-Err-clause-links g c =
     let back = boards_back g.R.L.Link c.requires.ready c.serve_at_hub-lanes.ensures.heads (put_whole c.serve_at_hub-lanes.result.0.items c.put_back.new.boards c.deref_mut.ensures.len c.deref_mut.ensures.value c.put_back.auto.boards
-    c.put_back.ensures) in
-    (links_in (take c.args.boards.len (c.put_back.new.boards ++ drop (length c.put_back.new.boards) c.args.boards.items)), c.finish_boards.ensures.kept, links_back back c.finish_boards.ensures.sound)
+    c.put_back.ensures) in (
+      links_in (take c.args.boards.len (c.put_back.new.boards ++ drop (length c.put_back.new.boards) c.args.boards.items)),
+      c.finish_boards.ensures.kept,
+      (let links = links_back back c.finish_boards.ensures.sound in
+          (links.0, links.1, numbers_still g.R.L.Link c.requires.ready back c.finish_boards.ensures.sound)),
+    )
 
 pub returns-in-Ok-clause-links : goal.returns-in-Ok-clause-links
 returns-in-Ok-clause-links g c =
     let back = boards_back g.R.L.Link c.requires.ready c.serve_at_hub-lanes.ensures.heads (put_whole c.serve_at_hub-lanes.result.0.items c.put_back.new.boards c.deref_mut.ensures.len c.deref_mut.ensures.value c.put_back.auto.boards
-    c.put_back.ensures) in
-    (links_in (take c.args.boards.len (c.put_back.new.boards ++ drop (length c.put_back.new.boards) c.args.boards.items)), c.finish_boards.ensures.kept, links_back back c.finish_boards.ensures.sound)
+    c.put_back.ensures) in (
+      links_in (take c.args.boards.len (c.put_back.new.boards ++ drop (length c.put_back.new.boards) c.args.boards.items)),
+      c.finish_boards.ensures.kept,
+      (let links = links_back back c.finish_boards.ensures.sound in
+          (links.0, links.1, numbers_still g.R.L.Link c.requires.ready back c.finish_boards.ensures.sound)),
+    )
 
 pub returns-in-Ok-clause-served : goal.returns-in-Ok-clause-served
 returns-in-Ok-clause-served g c =

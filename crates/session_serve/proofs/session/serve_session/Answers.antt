@@ -1,7 +1,8 @@
-use Rattle.std.proofs.Common.{◌≡◌, ◌∙◌, ◌++◌, List, ap, arith, length, map}
+use Rattle.std.proofs.Common.{◌≡◌, ◌∙◌, ◌++◌, List, ap, arith, map}
 use Rattle.std.proofs.lemmas.Grind.{common_steps}
 use Rattle.std.proofs.lemmas.Result.{IfOk-weaker}
 use Rattle.board_greeting.specs.Reports.{shown_by}
+use Rattle.board_greeting.specs.Standings.{links_in}
 use Rattle.board_greeting.proofs.Boards.{made_still}
 use Rattle.session_serve.specs.Executed.{CameInFrames}
 use Rattle.session_serve.specs.Serving.{AreBack}
@@ -43,9 +44,9 @@ returns-clause-links g c =
       since_then _ _ _ left.0 left.1 c.in_ok-boards.ensures.kept,
       (
         left.2.0,
-        made_still c.args.specs.now (length c.args.specs.now) (length (map shows left.0))
+        made_still c.args.specs.now (map shows (links_in c.in_ok-boards.boards.items)) (map shows left.0)
             (g.R.Rack.made c.args.rack.now) (g.R.Rack.made c.greet_boards.new.rack)
-            (g.R.Rack.made c.serve_greeted.new.rack) c.in_ok-boards.ensures.made left.2.1
+            (g.R.Rack.made c.serve_greeted.new.rack) c.in_ok-boards.ensures.made left.2.2
             c.serve_greeted.ensures.made,
       ),
     )

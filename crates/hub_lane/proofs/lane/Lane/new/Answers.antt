@@ -6,7 +6,7 @@ use Rattle.hub_lane.proofs.Datagrams.{heard_first}
 use Rattle.hub_lane.proofs.Lanes.{lane_begun}
 use Rattle.hub_lane.proofs.Listened.{listened_first}
 use Rattle.hub_lane.proofs.Rounds.{pays_begun}
-use Rattle.hub_lane.proofs.LaneRuns.{run_begun, run_begun_at}
+use Rattle.hub_lane.proofs.LaneRuns.{run_begun}
 use Rattle.hub_lane.proofs.lane.Lane.new.Goals as goal
 
 pub invariant_of-result : goal.invariant_of-result
@@ -26,7 +26,6 @@ invariant_of-result g c = (
   listened_first (status_of c.args.status) c.in-Ok-new.engine c.new-4.result.items c.new-4.result.lates
       (receives_in (g.L.Link.traffic c.args.link)) (ap (λ (h : Hub). h.status_requests) c.in-Ok-new.ensures) c.new-4.ensures.items
       c.new-4.ensures.lates c.requires.first,
-  run_begun_at c.new-5.ensures (run_begun c.args.settings (status_of c.args.status) c.in-Ok-new.engine c.in-Ok.book.items
-      (g.L.Link.traffic c.args.link) c.in-Ok-new.ensures c.in-Ok.ensures c.get-first.ensures.range
-      c.window-window.ensures.range c.args.status.buffers_in_range c.requires.passed),
+  run_begun c.in-Ok-new.ensures c.in-Ok.ensures c.new-4.ensures.items c.new-4.ensures.lates c.new-5.ensures
+      c.get-first.ensures.range c.window-window.ensures.range c.args.status.buffers_in_range c.requires.passed,
 )

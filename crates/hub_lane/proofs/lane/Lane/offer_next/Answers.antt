@@ -24,6 +24,7 @@ use Rattle.lane_record.specs.Claims.{claims}
 use Rattle.reliable_engine.specs.MachineRuns.{Offer}
 use Rattle.hub_lane.specs.Run.{HasRun}
 use Rattle.hub_lane.proofs.LaneRuns.{run_asked, run_claims}
+use Rattle.hub_lane.proofs.LostPlaces.{lost_places}
 use Rattle.hub_lane.proofs.lane.Lane.offer_next.Goals as goal
 
 pub invariant_of-self-2 : goal.invariant_of-self-2
@@ -56,21 +57,22 @@ invariant_of-self-2 g c =
     let number : c.asked-seq.result ≡ seq = c.asked-seq.ensures ∙ ap (asked_count client) c.in_ok-reserve.ensures.items in
     let entry : c.ask.new.self.items ≡ items ++ ask_of client seq l.give_ups ∷ [] = c.ask.ensures
     ∙ (ap (λ (xs : List Item). xs ++ ask_of client c.asked-seq.result l.give_ups ∷ []) c.in_ok-reserve.ensures.items
-    ∙ ap (λ (n : ℕ). items ++ ask_of client n l.give_ups ∷ []) number) in (
-      lane_asks c.each_event_leads_to_a_state_of_a_run.ensures.offered c.laws_of_late_answers.ensures
-          c.only_an_offer_makes_more_bodies.ensures.offered
-          c.an_ask_is_an_offer.ensures.offered c.a_failed_link_loses_what_waits.ensures.later l.settings status l.engine
-          c.offer.new.engine items c.ask.new.self.items l.outcomes.items c.offer.new.self.items
-          l.outcomes.lates c.offer.new.self.lates l.give_ups l.down l.spent
-          (g.L.Link.telling l.link) (g.L.Link.faults l.link) (g.L.Link.quiets l.link) client seq c.in_ok-body.body
-          (λ kept. c.entries_go_into_the_book.ensures.ask items l.outcomes.items l.engine.window l.give_ups client seq
-          kept
-          may)
-          (λ kept. c.entries_go_into_the_book.ensures.ask_in_vain items l.outcomes.items l.engine.window l.give_ups
-          client seq
-          kept may) there can c.if-self.false
-          hub_is entry
-          c.in_ok-offer.ensures.items c.in_ok-offer.ensures.lates c.self.invariant.0,
+    ∙ ap (λ (n : ℕ). items ++ ask_of client n l.give_ups ∷ []) number) in
+    let lane = lane_asks c.each_event_leads_to_a_state_of_a_run.ensures.offered c.laws_of_late_answers.ensures
+    c.only_an_offer_makes_more_bodies.ensures.offered
+    c.an_ask_is_an_offer.ensures.offered c.a_failed_link_loses_what_waits.ensures.later l.settings status l.engine
+    c.offer.new.engine items c.ask.new.self.items l.outcomes.items c.offer.new.self.items
+    l.outcomes.lates c.offer.new.self.lates l.give_ups l.down l.spent
+    (g.L.Link.telling l.link) (g.L.Link.faults l.link) (g.L.Link.quiets l.link) client seq c.in_ok-body.body
+    (λ kept. c.entries_go_into_the_book.ensures.ask items l.outcomes.items l.engine.window l.give_ups client seq
+    kept
+    may)
+    (λ kept. c.entries_go_into_the_book.ensures.ask_in_vain items l.outcomes.items l.engine.window l.give_ups
+    client seq
+    kept may) there can c.if-self.false
+    hub_is entry
+    c.in_ok-offer.ensures.items c.in_ok-offer.ensures.lates c.self.invariant.0 in (
+      lane,
       pays_asked c.laws_of_rounds.ensures l.down l.spent l.mtu l.settings.rounds l.give_ups l.engine c.offer.new.engine
           (length l.outcomes.items) c.in_ok-body.body (g.L.Link.held l.link) (g.L.Link.telling l.link) c.if-self.false
           fits
@@ -83,12 +85,13 @@ invariant_of-self-2 g c =
           c.offer.new.self.items l.outcomes.lates c.offer.new.self.lates l.give_ups (receives_in (g.L.Link.traffic l.link)) hub_is
           c.in_ok-offer.ensures.items c.in_ok-offer.ensures.lates c.self.invariant.3,
       run_asked c.laws_of_runs.ensures l.down (claim_of client seq l.give_ups c.in_ok-body.body)
-          (length l.outcomes.items) c.if-self.false
+          (length l.outcomes.items) c.if-self.false c.self.invariant.0.ready.drained
           (ap claims entry ∙ asked_claims items client seq l.give_ups c.in_ok-body.body there)
           c.self.invariant.0.agrees.counts.each hub_is
           (c.add_ask.ensures ∙ (ap (λ (n : ℕ). if l.down then l.run else l.run ++ Offer n c.of-offered.result.value ∷ [])
           c.len-tag.ensures.count ∙ ap (λ (body : List ℕ). if l.down then l.run
-          else l.run ++ Offer (length l.outcomes.items) body ∷ []) c.of-offered.ensures)) can c.self.invariant.4,
+          else l.run ++ Offer (length l.outcomes.items) body ∷ []) c.of-offered.ensures)) can
+          c.in_ok-offer.ensures.items c.in_ok-offer.ensures.lates (lost_places lane) c.self.invariant.4,
     )
 
 pub offer-requires : goal.offer-requires
@@ -144,7 +147,7 @@ invariant_of-self-in_err-offer g c =
     (link.held l.link))
     × HasHeard table.items (link.gots l.link)
     × HasListened status hub table.items table.lates l.give_ups (receives_in (link.traffic l.link))
-    × HasRun l.settings status hub items l.down l.spent l.run (link.traffic l.link) in
+    × HasRun l.settings status hub items table.items table.lates l.down l.spent l.run (link.traffic l.link) in
     subst (λ (hub : Hub). holds hub c.offer.new.self c.reserve.new.self.items) (sym c.in_err-offer.ensures.same_engine)
     (subst (λ (table : TableState). holds l.engine table c.reserve.new.self.items)
     (sym c.in_err-offer.ensures.unchanged)
@@ -160,6 +163,7 @@ returns-in_err-offer-clause-round g c =
     let l = c.self.inside in
     same_lane_sends g.L.Link c.args.self.now _ (ap (λ (xs : List Item). record {
       link = l.link;
+      number = g.L.Link.number l.link;
       settings = l.settings;
       status = record { mtu = l.mtu; buffers = l.buffers; next = l.first };
       hub = c.offer.new.engine;
@@ -172,6 +176,7 @@ returns-in_err-offer-clause-round g c =
       spent = l.spent;
     }) c.in_ok-reserve.ensures.items ∙ (ap (λ (table : TableState). record {
       link = l.link;
+      number = g.L.Link.number l.link;
       settings = l.settings;
       status = record { mtu = l.mtu; buffers = l.buffers; next = l.first };
       hub = c.offer.new.engine;
@@ -184,6 +189,7 @@ returns-in_err-offer-clause-round g c =
       spent = l.spent;
     }) c.in_err-offer.ensures.unchanged ∙ (ap (λ (hub : Hub). record {
       link = l.link;
+      number = g.L.Link.number l.link;
       settings = l.settings;
       status = record { mtu = l.mtu; buffers = l.buffers; next = l.first };
       hub = hub;

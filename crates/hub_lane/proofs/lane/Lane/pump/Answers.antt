@@ -2,6 +2,7 @@ use Rattle.std.proofs.Common.{◌≡◌, ◌∙◌, ℕ, List, Option, ap, arith
 use Rattle.std.proofs.Common.{Bool, true, ◌||◌, inr}
 use Rattle.std.proofs.Common.{length}
 use Rattle.std.specs.List.{slice_get}
+use Rattle.world_model.specs.Hub.{after_handing_out}
 use Rattle.lane_record.specs.declared.outcome.Outcome.{Outcome}
 use Rattle.lane_record.specs.Lates.{late_in}
 use Rattle.lane_record.specs.Offers.{all_lost}
@@ -17,13 +18,18 @@ use Rattle.hub_lane.specs.Rounds.{HasPaid, Pumps, RoundAfter, round_of}
 use Rattle.hub_lane.proofs.Datagrams.{heard_down, heard_still}
 use Rattle.hub_lane.proofs.Listened.{listened_sent, lost_answers, same_answers}
 use Rattle.hub_lane.proofs.Pumps.{lost_keeps, pump_down, pump_heard, pump_listened, pump_received}
-use Rattle.hub_lane.proofs.Pumps.{pump_spent}
+use Rattle.hub_lane.proofs.Pumps.{pump_spent, pump_told}
 use Rattle.hub_lane.proofs.Rounds.{pays_pumped, pays_stopped, still_up}
 use Rattle.hub_lane.proofs.InRounds.{lane_round, same_lane_idle}
 use Rattle.hub_lane.proofs.Links.{did_not_go_down, if_both, is_spent, nothing_counted, pumps_as, same_opening}
 use Rattle.hub_lane.proofs.Links.{same_record, still_as_down, went_down}
 use Rattle.hub_lane.proofs.Steps.{same_record as same_lane}
-use Rattle.hub_lane.proofs.LaneRuns.{runs_on}
+use Rattle.hub_lane.proofs.Fates.{told_lost, told_none}
+use Rattle.hub_lane.proofs.LaneRuns.{run_down, run_on, run_spent}
+use Rattle.hub_lane.proofs.LostPlaces.{lost_places}
+use Rattle.hub_lane.proofs.Ready.{same_sent}
+use Rattle.hub_lane.proofs.Runs.{ran_by}
+use Rattle.links.specs.declared.link.LinkFault.TheVariants.{Failed, NoMemory}
 use Rattle.hub_lane.proofs.lane.Lane.pump.Goals as goal
 
 pub invariant_of-self : goal.invariant_of-self
@@ -31,12 +37,13 @@ invariant_of-self g c =
     let laws = c.laws_of_pumps.ensures in
     let settled = c.in-Ok.ensures.settled in
     let l = c.self.inside in
-    let telling = g.L.Link.telling in (
-      (pump_received laws c.if-self-2.false c.if-self.false c.self.invariant.0 c.exchange.new.buffer.items
-          c.in-Ok.pumped (telling c.exchange.new.link) (g.L.Link.faults c.exchange.new.link)
-          (sym c.waiting.ensures ∙ c.if-not-waiting.false) settled.event settled.hub settled.outcomes settled.lates
-          settled.give_ups c.in-Ok.ensures.received.counts.quiets c.in-Ok.ensures.running
-          c.in-Ok.ensures.told.unanswered c.exchange.ensures.counts.board).lane,
+    let telling = g.L.Link.telling in
+    let pumps = pump_received laws c.if-self-2.false c.if-self.false c.self.invariant.0 c.exchange.new.buffer.items
+    c.in-Ok.pumped (telling c.exchange.new.link) (g.L.Link.faults c.exchange.new.link)
+    (sym c.waiting.ensures ∙ c.if-not-waiting.false) settled.event settled.hub settled.outcomes settled.lates
+    settled.give_ups c.in-Ok.ensures.received.counts.quiets c.in-Ok.ensures.running c.in-Ok.ensures.told.unanswered
+    c.exchange.ensures.counts.board in (
+      pumps.lane,
       pays_pumped l.down l.spent l.mtu l.settings.rounds l.give_ups c.exchange.new.give_ups l.engine c.exchange.new.hub
           (g.L.Link.held l.link) (g.L.Link.held c.exchange.new.link) (telling l.link) (telling c.exchange.new.link)
           c.if-self-2.false c.if-self.false c.self.invariant.0.knows.rounds (c.in-Ok.ensures.pays l.settings l.mtu
@@ -50,9 +57,10 @@ invariant_of-self g c =
       pump_listened laws c.if-self-2.false c.if-self.false c.self.invariant.0 c.exchange.new.buffer.items
           c.in-Ok.pumped (sym c.waiting.ensures ∙ c.if-not-waiting.false) settled.event settled.hub settled.outcomes
           settled.lates settled.give_ups c.in-Ok.ensures.received.receives c.self.invariant.3,
-      runs_on c.laws_of_runs.ensures c.if-self-2.false c.if-self.false
-          (ap (λ (b : Bool). b || l.spent) c.if-self-2.false ∙ c.if-self.false) c.self.invariant.4
-          c.in-Ok.ensures.ran,
+      run_on c.laws_of_runs.ensures c.if-self-2.false c.if-self.false c.self.invariant.0.ready.drained
+          c.self.invariant.4 (ap after_handing_out (sym settled.hub))
+          (pump_told laws c.if-self-2.false c.if-self.false c.self.invariant.0 c.exchange.new.buffer.items
+          c.in-Ok.pumped settled.event settled.outcomes settled.lates) (lost_places pumps.lane) c.in-Ok.ensures.ran,
     )
 
 pub invariant_of-self-in-Err-Failed : goal.invariant_of-self-in-Err-Failed
@@ -60,12 +68,13 @@ invariant_of-self-in-Err-Failed g c =
     let laws = c.laws_of_pumps.ensures in
     let unsettled = c.in-Err-Failed.ensures.unsettled in
     let l = c.self.inside in
-    let telling = g.L.Link.telling in (
-      pump_down laws c.if-self-2.false c.if-self.false c.self.invariant.0 unsettled.sent
-          c.in-Err-Failed.ensures.stopped (c.exchange.ensures.failed (cc)).unanswered
-          (c.exchange.ensures.faults.failed (cc)) (c.exchange.ensures.failed (cc)).receives.quiets unsettled.give_ups
-          unsettled.outcomes (c.lose_all.ensures.lates ∙ unsettled.lates) c.sent.ensures c.lose_all.ensures.outcomes
-          c.exchange.ensures.counts.board,
+    let telling = g.L.Link.telling in
+    let lane = pump_down laws c.if-self-2.false c.if-self.false c.self.invariant.0 unsettled.sent
+    c.in-Err-Failed.ensures.stopped (c.exchange.ensures.failed (cc)).unanswered
+    (c.exchange.ensures.faults.failed (cc)) (c.exchange.ensures.failed (cc)).receives.quiets unsettled.give_ups
+    unsettled.outcomes (c.lose_all.ensures.lates ∙ unsettled.lates) c.sent.ensures c.lose_all.ensures.outcomes
+    c.exchange.ensures.counts.board in (
+      lane,
       pays_stopped c.laws_of_rounds.ensures (l.down || l.spent) l.mtu l.settings.rounds l.give_ups
           c.exchange.new.give_ups
           l.engine c.exchange.new.hub (g.L.Link.held l.link) (g.L.Link.held c.exchange.new.link) (telling l.link)
@@ -76,7 +85,11 @@ invariant_of-self-in-Err-Failed g c =
       listened_sent unsettled.sent unsettled.give_ups
           (lost_answers laws.lost_adds c.sent.result unsettled.outcomes c.lose_all.ensures.outcomes
           (c.lose_all.ensures.lates ∙ unsettled.lates)) c.exchange.ensures.counts.receives c.self.invariant.3,
-      runs_on c.laws_of_runs.ensures c.if-self-2.false c.if-self.false refl c.self.invariant.4 c.in-Err-Failed.ensures.cut,
+      run_down c.laws_of_runs.ensures c.if-self-2.false c.if-self.false c.self.invariant.0.ready.drained
+          c.self.invariant.4
+          (told_lost laws.lost_keeps laws.lost_adds c.sent.result lane.ready.drained.fates lane.ready.drained.lates
+          unsettled.outcomes c.lose_all.ensures.outcomes (c.lose_all.ensures.lates ∙ unsettled.lates))
+          (lost_places lane) (ran_by Failed c.in-Err-Failed.field-0 (cc) c.in-Err-Failed.ensures.cut),
     )
 
 pub invariant_of-self-in-Err-NoMemory : goal.invariant_of-self-in-Err-NoMemory
@@ -84,11 +97,13 @@ invariant_of-self-in-Err-NoMemory g c =
     let laws = c.laws_of_pumps.ensures in
     let unsettled = c.in-Err-NoMemory.ensures.unsettled in
     let l = c.self.inside in
-    let telling = g.L.Link.telling in (
-      pump_spent laws c.if-self-2.false c.if-self.false c.self.invariant.0 unsettled.sent
-          c.in-Err-NoMemory.ensures.stopped (inr (sym c.waiting.ensures ∙ c.if-not-waiting.false))
-          c.exchange.ensures.counts.quiets unsettled.give_ups unsettled.outcomes unsettled.lates
-          c.exchange.ensures.counts.board,
+    let telling = g.L.Link.telling in
+    let waits = sym c.waiting.ensures ∙ c.if-not-waiting.false in
+    let lane = pump_spent laws c.if-self-2.false c.if-self.false c.self.invariant.0
+    {faults_now = g.L.Link.faults c.exchange.new.link} unsettled.sent c.in-Err-NoMemory.ensures.stopped (inr waits)
+    c.exchange.ensures.counts.quiets unsettled.give_ups unsettled.outcomes unsettled.lates
+    c.exchange.ensures.counts.board in (
+      lane,
       subst (λ (b : Bool). IfSome (telling c.exchange.new.link) (HasPaid (b || true) l.mtu l.settings.rounds
           c.exchange.new.give_ups c.exchange.new.hub (g.L.Link.held c.exchange.new.link))) (sym c.if-self-2.false)
           (pays_stopped c.laws_of_rounds.ensures (l.down || l.spent) l.mtu l.settings.rounds l.give_ups
@@ -99,8 +114,10 @@ invariant_of-self-in-Err-NoMemory g c =
           c.exchange.ensures.counts.gots unsettled.outcomes c.self.invariant.2,
       listened_sent unsettled.sent unsettled.give_ups (same_answers unsettled.outcomes unsettled.lates)
           c.exchange.ensures.counts.receives c.self.invariant.3,
-      runs_on c.laws_of_runs.ensures c.if-self-2.false c.if-self.false
-          (ap (λ (b : Bool). b || true) c.if-self-2.false) c.self.invariant.4 c.in-Err-NoMemory.ensures.cut,
+      run_spent c.laws_of_runs.ensures c.if-self-2.false c.if-self.false c.self.invariant.0.ready.drained
+          c.self.invariant.4 ((same_sent l.engine c.exchange.new.hub unsettled.sent).waits ∙ waits)
+          (told_none lane.ready.drained.fates lane.ready.drained.lates unsettled.outcomes unsettled.lates)
+          (lost_places lane) (ran_by NoMemory c.in-Err-NoMemory.field-0 (cc) c.in-Err-NoMemory.ensures.cut),
     )
 
 pub returns-in-Ok-clause-same : goal.returns-in-Ok-clause-same
@@ -113,6 +130,7 @@ returns-in-Ok-clause-same g c =
     settled.give_ups c.in-Ok.ensures.received.counts.quiets c.in-Ok.ensures.running c.in-Ok.ensures.told.unanswered
     c.exchange.ensures.counts.board in
     same_record c.self.view_is (record {
+      number = c.exchange.ensures.counts.number;
       settings = refl;
       status = refl;
       items = refl;
@@ -156,6 +174,7 @@ pub returns-in-Err-Failed-clause-same : goal.returns-in-Err-Failed-clause-same
 returns-in-Err-Failed-clause-same g c =
     let same_give_ups = c.in-Err-Failed.ensures.unsettled.give_ups in
     same_record c.self.view_is (record {
+      number = c.exchange.ensures.counts.number;
       settings = refl;
       status = refl;
       items = refl;
@@ -320,6 +339,7 @@ returns-in-Err-NoMemory-clause-same g c =
     let unsettled = c.in-Err-NoMemory.ensures.unsettled in
     let same_give_ups = unsettled.give_ups in
     same_record c.self.view_is (record {
+      number = c.exchange.ensures.counts.number;
       settings = refl;
       status = refl;
       items = refl;

@@ -10,9 +10,14 @@ use Rattle.hub_lane.proofs.Datagrams.{heard_down, heard_still}
 use Rattle.hub_lane.proofs.Listened.{listened_sent, lost_answers, same_answers, same_prefix}
 use Rattle.hub_lane.proofs.Pumps.{lost_keeps, pump_down, pump_sent, pump_spent}
 use Rattle.hub_lane.proofs.Rounds.{pays_pumped, pays_stopped, still_up}
-use Rattle.hub_lane.proofs.InRounds.{lane_round}
+use Rattle.hub_lane.proofs.InRounds.{lane_round, same_lane_sends}
 use Rattle.hub_lane.proofs.Links.{did_not_go_down, same_opening, same_record, went_down}
-use Rattle.hub_lane.proofs.LaneRuns.{runs_on}
+use Rattle.hub_lane.proofs.Fates.{told_lost, told_none}
+use Rattle.hub_lane.proofs.LaneRuns.{run_down, run_on, run_spent}
+use Rattle.hub_lane.proofs.LostPlaces.{lost_places}
+use Rattle.hub_lane.proofs.Ready.{same_sent}
+use Rattle.hub_lane.proofs.Runs.{ran_by}
+use Rattle.links.specs.declared.link.LinkFault.TheVariants.{Failed, NoMemory}
 use Rattle.hub_lane.proofs.lane.Lane.send_wanted.Goals as goal
 
 pub invariant_of-self : goal.invariant_of-self
@@ -21,9 +26,11 @@ invariant_of-self g c =
     let l = c.self.inside in
     let telling = g.L.Link.telling in
     let sent = c.send_all.ensures in
-    let up = c.if-self.false in (
-      pump_sent laws c.if-self-2.false up c.self.invariant.0 sent.some c.in-Ok.ensures.running sent.unanswered
-          sent.unreceived.quiets sent.unreceived.board,
+    let up = c.if-self.false in
+    let lane = pump_sent laws c.if-self-2.false up c.self.invariant.0
+    {faults_now = g.L.Link.faults c.send_all.new.link} sent.some c.in-Ok.ensures.running sent.unanswered
+    sent.unreceived.quiets sent.unreceived.board in (
+      lane,
       pays_pumped l.down l.spent l.mtu l.settings.rounds l.give_ups l.give_ups l.engine c.send_all.new.hub
           (g.L.Link.held l.link) (g.L.Link.held c.send_all.new.link) (telling l.link) (telling c.send_all.new.link)
           c.if-self-2.false up c.self.invariant.0.knows.rounds
@@ -34,8 +41,9 @@ invariant_of-self g c =
       heard_still l.outcomes.items (g.L.Link.gots l.link) (g.L.Link.gots c.send_all.new.link)
           (let same = sent.unreceived.gots in omega (arith, same)) refl c.self.invariant.2,
       listened_sent sent.some refl (same_answers refl refl) (same_prefix sent.unreceived.receives) c.self.invariant.3,
-      runs_on c.laws_of_runs.ensures c.if-self-2.false up (ap (λ (b : Bool). b || l.spent) c.if-self-2.false ∙ up)
-          c.self.invariant.4 c.in-Ok.ensures.ran,
+      run_on c.laws_of_runs.ensures c.if-self-2.false up c.self.invariant.0.ready.drained c.self.invariant.4 refl
+          (told_none lane.ready.drained.fates lane.ready.drained.lates refl refl) (lost_places lane)
+          c.in-Ok.ensures.ran,
     )
 
 pub invariant_of-self-in-Err-Failed : goal.invariant_of-self-in-Err-Failed
@@ -44,10 +52,11 @@ invariant_of-self-in-Err-Failed g c =
     let l = c.self.inside in
     let telling = g.L.Link.telling in
     let sent = c.send_all.ensures in
-    let up = c.if-self.false in (
-      pump_down laws c.if-self-2.false up c.self.invariant.0 sent.some c.in-Err-Failed.ensures.stopped
-          sent.unanswered (sent.faults.failed (cc)) sent.unreceived.quiets refl refl c.lose_all.ensures.lates
-          c.sent.ensures c.lose_all.ensures.outcomes sent.unreceived.board,
+    let up = c.if-self.false in
+    let lane = pump_down laws c.if-self-2.false up c.self.invariant.0 sent.some c.in-Err-Failed.ensures.stopped
+    sent.unanswered (sent.faults.failed (cc)) sent.unreceived.quiets refl refl c.lose_all.ensures.lates c.sent.ensures
+    c.lose_all.ensures.outcomes sent.unreceived.board in (
+      lane,
       pays_stopped c.laws_of_rounds.ensures (l.down || l.spent) l.mtu l.settings.rounds l.give_ups l.give_ups
           l.engine c.send_all.new.hub (g.L.Link.held l.link) (g.L.Link.held c.send_all.new.link) (telling l.link)
           (telling c.send_all.new.link) sent.unreceived.board refl sent.unreceived.held c.self.invariant.1,
@@ -55,7 +64,10 @@ invariant_of-self-in-Err-Failed g c =
       listened_sent sent.some refl
           (lost_answers laws.lost_adds c.sent.result refl c.lose_all.ensures.outcomes c.lose_all.ensures.lates)
           (same_prefix sent.unreceived.receives) c.self.invariant.3,
-      runs_on c.laws_of_runs.ensures c.if-self-2.false up refl c.self.invariant.4 c.in-Err-Failed.ensures.cut,
+      run_down c.laws_of_runs.ensures c.if-self-2.false up c.self.invariant.0.ready.drained c.self.invariant.4
+          (told_lost laws.lost_keeps laws.lost_adds c.sent.result lane.ready.drained.fates lane.ready.drained.lates refl
+          c.lose_all.ensures.outcomes c.lose_all.ensures.lates) (lost_places lane)
+          (ran_by Failed c.in-Err-Failed.field-0 (cc) c.in-Err-Failed.ensures.cut),
     )
 
 pub invariant_of-self-in-Err-NoMemory : goal.invariant_of-self-in-Err-NoMemory
@@ -64,9 +76,13 @@ invariant_of-self-in-Err-NoMemory g c =
     let l = c.self.inside in
     let telling = g.L.Link.telling in
     let sent = c.send_all.ensures in
-    let up = c.if-self.false in (
-      pump_spent laws c.if-self-2.false up c.self.invariant.0 sent.some c.in-Err-NoMemory.ensures.stopped
-          (inl sent.unanswered) (let same = sent.unreceived.quiets in omega (arith, same)) refl refl refl sent.unreceived.board,
+    let up = c.if-self.false in
+    let waits = sym c.waiting.ensures ∙ c.if-not-waiting.false in
+    let lane = pump_spent laws c.if-self-2.false up c.self.invariant.0
+    {faults_now = g.L.Link.faults c.send_all.new.link} {quiets_now = g.L.Link.quiets c.send_all.new.link} sent.some
+    c.in-Err-NoMemory.ensures.stopped (inl sent.unanswered)
+    (let same = sent.unreceived.quiets in omega (arith, same)) refl refl refl sent.unreceived.board in (
+      lane,
       subst (λ (b : Bool). IfSome (telling c.send_all.new.link) (HasPaid (b || true) l.mtu l.settings.rounds
           l.give_ups c.send_all.new.hub (g.L.Link.held c.send_all.new.link))) (sym c.if-self-2.false)
           (pays_stopped c.laws_of_rounds.ensures (l.down || l.spent) l.mtu l.settings.rounds l.give_ups l.give_ups
@@ -75,8 +91,10 @@ invariant_of-self-in-Err-NoMemory g c =
       heard_still l.outcomes.items (g.L.Link.gots l.link) (g.L.Link.gots c.send_all.new.link)
           (let same = sent.unreceived.gots in omega (arith, same)) refl c.self.invariant.2,
       listened_sent sent.some refl (same_answers refl refl) (same_prefix sent.unreceived.receives) c.self.invariant.3,
-      runs_on c.laws_of_runs.ensures c.if-self-2.false up (ap (λ (b : Bool). b || true) c.if-self-2.false)
-          c.self.invariant.4 c.in-Err-NoMemory.ensures.cut,
+      run_spent c.laws_of_runs.ensures c.if-self-2.false up c.self.invariant.0.ready.drained c.self.invariant.4
+          ((same_sent l.engine c.send_all.new.hub sent.some).waits ∙ waits)
+          (told_none lane.ready.drained.fates lane.ready.drained.lates refl refl) (lost_places lane)
+          (ran_by NoMemory c.in-Err-NoMemory.field-0 (cc) c.in-Err-NoMemory.ensures.cut),
     )
 
 pub returns-in-Ok-clause-round : goal.returns-in-Ok-clause-round
@@ -99,6 +117,7 @@ returns-in-Ok-clause-round g c =
 pub returns-in-Err-Failed-clause-same : goal.returns-in-Err-Failed-clause-same
 returns-in-Err-Failed-clause-same g c =
     same_record c.self.view_is (record {
+      number = c.send_all.ensures.unreceived.number;
       settings = refl;
       status = refl;
       items = refl;
@@ -155,3 +174,7 @@ returns-in-Err-NoMemory-clause-opening g c =
     subst (λ (v : LaneState _). opening_of (telling c.send_all.new.link) ≡ opening_of (telling v.link))
     c.self.view_is (same_opening (telling c.self.inside.link) (telling c.send_all.new.link)
     c.send_all.ensures.unreceived.board)
+
+-- a lane that sends nothing stays as it was
+pub returns-then-not-waiting-clause-round : goal.returns-then-not-waiting-clause-round
+returns-then-not-waiting-clause-round g c = same_lane_sends g.L.Link c.args.self.now c.args.self.now refl

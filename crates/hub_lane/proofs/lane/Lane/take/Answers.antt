@@ -125,6 +125,7 @@ returns-clause-taken g c =
     (sym same) ∙ ap (λ (xs : List Item). xs ++ x ∷ []) c.in_ok-reserve.ensures.items) in
     subst (λ (v : LaneState _). Takes v c.args.client c.args.seq (record {
       link = l.link;
+      number = g.L.Link.number l.link;
       settings = l.settings;
       status = status;
       hub = l.engine;
@@ -142,6 +143,7 @@ returns-clause-taken g c =
       short = short_at outcomes ask answer c.self.invariant.0.short became;
       entry = ap (λ (xs : List Item). record {
         link = l.link;
+        number = g.L.Link.number l.link;
         settings = l.settings;
         status = status;
         hub = l.engine;

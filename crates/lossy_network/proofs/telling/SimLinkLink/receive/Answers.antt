@@ -59,6 +59,9 @@ returns-clause-gots_rise c = subst (λ (n : ℕ). c.args.self.now.gots ≤ n) (s
 pub returns-clause-traffic : goal.returns-clause-traffic
 returns-clause-traffic c = (counted c).passed
 
+pub returns-clause-number : goal.returns-clause-number
+returns-clause-number c = (counted c).number
+
 pub returns-clause-held : goal.returns-clause-held
 returns-clause-held c = held_rises (steps c) c.receive.result c.receive.new.into.items c.args.self.now
     c.receive.new.self c.counts_fit.ensures.held (receipt c)

@@ -1,4 +1,5 @@
-use Rattle.lossy_network.proofs.Tellings.{rises_by, send_faults, send_holds, send_passes, send_unfaulted, sends}
+use Rattle.lossy_network.proofs.Tellings.{rises_by, send_faults, send_holds, send_keeps_number, send_passes}
+use Rattle.lossy_network.proofs.Tellings.{send_unfaulted, sends}
 use Rattle.lossy_network.proofs.telling.SimLinkLink.send.Goals as goal
 
 pub returns-clause-sent : goal.returns-clause-sent
@@ -34,3 +35,11 @@ returns-clause-traffic c = send_passes c.send.result c.args.bytes.now c.args.sel
   fault = c.send.ensures.failed;
   no_memory = c.send.ensures.no_memory;
 })
+
+pub returns-clause-number : goal.returns-clause-number
+returns-clause-number c =
+    send_keeps_number c.send.result c.args.bytes.now c.args.self.now c.send.new.self (record {
+      after = c.send.ensures.sent;
+      fault = c.send.ensures.failed;
+      no_memory = c.send.ensures.no_memory;
+    })
