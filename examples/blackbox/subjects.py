@@ -89,14 +89,15 @@ CRATES_OF: dict[str, str] = {
     "scripts": "script_steps script_lang script_plans transcript run_laws load_run",
     "policies": "access_policy",
     "losses": "world_model world_core board_node board_specs reliable_engine lossy_network board_greeting",
-    "lanes": "turn_pass lane_record lane_tables hub_lane hub_multiplexer client_threads board_history"
+    "lanes": "turn_pass lane_record lane_tables hub_lane board_berth hub_multiplexer client_threads board_history"
     " client_history session_run",
     "serving": "hub_framing hub_session session_serve serve_command",
     "outside": "ipb_outside links std_edges net_edges",
     "captures": "capture_reader capture_commands record_command",
-    "audits": "transcript_reader run_audit audit_command audit_laws",
+    "audits": "transcript_reader run_audit audit_notes audit_command audit_laws",
     "configurations": "config_store config_input config_laws config_commands",
-    "commands": "command_words command_terms session_input run_command operator_notes ipbus_program ipbus",
+    "commands": "command_words command_terms note_lines session_notes session_input run_command operator_notes"
+    " ipbus_program ipbus",
 }
 
 

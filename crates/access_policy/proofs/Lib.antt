@@ -15,3 +15,4 @@ pub mod Written
 pub mod NamesBack
 pub mod Reread
 pub mod RuleNumbers
+mod Closed

@@ -69,7 +69,7 @@ closed_back : (parts : List ℕ × List ℕ) (inside : List ℕ) → before_last
 closed_back (before, []) inside h = ap (λ xs. xs ++ 93 ∷ []) (same_some before inside h)
 closed_back (before, byte ∷ rest) inside h = cc
 
-bracketed_back : (text : List ℕ) (parts : List ℕ × List ℕ) → in_brackets text ≡ Some parts
+pub bracketed_back : (text : List ℕ) (parts : List ℕ × List ℕ) → in_brackets text ≡ Some parts
     → parts.0 ++ 91 ∷ (parts.1 ++ 93 ∷ []) ≡ text
 unfolding in_brackets
 bracketed_back text parts h =

@@ -5,5 +5,6 @@ pub mod Reading
 pub mod Decisions
 pub mod Cutting
 pub mod Candidates
+pub mod KnownNames
 pub mod ById
 pub mod Examples

@@ -1,7 +1,9 @@
 //! What the rules of a client on a board say of names. The names of a script mostly come again: each is judged once for
 //! each access, and what was said is kept. Where there are many rules, a name is cut once for all of them.
 
-ghost use Rattle.std.specs.Prelude.{◌≡◌, IfOk, IfSome};
+ghost use Rattle.std.specs.Prelude.{◌≡◌, List, IfOk, IfSome};
+ghost use Rattle.access_policy.specs.KnownNames.{AreKnown};
+ghost use Rattle.access_policy.specs.declared.policy.Access.{Access as AccessValue};
 ghost use Rattle.access_policy.specs.ById.{AreById, IsRisingFrom};
 ghost use Rattle.access_policy.specs.Candidates as of;
 ghost use Rattle.access_policy.specs.Names.{items_of};
@@ -22,8 +24,60 @@ use std::marker::Model;
 /// them cuts as much of the name as it has items.
 const FEW_RULES: usize = 4;
 
-/// What was said of names, by the names.
-type Known<'a> = BTreeMap<&'a str, Decision>;
+/// What was said of names: of the first of each number by that number, which is compared faster, and of others by the
+/// names.
+#[derive(Drop)]
+struct Known<'a> {
+    by_number: BTreeMap<u64, (&'a str, Decision)>,
+    by_name: BTreeMap<&'a str, Decision>,
+}
+
+/// A number that few names share (FNV-1a of their bytes).
+fn number_of(name: &str) -> u64 {
+    let mut number: u64 = 0xcbf2_9ce4_8422_2325;
+    for byte in name.as_bytes() {
+        number = (number ^ u64::from(*byte)).wrapping_mul(0x100_0000_01b3);
+    }
+    number
+}
+
+impl<'a> Known<'a> {
+    /// Nothing. It takes no memory.
+    fn new(alloc: Global) -> Known<'a>
+        ensures { (access : AccessValue) (rules : List of.Numbered) → AreKnown access rules result }
+    {
+        Known {
+            by_number: BTreeMap::new(alloc),
+            by_name: BTreeMap::new(alloc),
+        }
+    }
+
+    /// What was said of a name.
+    fn get(&self, number: u64, name: &str) -> Option<Decision>
+        ensures { (access : AccessValue) (rules : List of.Numbered) → AreKnown access rules self.now
+            → IfSome result (λ decision. decision ≡ of.first_of access (items_of name.now) rules) }
+    {
+        if let Some((other, decision)) = self.by_number.get(&number)
+            && *other == name
+        {
+            return Some(*decision);
+        }
+        self.by_name.get(name).copied()
+    }
+
+    /// Keeps what was said of a name.
+    fn insert(&mut self, number: u64, name: &'a str, decision: Decision) -> Result<(), NoMemory>
+        ensures { (access : AccessValue) (rules : List of.Numbered) → AreKnown access rules self.old
+            → decision ≡ of.first_of access (items_of name.now) rules → AreKnown access rules self.new }
+    {
+        if self.by_number.contains_key(&number) {
+            self.by_name.insert(name, decision)?;
+        } else {
+            self.by_number.insert(number, (name, decision))?;
+        }
+        Ok(())
+    }
+}
 
 /// The rules that speak of a client and a board, in order, and what they said of names. Contracts see the rules.
 #[derive(Drop)]
@@ -37,7 +91,8 @@ pub(crate) struct Judge<'a> {
 impl<'a> Model for Judge<'a> {
     ghost use Rattle.std.specs.Prelude.{List, IfSome};
     ghost use Rattle.access_policy.specs.ById.{AreById, IsRisingFrom};
-    ghost use Rattle.access_policy.specs.Candidates.{Numbered, IsKnown};
+    ghost use Rattle.access_policy.specs.Candidates.{Numbered};
+    ghost use Rattle.access_policy.specs.KnownNames.{AreKnown};
     ghost use Rattle.access_policy.specs.declared.policy.Access.TheVariants.{Reading, Writing};
 
     ghost Value = { List Numbered };
@@ -46,8 +101,8 @@ impl<'a> Model for Judge<'a> {
 
     ghost invariant = { λ judge. IsRisingFrom 1 judge.rules.items
         × (IfSome judge.sorted (AreById judge.rules.items)
-        × (IsKnown Reading judge.rules.items judge.reading
-        × IsKnown Writing judge.rules.items judge.writing)) };
+        × (AreKnown Reading judge.rules.items judge.reading
+        × AreKnown Writing judge.rules.items judge.writing)) };
 }
 
 impl<'a> Judge<'a> {
@@ -59,8 +114,8 @@ impl<'a> Judge<'a> {
         Judge {
             rules,
             sorted: None,
-            reading: BTreeMap::new(alloc),
-            writing: BTreeMap::new(alloc),
+            reading: Known::new(alloc),
+            writing: Known::new(alloc),
         }
     }
 
@@ -129,20 +184,21 @@ fn judged<'a>(
 ) -> Result<Decision, NoMemory>
     requires rising { IsRisingFrom 1 rules.now }
     requires sorted { IfSome sorted.old (AreById rules.now) }
-    requires known { of.IsKnown access rules.now known.old }
+    requires known { AreKnown access rules.now known.old }
     ensures sorted { IfSome sorted.new (AreById rules.now) }
-    ensures known { of.IsKnown access rules.now known.new }
+    ensures known { AreKnown access rules.now known.new }
     ensures said { IfOk result (λ decision. decision ≡ of.first_of access (items_of name.now) rules.now) }
 {
     if rules.len() <= FEW_RULES {
         return Ok(first_of_written(rules, name, access));
     }
-    if let Some(decision) = known.get(name) {
-        return Ok(*decision);
+    let number = number_of(name);
+    if let Some(decision) = known.get(number, name) {
+        return Ok(decision);
     }
     let parts = cut_name(alloc, name)?;
     let decision = said_by_many(alloc, rules, sorted, parts.as_slice(), access)?;
-    known.insert(name, decision)?;
+    known.insert(number, name, decision)?;
     Ok(decision)
 }
 

@@ -1,6 +1,6 @@
 //! Names cut at their dots and brackets.
 
-ghost use Rattle.std.specs.Prelude.{◌≡◌, ◌<◌, ◌∷◌, option_map, option_copied, length, IfOk, IfSome};
+ghost use Rattle.std.specs.Prelude.{◌≡◌, ◌<◌, ◌∷◌, false, None, option_map, option_copied, length, IfOk, IfSome};
 ghost use Rattle.script_lang.specs.Texts as texts;
 ghost use Rattle.access_policy.specs.Cutting.{parts_left};
 ghost use Rattle.access_policy.specs.Names as spec;
@@ -93,10 +93,24 @@ fn indexed(text: &str) -> Option<NamePart<'_>>
     })
 }
 
+/// Whether a text ends with a bracket, as one with an index does. Most do not, and are not searched for one.
+fn is_closed(text: &str) -> bool
+    ensures { result ≡ false → spec.item_with_index text.now ≡ None }
+{
+    let bytes = text.as_bytes();
+    !bytes.is_empty() && bytes[bytes.len() - 1] == b']'
+}
+
 /// What stands between dots.
 pub(crate) fn name_part(text: &str) -> NamePart<'_>
     ensures { result ≡ spec.item_of text.now }
 {
+    if !is_closed(text) {
+        return NamePart {
+            id: text,
+            index: None,
+        };
+    }
     match indexed(text) {
         Some(part) => part,
         None => NamePart {

@@ -5,8 +5,7 @@ use Rattle.links.specs.Telling.{Telling}
 use Rattle.links.specs.declared.rack.Rack.{Ghosts as RackGhosts}
 use Rattle.world_model.specs.Settings.{Limits}
 use Rattle.board_specs.specs.declared.spec.BoardSpec.{BoardSpec}
-use Rattle.lane_record.specs.Coding.{Head}
-use Rattle.hub_lane.specs.Records.{head_of}
+pub use Rattle.hub_lane.specs.Records.{head_shown}
 use Rattle.hub_lane.specs.declared.greeting.Greeted.{Greeted}
 use Rattle.hub_lane.specs.declared.greeting.Greeted.TheVariants.{Ready, Silent, Down, NoMemory}
 use Rattle.hub_lane.specs.Greeting.{CanBegin}
@@ -124,10 +123,6 @@ pub record IsLaneTo {L : Type 0} (settings : Limits) (spec : BoardSpec) (telling
     (lane : LaneState L) : Type 0 where
   pub settings' : lane.settings ≡ settings
   pub board' : IsKnownAs spec.link lane.status (opening_of telling)
-
--- what the record of a lane tells of its board
-abbrev pub head_shown : {L : Type 0} → (L → Option Telling) → LaneState L → Head
-head_shown tells lane = head_of lane.number lane.settings lane.status (tells lane.link)
 
 -- a lane that nobody asked anything of
 abbrev pub HasNoEntry : {L : Type 0} → LaneState L → Type 0

@@ -22,7 +22,7 @@ pub fn describe_answer(alloc: Global, bytes: &[u8]) -> Result<Answer, NoMemory>
         Owes spec.describe_terms bytes.now (no_pairs []) answer.status answer.text.items) }
 {
     match read_for_describe(alloc, bytes) {
-        Ok(capture) => Ok(done(describe(alloc, &capture)?)),
+        Ok(capture) => Ok(done(alloc, describe(alloc, &capture)?)),
         Err(Unread::Refused(refusal)) => refused_text(alloc, &refusal),
         Err(Unread::NoMemory) => Err(NoMemory),
     }
@@ -35,18 +35,18 @@ pub fn undescribe_answer(alloc: Global, bytes: &[u8]) -> Result<Answer, NoMemory
         Owes spec.undescribe_terms bytes.now (no_pairs []) answer.status answer.text.items) }
 {
     match read_for_undescribe(alloc, bytes) {
-        Ok(capture) => Ok(done(write_capture(alloc, &capture)?)),
+        Ok(capture) => Ok(done(alloc, write_capture(alloc, &capture)?)),
         Err(Unread::Refused(refusal)) => refused_text(alloc, &refusal),
         Err(Unread::NoMemory) => Err(NoMemory),
     }
 }
 
 /// The answer with a text that was made.
-fn done(text: Vec<u8>) -> Answer
+fn done(alloc: Global, text: Vec<u8>) -> Answer
     ensures status { result.status ≡ done_status }
     ensures text { result.text ≡ text }
 {
-    Answer { status: DONE, text }
+    Answer::new(alloc, DONE, text)
 }
 
 /// The answer to a text that is refused (profile): the line of the refusal, and `REFUSED`.
@@ -55,8 +55,5 @@ pub fn refused_text(alloc: Global, refusal: &TextRefusal) -> Result<Answer, NoMe
     ensures text { IfOk result (λ answer. answer.text.items ≡ refusal_line refusal.now) }
 {
     let line = refusal.line(alloc)?;
-    Ok(Answer {
-        status: REFUSED,
-        text: line.into_bytes(),
-    })
+    Ok(Answer::new(alloc, REFUSED, line.into_bytes()))
 }

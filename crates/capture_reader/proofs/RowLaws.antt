@@ -11,8 +11,10 @@ use Rattle.packet_ids.specs.Identifier.{IsIdentifier}
 use Rattle.packet_codec.specs.declared.packet.PacketKind.{PacketKind}
 use Rattle.packet_codec.specs.declared.packet.PacketKind.TheVariants as kinds
 use Rattle.packet_codec.specs.declared.packet.Packet.{Packet}
-use Rattle.packet_codec.specs.Packet.{IsPacket, packet_bytes}
-use Rattle.packet_codec.proofs.PacketLemmas.{one_packet}
+use Rattle.packet_codec.specs.Packet.{IsPacket, packet_bytes, head_of}
+use Rattle.packet_codec.specs.declared.packet.BadPacket.{BadPacket}
+use Rattle.packet_codec.specs.Reading.{packet_of, head_read}
+use Rattle.packet_codec.proofs.PacketLemmas.{one_packet, packet_again}
 use Rattle.status_packet.specs.Range.{IsMtu, IsBufferCount}
 use Rattle.status_packet.specs.Packets.{status_request, status_reply, resend_request}
 use Rattle.capture_reader.specs.declared.capture.Caught.{Caught}
@@ -31,6 +33,15 @@ pub on_raw : {X Y : Type 0} (r : Result X Y) (item : Caught) (old new : List ℕ
     → ((row : Row) → IsOfRow item row → ⊥) → OnOk r (new ≡ old ++ raw_text item) → OnOk r (Appends item old new)
 on_raw (Ok x) item old new none e = (raw_text item, inr (none, refl), e)
 on_raw (Err y) item old new none e = tt
+
+-- bytes that are read as no packet are of no row
+pub of_no_row : (item : Caught) (bytes : List ℕ) (fault : BadPacket) → bytes ≡ item.bytes
+    → Err fault ≡ head_read (packet_of bytes) → (row : Row) → IsOfRow item row → ⊥
+of_no_row item bytes fault same read row is =
+    let e : packet_of bytes ≡ Ok (row_packet row) = ap packet_of (same ∙ is.spelled)
+    ∙ packet_again (row_packet row) is.packet in
+    let clash : Err fault ≡ Ok (head_of (row_packet row)) = read ∙ ap head_read e in
+    absurd cc
 
 -- the packet of a row is the one that the bytes spell
 row_is : (item : Caught) (packet : Packet) (row : Row) → IsOfPacket item packet → IsOfRow item row

@@ -15,10 +15,12 @@ ghost use Rattle.capture_reader.specs.Describing.{Adds, Appends, AppendsAll, IsO
 use crate::capture::{Capture, Caught};
 use crate::executed::proved;
 use crate::hex::push_bytes;
+use crate::packets::with_body;
+use crate::room::text_about;
 use crate::texts::{push_control, push_number, push_replies, push_requests};
 use crate::writing::{direction_text, first_line};
 use ipb_base::NoMemory;
-use packet_codec::{BadPacket, Order, Packet, PacketKind, read_packet};
+use packet_codec::{Order, Packet, PacketKind, read_head};
 use status_packet::laws::{each_is_a_packet, what_is_written_is_known};
 use status_packet::{
     Status, read_resend, read_status_reply, write_status_reply, write_status_request,
@@ -210,27 +212,26 @@ fn push_packet(out: &mut Vec<u8>, item: &Caught, packet: &Packet) -> Result<(), 
     }
 }
 
-/// Appends the text of a datagram.
-fn push_datagram(alloc: Global, out: &mut Vec<u8>, item: &Caught) -> Result<(), NoMemory>
+/// Appends the text of a datagram. Its words are read into the room, which is given back.
+fn push_datagram(out: &mut Vec<u8>, item: &Caught, room: Vec<u32>) -> Result<Vec<u32>, NoMemory>
     ensures { OnOk result (Appends item.now out.old.items out.new.items) }
 {
-    match read_packet(alloc, item.bytes.as_slice()) {
-        Ok(packet) => push_packet(out, item, &packet),
-        Err(fault) => {
-            if fault == BadPacket::NoMemory {
-                return Err(NoMemory);
-            }
-            push_raw(out, item)
-        }
-    }
+    let Ok(head) = read_head(item.bytes.as_slice()) else {
+        push_raw(out, item)?;
+        return Ok(room);
+    };
+    let packet = with_body(room, head, item.bytes.as_slice())?;
+    push_packet(out, item, &packet)?;
+    Ok(packet.body.into_vec())
 }
 
 /// Appends the texts of datagrams.
 fn push_datagrams(alloc: Global, out: &mut Vec<u8>, items: &[Caught]) -> Result<(), NoMemory>
     ensures { OnOk result (AppendsAll items.now out.old.items out.new.items) }
 {
+    let mut room = Vec::new(alloc);
     for item in items {
-        push_datagram(alloc, out, item)?;
+        room = push_datagram(out, item, room)?;
     }
     Ok(())
 }
@@ -252,7 +253,9 @@ pub fn describe(alloc: Global, capture: &Capture) -> Result<Vec<u8>, NoMemory>
     ensures { IfOk result (λ text. IsDescription capture.now text.items) }
 {
     let mut out = first_line(alloc, capture.first)?;
-    push_datagrams(alloc, &mut out, capture.items.as_slice())?;
+    let items = capture.items.as_slice();
+    out.reserve(text_about(items)).unwrap_or(());
+    push_datagrams(alloc, &mut out, items)?;
     push_proved(&mut out, proved(capture))?;
     Ok(out)
 }

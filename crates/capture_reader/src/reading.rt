@@ -15,6 +15,7 @@ use crate::front::behind;
 use crate::hex::read_bytes;
 use crate::number::read_number;
 use crate::refusal::{CaptureRefusal, CaptureWhy, Unread};
+use crate::room::lines_about;
 use crate::writing::first_line;
 use packet_ids::Id;
 use std::alloc::Global;
@@ -90,6 +91,7 @@ fn read_items(alloc: Global, text: &[u8]) -> Result<Vec<Caught>, CaptureRefusal>
     ensures refused { IfErr result (IsItemsFault text.now) }
 {
     let mut items = Vec::new(alloc);
+    items.reserve(lines_about(text)).unwrap_or(());
     let mut rest = text;
     while !rest.is_empty() {
         let first = read_item(alloc, items.len() as u64 + 2, rest)?;

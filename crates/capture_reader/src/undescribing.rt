@@ -19,6 +19,7 @@ use crate::number::read_number;
 use crate::parsing::{read_count, read_lines, read_order};
 use crate::reading::{FirstItem, read_direction, read_first};
 use crate::refusal::{UndescribeRefusal, Unread};
+use crate::room::lines_about;
 use ipb_base::NoMemory;
 use packet_codec::{Head, MAX_BODY_WORDS, Order, PacketKind, append_packet, header_word};
 use std::alloc::Global;
@@ -255,6 +256,7 @@ fn read_datagrams(alloc: Global, text: &[u8]) -> Result<Vec<Caught>, NoMemory>
     ensures read { IfOk result (λ items. items.items ≡ (all_of datagram_at text.now).0) }
 {
     let mut items = Vec::new(alloc);
+    items.reserve(lines_about(text)).unwrap_or(());
     let mut room = Room {
         words: Vec::new(alloc),
         line: Vec::new(alloc),

@@ -7,6 +7,7 @@ ghost use Rattle.capture_reader.specs.CaptureText.{AreItems, IsCapture};
 
 use crate::capture::{Capture, Caught};
 use crate::hex::push_bytes;
+use crate::room::text_about;
 use ipb_base::NoMemory;
 use packet_ids::Id;
 use std::alloc::Global;
@@ -21,7 +22,9 @@ pub fn write_capture(alloc: Global, capture: &Capture) -> Result<Vec<u8>, NoMemo
     ensures capture { IfOk result (λ _. IsCapture capture.now) }
 {
     let mut out = first_line(alloc, capture.first)?;
-    push_items(&mut out, capture.items.as_slice())?;
+    let items = capture.items.as_slice();
+    out.reserve(text_about(items)).unwrap_or(());
+    push_items(&mut out, items)?;
     Ok(out)
 }
 

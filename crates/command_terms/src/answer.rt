@@ -5,6 +5,7 @@ ghost use Rattle.session_input.specs.Lines.{refusal_line};
 ghost use Rattle.command_terms.specs.Numbers as spec;
 
 use ipb_base::NoMemory;
+use note_lines::Notes;
 use session_input::Refusal;
 use std::alloc::Global;
 
@@ -35,6 +36,22 @@ pub struct Answer {
     /// `DONE`, `NOT_ALL_DONE` or `REFUSED`.
     pub status: u8,
     pub text: Vec<u8>,
+    /// What is said beside the text on standard error. No clause speaks of it.
+    pub notes: Notes,
+}
+
+impl Answer {
+    /// An answer beside which nothing is said. It takes no memory.
+    pub fn new(alloc: Global, status: u8, text: Vec<u8>) -> Answer
+        ensures status { result.status ≡ status }
+        ensures text { result.text ≡ text }
+    {
+        Answer {
+            status,
+            text,
+            notes: Notes::new(alloc),
+        }
+    }
 }
 
 /// The status of a text that was made, by whether all that it tells went well (profile).
@@ -49,8 +66,6 @@ pub fn refused(alloc: Global, refusal: Refusal) -> Result<Answer, NoMemory>
     ensures status { IfOk result (λ answer. answer.status ≡ spec.refused_status) }
     ensures text { IfOk result (λ answer. answer.text.items ≡ refusal_line refusal) }
 {
-    refusal.line(alloc).map(|line| Answer {
-        status: REFUSED,
-        text: line.into_bytes(),
-    })
+    let line = refusal.line(alloc)?;
+    Ok(Answer::new(alloc, REFUSED, line.into_bytes()))
 }

@@ -89,8 +89,6 @@ fn refused(alloc: Global, refusal: ConfigRefusal) -> Result<Answer, NoMemory>
     ensures status { IfOk result (λ answer. answer.status ≡ refused_status) }
     ensures text { IfOk result (λ answer. answer.text.items ≡ refusal_line refusal) }
 {
-    refusal.line(alloc).map(|line| Answer {
-        status: REFUSED,
-        text: line.into_bytes(),
-    })
+    let line = refusal.line(alloc)?;
+    Ok(Answer::new(alloc, REFUSED, line.into_bytes()))
 }

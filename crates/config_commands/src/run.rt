@@ -60,8 +60,5 @@ fn written(
 {
     let clients = lines_of_clients(alloc, runs, steps)?;
     let text = state_text(alloc, boards, &clients[0])?;
-    Ok(Answer {
-        status: done_status(all_good(&clients)),
-        text,
-    })
+    Ok(Answer::new(alloc, done_status(all_good(&clients)), text))
 }

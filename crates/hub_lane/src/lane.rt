@@ -1,7 +1,7 @@
 //! A lane: the engine and the link of one board, and the record of what clients asked of it.
 
 ghost use Rattle.std.specs.Prelude.{◌≡◌, ◌≤◌, ◌<◌, ◌⊎◌, ◌*◌, ℕ, true, false, length, map, count_by, OnOk, OnErr};
-ghost use Rattle.std.specs.Prelude.{IfOk, IfErr};
+ghost use Rattle.std.specs.Prelude.{◌↔◌, IfOk, IfErr, IsTrue};
 ghost use Rattle.std.specs.Prelude.{IfSome, IfNone, MatchOption, Err, List, if◌then◌else◌, Some, None};
 ghost use Rattle.ipb_base.specs.Numbers.{payload_of};
 ghost use Rattle.transaction_codec.specs.Answer.{reply_room};
@@ -14,6 +14,9 @@ ghost use Rattle.hub_lane.specs.Plans.{CanPlan, IsRefused, Plans};
 ghost use Rattle.links.specs.Receives.{receives_in};
 ghost use Rattle.links.specs.Telling.{IfTelling};
 ghost use Rattle.hub_lane.specs.Carrying.{HasPut, Pumping};
+ghost use Rattle.lane_tables.specs.Planned.{LeavesRoom};
+ghost use Rattle.lane_tables.specs.Taken.{IsAllTaken};
+ghost use Rattle.hub_lane.specs.Greeting.{IsUnused};
 ghost use Rattle.hub_lane.specs.Heard.{EndsWithStatus, HasHeard, HasListened};
 ghost use Rattle.hub_lane.specs.Calls.{Asking, AsksAs, IsReplyAt, IsSameRecord, IsSpent, OffersAs, PumpsAs, SendsAs};
 ghost use Rattle.hub_lane.specs.Calls.{TakesAs, WasAsked, has_stopped};
@@ -114,6 +117,13 @@ impl<L: Link> Lane<L> {
             (L.faults self.now.link) (L.quiets self.now.link) }
     {
         let _down = &self.down;
+    }
+
+    /// The number of a lane is that of its link. It does nothing when it runs.
+    pub fn has_number(&self)
+        ensures { L.number self.now.link ≡ self.now.number }
+    {
+        let _link = &self.link;
     }
 
     /// What a lane over a link that tells has paid for its give-ups: at least as many datagrams were held as all their
@@ -397,6 +407,45 @@ impl<L: Link> Lane<L> {
         ensures shows { ShowsTheSame L.Link self.old.link self.new.link }
     {
         self.link.waiter(self.alloc)
+    }
+
+    /// Another link to the board, over which nothing passed yet and which does not tell. `None` where the lane's link has
+    /// none. Nothing that contracts see of the lane's link changes, and nothing of the lane.
+    pub fn another_link(&mut self) -> Option<L>
+        ensures untold { IfSome result (λ link. L.telling link ≡ None) }
+        ensures unused { IfSome result (λ link. IsUnused L.Link link) }
+        ensures number { IfSome result (λ link. L.number link ≡ self.old.number) }
+        ensures lane { self.new ≡ with_link self.old self.new.link }
+        ensures shows { ShowsTheSame L.Link self.old.link self.new.link }
+    {
+        self.link.again(self.alloc)
+    }
+
+    /// Whether the board told an identifier that no open place explains, before the lane gave up, and was not heard of
+    /// since: it was reset, or another hub is at it.
+    pub fn is_out_of_order(&self) -> bool {
+        self.engine.is_out_of_order()
+    }
+
+    /// Whether its link failed.
+    pub fn is_down(&self) -> bool
+        ensures { result ≡ self.now.down }
+    {
+        self.down
+    }
+
+    /// Whether each body that was planned was asked, and what became of it taken.
+    pub fn is_all_taken(&self) -> bool
+        ensures { IsTrue result ↔ IsAllTaken self.now.items }
+    {
+        self.book.is_all_taken()
+    }
+
+    /// Whether so many bodies more may be planned, and so many words more of bodies and longest replies.
+    pub fn leaves_room(&self, bodies: u64, words: u64) -> bool
+        ensures { IsTrue result ↔ LeavesRoom self.now.items bodies words }
+    {
+        self.book.leaves_room(bodies, words)
     }
 
     /// Whether the lane sends and receives no more: its link failed, or memory ran out in a send or a receive. A pump

@@ -13,7 +13,8 @@ use Rattle.lane_record.specs.NextEntry.{ask_of, plan_of, took_of}
 use Rattle.lane_record.proofs.Lookups.{numbers_append}
 use Rattle.hub_multiplexer.specs.declared.answers.Performed.{Performed}
 use Rattle.hub_multiplexer.specs.declared.answers.Performed.TheVariants as performs
-use Rattle.hub_multiplexer.specs.Calls.{Adds, FoundLane, HasSubmitted, MadeInTime, PerformMeans}
+use Rattle.hub_multiplexer.specs.AnyCalls.{AddsAs, HasSubmittedAs, MadeInTimeAs, PerformMeansAs}
+use Rattle.hub_multiplexer.specs.Manner.{FoundLane, Manner}
 use Rattle.hub_multiplexer.specs.OwnItems.{HasAskedAll, asked_by, own_items, planned_by}
 use Rattle.hub_multiplexer.specs.Seats.{ChangesAt, SeatState}
 use Rattle.hub_multiplexer.proofs.OwnItems.{CanBeRead}
@@ -26,9 +27,9 @@ read_back read [] = refl
 read_back read (x ∷ xs) = rw (read x) (ap (λ l. x ∷ l) (read_back read xs))
 
 -- the client's entries after a call are those before it and those that it added
-own_more : CanBeRead → (k : Knowledge) (lane : FoundLane) (added : List Item) (after : Knowledge)
-    → Adds k lane added after → own_items after ≡ own_items k ++ added
-own_more read k lane added after a =
+own_more : {R : Type 0} (m : Manner R) → CanBeRead → (k : Knowledge) (lane : FoundLane) (added : List Item)
+    (after : Knowledge) → AddsAs m k lane added after → own_items after ≡ own_items k ++ added
+own_more m read k lane added after a =
     let opened = made_by k.number k.opening.entries in
     (λ i. filter_map item_from (made_by (a.rest_same i).number (a.rest_same i).opening.entries ++ a.mine_now i))
     ∙ (ap (filter_map item_from) (sym (append_assoc opened k.mine (map as_recorded added)))
@@ -46,11 +47,12 @@ planned_more client items added = ap length (numbers_append plan_in client items
     ∙ length-append (numbers plan_in client items) (numbers plan_in client added)
 
 -- as many Plans as Asks were added
-pub all_asked_after : CanBeRead → (k : Knowledge) (lane : FoundLane) (added : List Item) (after : Knowledge)
-    → Adds k lane added after → asked_count k.number added ≡ planned_count k.number added → AllAsked k → AllAsked after
-all_asked_after read k lane added after a same all =
+pub all_asked_after : {R : Type 0} (m : Manner R) → CanBeRead → (k : Knowledge) (lane : FoundLane) (added : List Item)
+    (after : Knowledge) → AddsAs m k lane added after → asked_count k.number added ≡ planned_count k.number added
+    → AllAsked k → AllAsked after
+all_asked_after m read k lane added after a same all =
     let number : after.number ≡ k.number = ap (λ (z : Knowledge). z.number) a.rest_same in
-    let own = own_more read k lane added after a in
+    let own = own_more m read k lane added after a in
     (λ i. asked_count (number i) (own i))
     ∙ (asked_more k.number (own_items k) added
     ∙ ((λ i. all i + same i)
@@ -89,28 +91,30 @@ still_asked_at board old new P was c still =
     (there_after old.knows board c.after AllAsked
     (still c.before c.after c.relation (subst (λ o. IfSome o AllAsked) c.there was)))
 
-pub submitted_at_once : CanBeRead → (body : List ℕ) (seq : ℕ) (k after : Knowledge)
-    → MadeInTime k (HasSubmitted k body seq) after → AllAsked k → AllAsked after
-submitted_at_once read body seq k after m = all_asked_after read k m.lane m.added after m.adds
-    (ap (λ l. asked_count k.number l) m.meaning.entries
-    ∙ (as_submitted k.number seq body m.meaning.give_ups ∙ ap (λ l. planned_count k.number l) (sym m.meaning.entries)))
+pub submitted_at_once : {R : Type 0} (m : Manner R) → CanBeRead → (body : List ℕ) (seq : ℕ) (k after : Knowledge)
+    → MadeInTimeAs m k (HasSubmittedAs m k body seq) after → AllAsked k → AllAsked after
+submitted_at_once m read body seq k after made = all_asked_after m read k made.lane made.added after made.adds
+    (ap (λ l. asked_count k.number l) made.meaning.entries
+    ∙ (as_submitted k.number seq body made.meaning.give_ups
+    ∙ ap (λ l. planned_count k.number l) (sym made.meaning.entries)))
 
 none_more : (client : ℕ) (added : List Item) → added ≡ [] → asked_count client added ≡ planned_count client added
 none_more client added none = rw none refl
 
-performed_same : (k : Knowledge) (performed : Performed) (lane : FoundLane) (added : List Item)
-    → PerformMeans k performed lane added → asked_count k.number added ≡ planned_count k.number added
-performed_same k (performs.Ready outcome) lane added t = ap (λ l. asked_count k.number l) t.entry
+performed_same : {R : Type 0} (m : Manner R) (k : Knowledge) (performed : Performed) (lane : FoundLane)
+    (added : List Item) → PerformMeansAs m k performed lane added
+    → asked_count k.number added ≡ planned_count k.number added
+performed_same m k (performs.Ready outcome) lane added t = ap (λ l. asked_count k.number l) t.entry
     ∙ (as_taken k.number t.seq outcome t.give_ups ∙ ap (λ l. planned_count k.number l) (sym t.entry))
-performed_same k performs.Nothing lane added t = none_more k.number added t.1
+performed_same m k performs.Nothing lane added t = none_more k.number added t.1
 
-pub performed_still : CanBeRead → (performed : Performed) (k after : Knowledge)
-    → MadeInTime k (PerformMeans k performed) after → AllAsked k → AllAsked after
-performed_still read performed k after m = all_asked_after read k m.lane m.added after m.adds
-    (performed_same k performed m.lane m.added m.meaning)
+pub performed_still : {R : Type 0} (m : Manner R) → CanBeRead → (performed : Performed) (k after : Knowledge)
+    → MadeInTimeAs m k (PerformMeansAs m k performed) after → AllAsked k → AllAsked after
+performed_still m read performed k after made = all_asked_after m read k made.lane made.added after made.adds
+    (performed_same m k performed made.lane made.added made.meaning)
 
 -- nothing was left to ask
-pub nothing_left : CanBeRead → (k : Knowledge) (lane : FoundLane) (added : List Item) (after : Knowledge)
-    → Adds k lane added after → AllAsked k × (added ≡ []) → AllAsked after
-nothing_left read k lane added after a n =
-    all_asked_after read k lane added after a (none_more k.number added n.1) n.0
+pub nothing_left : {R : Type 0} (m : Manner R) → CanBeRead → (k : Knowledge) (lane : FoundLane) (added : List Item)
+    (after : Knowledge) → AddsAs m k lane added after → AllAsked k × (added ≡ []) → AllAsked after
+nothing_left m read k lane added after a n =
+    all_asked_after m read k lane added after a (none_more k.number added n.1) n.0

@@ -44,7 +44,7 @@ module _ (client : ℕ) (before after : Record) (s : Shown before after) where
   abbrev pub grew : (added : List Item) → s.items' ≡ s.items ++ added
       → AllByRecursion (λ (x : Item). x.client ≡ client) added → Grew client before added after
   grew added is makers = record {
-    lane = record { head = s.head; items = s.items; outcomes = s.outcomes };
+    lane = record { head = s.head; items = s.items; outcomes = s.outcomes; front = [] };
     was = s.was;
     now = s.now ∙ ap (record_of s.head) is;
     legal = subst (λ l. IsLegal l s.outcomes) is s.legal;

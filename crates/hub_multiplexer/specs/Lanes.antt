@@ -1,20 +1,19 @@
 -- What the calls of a lane do to its record, and what that means to a pass of the client. Profile.
 use Rattle.std.specs.Prelude.{◌≡◌, ℕ, ◌<◌, List, [], ◌∷◌, ◌++◌, Option}
-use Rattle.std.specs.List.{AllByRecursion}
 use Rattle.turn_pass.specs.Record.{Record}
-use Rattle.turn_pass.specs.Pass.{Knowledge, Told}
+use Rattle.turn_pass.specs.Pass.{Knowledge}
 use Rattle.lane_record.specs.declared.item.Item.{Item}
 use Rattle.lane_record.specs.Items.{asked_count, planned_count}
 use Rattle.lane_record.specs.NextEntry.{ask_of, took_of}
 use Rattle.lane_record.specs.Outcomes.{IsShort}
-use Rattle.lane_record.specs.Coding.{record_of}
-use Rattle.lane_record.specs.Legal.{IsLegal}
 use Rattle.hub_lane.specs.Calls.{AsksAs}
 use Rattle.hub_lane.specs.Lanes.{LaneState}
 use Rattle.hub_lane.specs.Records.{record_shown}
 use Rattle.lane_tables.specs.Taken.{HasTakenAll, IsOldest}
 use Rattle.links.specs.Telling.{Telling}
-use Rattle.hub_multiplexer.specs.Calls.{FoundLane}
+use Rattle.hub_multiplexer.specs.Manner.{FoundLane}
+use Rattle.hub_multiplexer.specs.AnyCalls.{GrewAs, MeansAs}
+use Rattle.hub_multiplexer.specs.Calls.{lane_manner}
 use Rattle.hub_lane.specs.declared.answers.Asked.{Asked}
 use Rattle.hub_lane.specs.declared.answers.Asked.TheVariants as asks
 use Rattle.hub_lane.specs.declared.step.Stepped.{Stepped}
@@ -43,16 +42,9 @@ pub record IsAskedNext {L : Type 0} (old : LaneState L) (client : ℕ) (new : La
   pub as_next : AsksAs old client new (asks.Asked seq)
 
 -- a legal record of a lane grew by these entries of a client
-pub record Grew (client : ℕ) (before : Record) (added : List Item) (after : Record) : Type 0 where
-  pub lane : FoundLane
-  pub was : before ≡ record_of lane.head lane.items
-  pub now : after ≡ record_of lane.head (lane.items ++ added)
-  pub legal : IsLegal (lane.items ++ added) lane.outcomes
-  pub makers : AllByRecursion (λ x. x.client ≡ client) added
+abbrev pub Grew : ℕ → Record → List Item → Record → Type 0
+Grew = GrewAs lane_manner
 
 -- The record grew by entries that have a meaning for every pass of the client that finds it.
-pub record Means (client : ℕ) (before : Record) (P : Knowledge → FoundLane → List Item → Type 0) (after : Record)
-    : Type 0 where
-  pub added : List Item
-  pub grew : Grew client before added after
-  pub to_finder : (k : Knowledge) → Told k before → k.number ≡ client → P k grew.lane added
+abbrev pub Means : ℕ → Record → (Knowledge → FoundLane → List Item → Type 0) → Record → Type 0
+Means = MeansAs lane_manner

@@ -1,7 +1,9 @@
 pub mod Seats
 pub mod Ends
 pub mod OwnItems
-pub mod Lanes
+pub mod Manner
+pub mod AnyCalls
 pub mod Calls
+pub mod Lanes
 pub mod Openings
 pub mod Waiting

@@ -1,8 +1,12 @@
 //! What the calls of a hub answer.
 
+ghost use Rattle.std.specs.Prelude.{ℕ, List};
 ghost use Rattle.turn_pass.specs.Pass.{Knowledge};
-ghost use Rattle.hub_multiplexer.specs.Calls.{AskMeans, AskTried, Made, StepMeans, StepTried};
+ghost use Rattle.lane_record.specs.declared.item.Item.{Item};
+ghost use Rattle.hub_multiplexer.specs.AnyCalls.{AskMeansAs, AskTriedAs, FindMeansOf, MadeAs, StepMeansAs, StepMeansOf};
+ghost use Rattle.hub_multiplexer.specs.AnyCalls.{StepTriedAs};
 
+use crate::at_hub::AtHub;
 use hub_lane::{Asked, Outcome, Stepped, Turned};
 
 /// How a try to ask went.
@@ -17,9 +21,10 @@ pub enum AskTry {
 }
 
 impl AskTry {
-    /// The answer of a lane that was found.
-    pub(crate) fn of(asked: Asked) -> AskTry
-        ensures { (k after : Knowledge) → Made k (AskMeans k asked) after → AskTried k result after }
+    /// The answer of what was found in the turn.
+    pub(crate) fn of<V: AtHub>(asked: Asked) -> AskTry
+        ensures { (k after : Knowledge) → MadeAs V.manner k (AskMeansAs V.manner k asked) after
+            → AskTriedAs V.manner k result after }
     {
         match asked {
             Asked::Asked(seq) => AskTry::Asked(seq),
@@ -42,9 +47,10 @@ pub enum StepTry {
 }
 
 impl StepTry {
-    /// The answer of a lane that was found.
-    pub(crate) fn of(stepped: Stepped) -> StepTry
-        ensures { (k after : Knowledge) → Made k (StepMeans k stepped) after → StepTried k result after }
+    /// The answer of what was found in the turn.
+    pub(crate) fn of<V: AtHub>(stepped: Stepped) -> StepTry
+        ensures { (k after : Knowledge) → MadeAs V.manner k (StepMeansAs V.manner k stepped) after
+            → StepTriedAs V.manner k result after }
     {
         match stepped {
             Stepped::NotYet(turned) => StepTry::NotYet(turned),
@@ -61,4 +67,18 @@ pub enum Performed {
     Ready(Outcome),
     /// It has no asked body to take.
     Nothing,
+}
+
+impl Performed {
+    /// What a step found, if anything became of the body.
+    pub(crate) fn found_by(stepped: Stepped) -> Option<Performed>
+        ensures { (own : List Item) (client : ℕ) (added : List Item) → StepMeansOf own client stepped added
+            → FindMeansOf own client result added }
+    {
+        match stepped {
+            Stepped::Ready(outcome) => Some(Performed::Ready(outcome)),
+            Stepped::NotYet(_turned) => None,
+            Stepped::Nothing => Some(Performed::Nothing),
+        }
+    }
 }

@@ -1,12 +1,12 @@
 //! What the threads that wait for one board share.
 
 ghost use Rattle.std.specs.Prelude.{◌≡◌, length, map, IfOk};
-ghost use Rattle.hub_multiplexer.specs.Lanes.{shown_record};
 
-use hub_lane::{Lane, Link, NoMemory, Waiter};
+use crate::at_hub::AtHub;
+use hub_lane::{NoMemory, Waiter};
 use std::alloc::Global;
-use std::sync::Wait;
 use std::sync::atomic::{AtomicU64, Ordering};
+use std::sync::{Mutex, Wait};
 
 /// What waits beside a board's lane, where its link has such, and who uses it. Of the threads that wait for the board
 /// one at a time listens: it waits beside the lane, and steps where the link has something to tell. The others sleep
@@ -22,9 +22,15 @@ use std::sync::atomic::{AtomicU64, Ordering};
 /// - What came of its body before it became the listener it finds at its look, which is behind the try.
 /// - Who is about to sleep counts itself among the sleepers before the system reads the number, and who rings raises
 ///   the number before it looks for sleepers. So either the system does not let it sleep, or it is woken.
+/// - The waiter is exchanged while nothing that was asked is untaken, by a thread that holds the lane. So nobody waits
+///   with the old one: it would have looked before, and found that nothing came of its body yet. Who asks for the waiter
+///   at that moment is told that nothing came, and begins again. The exchange rings behind the give.
 #[derive(Drop)]
 pub(crate) struct Bell {
-    waiter: Option<Waiter>,
+    // locked for a wait, for a question whether the link is ready, and while it is exchanged
+    waiter: Mutex<Option<Waiter>>,
+    // 1 where there is a waiter
+    waits: AtomicU64,
     listens: AtomicU64,
     rings: AtomicU64,
     sleepers: AtomicU64,
@@ -34,16 +40,48 @@ impl Bell {
     /// A bell at which nobody listens yet.
     pub(crate) fn of(waiter: Option<Waiter>) -> Bell {
         Bell {
-            waiter,
+            waits: AtomicU64::new(u64::from(waiter.is_some())),
+            waiter: Mutex::new(waiter),
             listens: AtomicU64::new(0),
             rings: AtomicU64::new(0),
             sleepers: AtomicU64::new(0),
         }
     }
 
-    /// What waits beside the lane.
-    pub(crate) fn waiter(&self) -> Option<&Waiter> {
-        self.waiter.as_ref()
+    /// Whether there is what waits beside the lane.
+    pub(crate) fn has_waiter(&self) -> bool {
+        self.waits.load(Ordering::SeqCst) > 0
+    }
+
+    /// Waits until the link can tell something. False where it still cannot; then it is asked again. The listener alone
+    /// asks.
+    pub(crate) fn wait(&self) -> bool {
+        match self.waiter.try_lock() {
+            Some(waiter) => match &*waiter {
+                Some(waiter) => waiter.wait(),
+                None => true,
+            },
+            None => false,
+        }
+    }
+
+    /// Whether the link can still tell something at once. Whoever asks holds the lane.
+    pub(crate) fn link_is_ready(&self) -> bool {
+        match self.waiter.try_lock() {
+            Some(waiter) => match &*waiter {
+                Some(waiter) => waiter.is_ready(),
+                None => true,
+            },
+            None => false,
+        }
+    }
+
+    /// Another waiter from now on. Whoever exchanges it holds the lane, finds nothing there that any client asked and has
+    /// not taken, and rings when the lane is given back.
+    pub(crate) fn exchange<R: Wait>(&self, rt: &R, waiter: Option<Waiter>) {
+        let waits = waiter.is_some();
+        *self.waiter.lock(rt) = waiter;
+        self.waits.store(u64::from(waits), Ordering::SeqCst);
     }
 
     /// Makes the caller the listener where there is none.
@@ -70,9 +108,10 @@ impl Bell {
         }
     }
 
-    /// Wakes all who sleep, where the lane has stopped: then something came of every body.
-    pub(crate) fn ring_if(&self, stopped: bool) {
-        if stopped {
+    /// Wakes all who sleep, where the lane has stopped, so that something came of every body, or where it was exchanged
+    /// for another.
+    pub(crate) fn ring_if(&self, changed: bool) {
+        if changed {
             self.ring();
         }
     }
@@ -85,24 +124,21 @@ impl Bell {
     }
 }
 
-/// A bell for each lane, in order. What the lanes show stays.
-pub(crate) fn bells_of<L: Link>(
-    alloc: Global,
-    lanes: &mut Vec<Lane<L>>,
-) -> Result<Vec<Bell>, NoMemory>
-    ensures shown { map (shown_record L.telling) lanes.new.items ≡ map (shown_record L.telling) lanes.old.items }
-    ensures bells { IfOk result (λ bells. length bells.items ≡ length lanes.old.items) }
+/// A bell for each value, in order. What the values show stays.
+pub(crate) fn bells_of<V: AtHub>(alloc: Global, values: &mut Vec<V>) -> Result<Vec<Bell>, NoMemory>
+    ensures shown { map V.entries values.new.items ≡ map V.entries values.old.items }
+    ensures bells { IfOk result (λ bells. length bells.items ≡ length values.old.items) }
 {
-    let mut bells = Vec::with_capacity(alloc, lanes.len())?;
-    for i in 0..lanes.len() {
-        bells.push_reserved(bell_of(&mut lanes[i]));
+    let mut bells = Vec::with_capacity(alloc, values.len())?;
+    for i in 0..values.len() {
+        bells.push_reserved(bell_of(&mut values[i]));
     }
     Ok(bells)
 }
 
-/// The bell of a lane. What the lane shows stays.
-fn bell_of<L: Link>(lane: &mut Lane<L>) -> Bell
-    ensures { shown_record L.telling lane.new ≡ shown_record L.telling lane.old }
+/// The bell of a value. What it shows stays.
+fn bell_of<V: AtHub>(value: &mut V) -> Bell
+    ensures { V.entries value.new ≡ V.entries value.old }
 {
-    Bell::of(lane.waiter())
+    Bell::of(value.waiter_beside())
 }

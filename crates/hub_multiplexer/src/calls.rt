@@ -2,21 +2,22 @@
 
 ghost use Rattle.std.specs.Prelude.{◌≡◌, ◌≤◌, false, IfOk, IfErr, OnErr};
 ghost use Rattle.transaction_codec.specs.Answer.{reply_room};
-ghost use Rattle.hub_multiplexer.specs.Calls.{AskMeans, AskTried, HasSubmitted, IsNone, Made, MadeInTime};
-ghost use Rattle.hub_multiplexer.specs.Calls.{StepMeans, StepTried, SubmitRefused};
+ghost use Rattle.hub_multiplexer.specs.AnyCalls.{AskMeansAs, AskTriedAs, HasSubmittedAs, IsNone, MadeAs, MadeInTimeAs};
+ghost use Rattle.hub_multiplexer.specs.AnyCalls.{BegunAs, StepTriedAs};
 ghost use Rattle.hub_multiplexer.specs.OwnItems.{asked_by, planned_by};
 
 use crate::answers::{AskTry, StepTry};
+use crate::at_hub::AtHub;
 use crate::bell::Bell;
 use crate::boxed::Boxed;
-use crate::boxed_lane::{ask_on, has_stopped, step_on, submit_on, tells_its_own};
-use hub_lane::{Asked, Lane, Link, NoMemory, PlanRefusal, Stepped, Words};
+use crate::boxed_calls::{ask_on, begin_on, has_stopped, step_on, submit_on};
+use hub_lane::{Asked, NoMemory, Words};
 use std::sync::Wait;
 use turn_pass::{Pass, Turn};
 
 /// Asks the client's next planned body, by one exchange.
-pub(crate) fn try_ask<L: Link + Send>(
-    turn: &Turn<Boxed<Lane<L>>>,
+pub(crate) fn try_ask<V: AtHub + Send>(
+    turn: &Turn<Boxed<V>>,
     bell: &Bell,
     pass: &mut Pass,
     client: u32,
@@ -26,22 +27,22 @@ pub(crate) fn try_ask<L: Link + Send>(
     requires client { 1 ≤ client }
     ensures same { pass.new ≡ record pass.old { knows = pass.new.knows } }
     ensures number { pass.new.knows.number ≡ client }
-    ensures tried { IfOk result (λ tried. AskTried pass.old.knows tried pass.new.knows) }
-    ensures looked { OnErr result (Made pass.old.knows IsNone pass.new.knows) }
+    ensures tried { IfOk result (λ tried. AskTriedAs V.manner pass.old.knows tried pass.new.knows) }
+    ensures looked { OnErr result (MadeAs V.manner pass.old.knows IsNone pass.new.knows) }
 {
-    let Some(mut lane) = turn.try_take(pass) else {
+    let Some(mut value) = turn.try_take(pass) else {
         return Ok(AskTry::Busy);
     };
-    let asked = ask_on(&mut lane, client);
-    let stopped = has_stopped(&lane);
-    turn.give(pass, lane);
+    let asked = ask_on(&mut value, client);
+    let stopped = has_stopped(&value);
+    turn.give(pass, value);
     bell.ring_if(stopped);
-    Ok(AskTry::of(asked?))
+    Ok(AskTry::of::<V>(asked?))
 }
 
-/// Pumps the lane once at most, and takes what became of the client's oldest asked and untaken body, by one exchange.
-pub(crate) fn try_step<L: Link + Send>(
-    turn: &Turn<Boxed<Lane<L>>>,
+/// Pumps once at most, and takes what became of the client's oldest asked and untaken body, by one exchange.
+pub(crate) fn try_step<V: AtHub + Send>(
+    turn: &Turn<Boxed<V>>,
     bell: &Bell,
     pass: &mut Pass,
     client: u32,
@@ -51,22 +52,22 @@ pub(crate) fn try_step<L: Link + Send>(
     requires client { 1 ≤ client }
     ensures same { pass.new ≡ record pass.old { knows = pass.new.knows } }
     ensures number { pass.new.knows.number ≡ client }
-    ensures tried { IfOk result (λ tried. StepTried pass.old.knows tried pass.new.knows) }
-    ensures looked { OnErr result (Made pass.old.knows IsNone pass.new.knows) }
+    ensures tried { IfOk result (λ tried. StepTriedAs V.manner pass.old.knows tried pass.new.knows) }
+    ensures looked { OnErr result (MadeAs V.manner pass.old.knows IsNone pass.new.knows) }
 {
-    let Some(mut lane) = turn.try_take(pass) else {
+    let Some(mut value) = turn.try_take(pass) else {
         return Ok(StepTry::Busy);
     };
-    let stepped = step_on(&mut lane, client);
-    turn.give(pass, lane);
+    let stepped = step_on(&mut value, client);
+    turn.give(pass, value);
     bell.ring();
-    Ok(StepTry::of(stepped?))
+    Ok(StepTry::of::<V>(stepped?))
 }
 
-/// Asks the client's next planned body. It waits for the lane.
-pub(crate) fn ask<L: Link + Send, R: Wait>(
+/// Asks the client's next planned body. It waits for the value.
+pub(crate) fn ask<V: AtHub + Send, R: Wait>(
     rt: &R,
-    turn: &Turn<Boxed<Lane<L>>>,
+    turn: &Turn<Boxed<V>>,
     bell: &Bell,
     pass: &mut Pass,
     client: u32,
@@ -76,27 +77,27 @@ pub(crate) fn ask<L: Link + Send, R: Wait>(
     requires client { 1 ≤ client }
     ensures same { pass.new ≡ record pass.old { knows = pass.new.knows } }
     ensures number { pass.new.knows.number ≡ client }
-    ensures asked { IfOk result (λ asked. MadeInTime pass.old.knows (AskMeans pass.old.knows asked) pass.new.knows) }
-    ensures looked { OnErr result (MadeInTime pass.old.knows IsNone pass.new.knows) }
+    ensures asked { IfOk result (λ asked. MadeInTimeAs V.manner pass.old.knows (AskMeansAs V.manner pass.old.knows asked) pass.new.knows) }
+    ensures looked { OnErr result (MadeInTimeAs V.manner pass.old.knows IsNone pass.new.knows) }
 {
-    let mut lane = turn.take(rt, pass);
-    let asked = ask_on(&mut lane, client);
-    let stopped = has_stopped(&lane);
-    turn.give(pass, lane);
+    let mut value = turn.take(rt, pass);
+    let asked = ask_on(&mut value, client);
+    let stopped = has_stopped(&value);
+    turn.give(pass, value);
     bell.ring_if(stopped);
     asked
 }
 
-/// Plans a body of the client, and asks it. It waits for the lane.
-pub(crate) fn submit<L: Link + Send, R: Wait>(
+/// Plans a body of the client, and asks it. It waits for the value.
+pub(crate) fn submit<V: AtHub + Send, R: Wait>(
     rt: &R,
-    turn: &Turn<Boxed<Lane<L>>>,
+    turn: &Turn<Boxed<V>>,
     bell: &Bell,
     pass: &mut Pass,
     client: u32,
     body: Words,
     reply_words: u32,
-) -> Result<u64, PlanRefusal>
+) -> Result<u64, V::Refusal>
     requires turn { pass.old.turn ≡ turn.now }
     requires idle { (pass.old.holds ≡ false) × (pass.old.knows.number ≡ client) }
     requires client { 1 ≤ client }
@@ -105,15 +106,37 @@ pub(crate) fn submit<L: Link + Send, R: Wait>(
     ensures same { pass.new ≡ record pass.old { knows = pass.new.knows } }
     ensures number { pass.new.knows.number ≡ client }
     ensures submitted { IfOk result (λ seq.
-        MadeInTime pass.old.knows (HasSubmitted pass.old.knows body seq) pass.new.knows) }
+        MadeInTimeAs V.manner pass.old.knows (HasSubmittedAs V.manner pass.old.knows body seq) pass.new.knows) }
     ensures refused { IfErr result (λ why.
-        MadeInTime pass.old.knows (SubmitRefused pass.old.knows body why) pass.new.knows) }
+        MadeInTimeAs V.manner pass.old.knows (V.manner.refuses pass.old.knows body why) pass.new.knows) }
 {
-    let mut lane = turn.take(rt, pass);
-    tells_its_own(&lane);
-    let submitted = submit_on(&mut lane, client, body, reply_words);
-    let stopped = has_stopped(&lane);
-    turn.give(pass, lane);
+    let mut value = turn.take(rt, pass);
+    let submitted = submit_on(&mut value, client, body, reply_words);
+    let stopped = has_stopped(&value);
+    turn.give(pass, value);
     bell.ring_if(stopped);
     submitted
+}
+
+/// Begins another greeting where one is due. It waits for the value, and for the answer to the greeting. Whether one
+/// began.
+pub(crate) fn begin<V: AtHub + Send, R: Wait>(
+    rt: &R,
+    turn: &Turn<Boxed<V>>,
+    bell: &Bell,
+    pass: &mut Pass,
+    client: u32,
+) -> bool
+    requires turn { pass.old.turn ≡ turn.now }
+    requires idle { (pass.old.holds ≡ false) × (pass.old.knows.number ≡ client) }
+    requires client { 1 ≤ client }
+    ensures same { pass.new ≡ record pass.old { knows = pass.new.knows } }
+    ensures number { pass.new.knows.number ≡ client }
+    ensures begun { BegunAs V.manner pass.old.knows pass.new.knows }
+{
+    let mut value = turn.take(rt, pass);
+    let begun = begin_on(rt, &mut value, bell, client);
+    turn.give(pass, value);
+    bell.ring_if(begun);
+    begun
 }

@@ -1,16 +1,16 @@
-//! The hub: a turn for each board's lane.
+//! The hub: a turn for each board's lane, or for what serves the board as a lane does.
 
 ghost use Rattle.std.specs.Prelude.{◌≡◌, ◌<◌, ◌+◌, length, map, IfOk, IfErr, OnErr};
 ghost use Rattle.transaction_codec.specs.Answer.{reply_room};
 ghost use Rattle.turn_pass.specs.Pass.{first_knowledge};
-ghost use Rattle.hub_multiplexer.specs.Calls.{AskMeans, AskTried, HasSubmitted, IsNone, Made, MadeInTime, PerformMeans};
-ghost use Rattle.hub_multiplexer.specs.Calls.{StepTried, SubmitRefused};
+ghost use Rattle.hub_multiplexer.specs.AnyCalls.{AskMeansAs, AskTriedAs, BegunAs, HasSubmittedAs, IsNone, MadeAs};
+ghost use Rattle.hub_multiplexer.specs.AnyCalls.{MadeInTimeAs, PerformMeansAs, StepTriedAs};
 ghost use Rattle.hub_multiplexer.specs.OwnItems.{HasAskedAll};
 ghost use Rattle.hub_multiplexer.specs.Ends.{AreEnded, HasTakenIn};
-ghost use Rattle.hub_multiplexer.specs.Lanes.{shown_record};
 ghost use Rattle.hub_multiplexer.specs.Seats.{ChangesAt, IsMasterOf, IsSeatOf};
 
 use crate::answers::{AskTry, Performed, StepTry};
+use crate::at_hub::AtHub;
 use crate::bell::{Bell, bells_of};
 use crate::boxed::Boxed;
 use crate::master::Master;
@@ -18,22 +18,22 @@ use crate::room::{Room, room_for};
 use crate::seat::Seat;
 use crate::turns::{close_all, open_all};
 use crate::{calls, waiting};
-use hub_lane::{Asked, Lane, Link, NoMemory, PlanRefusal, Words};
+use hub_lane::{Asked, Lane, NoMemory, Words};
 use std::alloc::Global;
 use std::marker::Model;
 use std::sync::Wait;
 use turn_pass::Turn;
 
-/// A turn for each board's lane, and one for the room in which the lanes are handed back. Threads share it by `&`, each
-/// with a seat of its own.
+/// A turn for each board's lane, or for what serves the board as a lane does, and one for the room in which these are
+/// handed back. Threads share it by `&`, each with a seat of its own. The calls below say "lane" for either.
 #[derive(Drop)]
-pub struct Hub<L: Link> {
-    pub(crate) turns: Vec<Turn<Boxed<Lane<L>>>>,
-    pub(crate) room: Turn<Room<Lane<L>>>,
+pub struct BoardHub<V: AtHub> {
+    pub(crate) turns: Vec<Turn<Boxed<V>>>,
+    pub(crate) room: Turn<Room<V>>,
     bells: Vec<Bell>,
 }
 
-impl<L: Link> Model for Hub<L> {
+impl<V: AtHub> Model for BoardHub<V> {
     ghost use Rattle.std.specs.Prelude.{◌≡◌, length};
     ghost use Rattle.hub_multiplexer.specs.Seats.{HubState};
 
@@ -44,45 +44,51 @@ impl<L: Link> Model for Hub<L> {
     ghost invariant = { λ hub. length hub.bells.items ≡ length hub.turns.items };
 }
 
-/// There was no memory for a hub. The lanes come back, in order.
+/// There was no memory for a hub. What was to stand in its turns comes back, in order.
 #[derive(Drop)]
-pub struct Returned<L: Link> {
-    pub lanes: Vec<Lane<L>>,
+pub struct BoardsReturned<V> {
+    pub lanes: Vec<V>,
 }
 
-impl<L: Link + Send + Drop> Hub<L> {
+/// A hub of lanes.
+pub type Hub<L> = BoardHub<Lane<L>>;
+
+/// The lanes of a hub for which there was no memory.
+pub type Returned<L> = BoardsReturned<Lane<L>>;
+
+impl<V: AtHub + Send + Drop> BoardHub<V> {
     /// A hub of these lanes, and its master, who has seen their records. Where memory runs out there are as many lanes
     /// as before, with the same records in the same order.
-    pub fn new(alloc: Global, mut lanes: Vec<Lane<L>>) -> Result<(Hub<L>, Master), Returned<L>>
+    pub fn new(alloc: Global, mut lanes: Vec<V>) -> Result<(BoardHub<V>, Master), BoardsReturned<V>>
         ensures hub { IfOk result (λ made. IsMasterOf made.0 made.1) }
         ensures boards { IfOk result (λ made. length made.0.turns ≡ length lanes.items) }
         ensures no_seats { IfOk result (λ made. (made.1.seats ≡ 0) × HasTakenIn 1 made.1) }
-        ensures master { IfOk result (λ made. made.1.knows ≡ map first_knowledge (map (shown_record L.telling) lanes.items)) }
+        ensures master { IfOk result (λ made. made.1.knows ≡ map first_knowledge (map V.entries lanes.items)) }
         ensures returned { IfErr result (λ returned.
-            map (shown_record L.telling) returned.lanes.items ≡ map (shown_record L.telling) lanes.items) }
+            map V.entries returned.lanes.items ≡ map V.entries lanes.items) }
     {
         let Ok((room, room_pass)) = room_for(alloc, lanes.len()) else {
-            return Err(Returned { lanes });
+            return Err(BoardsReturned { lanes });
         };
         let Ok(bells) = bells_of(alloc, &mut lanes) else {
-            return Err(Returned { lanes });
+            return Err(BoardsReturned { lanes });
         };
         let Ok((turns, passes)) = open_all(alloc, &mut lanes) else {
-            return Err(Returned { lanes });
+            return Err(BoardsReturned { lanes });
         };
-        let hub = Hub { turns, room, bells };
+        let hub = BoardHub { turns, room, bells };
         Ok((hub, Master::of(passes, room_pass)))
     }
 
     /// Takes the lanes for good, in order, once every seat was joined. It waits for those who hold one. The record of
     /// each lane begins with that at `new` and with all that the joined seats had seen, and past that at `new` it has
     /// only entries of joined seats.
-    pub fn finish<R: Wait>(self, rt: &R, master: Master) -> Vec<Lane<L>>
+    pub fn finish<R: Wait>(self, rt: &R, master: Master) -> Vec<V>
         requires hub { IsMasterOf self master }
         requires joined { HasTakenIn (master.seats + 1) master }
-        ensures { AreEnded master.knows (map (shown_record L.telling) result.items) }
+        ensures { AreEnded master.knows (map V.entries result.items) }
     {
-        let Hub {
+        let BoardHub {
             turns,
             room,
             bells: _bells,
@@ -98,7 +104,7 @@ impl<L: Link + Send + Drop> Hub<L> {
     }
 }
 
-impl<L: Link + Send> Hub<L> {
+impl<V: AtHub + Send> BoardHub<V> {
     /// How many boards there are.
     pub fn boards(&self) -> usize
         ensures { result ≡ length self.now.turns }
@@ -111,7 +117,7 @@ impl<L: Link + Send> Hub<L> {
     pub fn has_waiter(&self, board: usize) -> bool
         requires { board < length self.now.turns }
     {
-        self.bells[board].waiter().is_some()
+        self.bells[board].has_waiter()
     }
 
     /// Asks the seat's next planned body on a board, by one exchange. It never waits. `Busy` where another held the
@@ -120,8 +126,8 @@ impl<L: Link + Send> Hub<L> {
     pub fn try_ask(&self, seat: &mut Seat, board: usize) -> Result<AskTry, NoMemory>
         requires board { board < length self.now.turns }
         requires seat { IsSeatOf self.now seat.old }
-        ensures tried { IfOk result (λ tried. ChangesAt board seat.old seat.new (λ k. AskTried k tried)) }
-        ensures looked { OnErr result (ChangesAt board seat.old seat.new (λ k. Made k IsNone)) }
+        ensures tried { IfOk result (λ tried. ChangesAt board seat.old seat.new (λ k. AskTriedAs V.manner k tried)) }
+        ensures looked { OnErr result (ChangesAt board seat.old seat.new (λ k. MadeAs V.manner k IsNone)) }
     {
         let client = seat.client;
         calls::try_ask(
@@ -139,8 +145,8 @@ impl<L: Link + Send> Hub<L> {
     pub fn try_step(&self, seat: &mut Seat, board: usize) -> Result<StepTry, NoMemory>
         requires board { board < length self.now.turns }
         requires seat { IsSeatOf self.now seat.old }
-        ensures tried { IfOk result (λ tried. ChangesAt board seat.old seat.new (λ k. StepTried k tried)) }
-        ensures looked { OnErr result (ChangesAt board seat.old seat.new (λ k. Made k IsNone)) }
+        ensures tried { IfOk result (λ tried. ChangesAt board seat.old seat.new (λ k. StepTriedAs V.manner k tried)) }
+        ensures looked { OnErr result (ChangesAt board seat.old seat.new (λ k. MadeAs V.manner k IsNone)) }
     {
         let client = seat.client;
         calls::try_step(
@@ -157,8 +163,8 @@ impl<L: Link + Send> Hub<L> {
         requires board { board < length self.now.turns }
         requires seat { IsSeatOf self.now seat.old }
         ensures asked { IfOk result (λ asked.
-            ChangesAt board seat.old seat.new (λ k. MadeInTime k (AskMeans k asked))) }
-        ensures looked { OnErr result (ChangesAt board seat.old seat.new (λ k. MadeInTime k IsNone)) }
+            ChangesAt board seat.old seat.new (λ k. MadeInTimeAs V.manner k (AskMeansAs V.manner k asked))) }
+        ensures looked { OnErr result (ChangesAt board seat.old seat.new (λ k. MadeInTimeAs V.manner k IsNone)) }
     {
         let client = seat.client;
         calls::ask(
@@ -184,8 +190,8 @@ impl<L: Link + Send> Hub<L> {
         requires board { board < length self.now.turns }
         requires seat { IsSeatOf self.now seat.old }
         ensures performed { IfOk result (λ performed.
-            ChangesAt board seat.old seat.new (λ k. MadeInTime k (PerformMeans k performed))) }
-        ensures looked { OnErr result (ChangesAt board seat.old seat.new (λ k. MadeInTime k IsNone)) }
+            ChangesAt board seat.old seat.new (λ k. MadeInTimeAs V.manner k (PerformMeansAs V.manner k performed))) }
+        ensures looked { OnErr result (ChangesAt board seat.old seat.new (λ k. MadeInTimeAs V.manner k IsNone)) }
     {
         let client = seat.client;
         waiting::perform(
@@ -209,15 +215,15 @@ impl<L: Link + Send> Hub<L> {
         board: usize,
         body: Words,
         reply_words: u32,
-    ) -> Result<u64, PlanRefusal>
+    ) -> Result<u64, V::Refusal>
         requires board { board < length self.now.turns }
         requires seat { IsSeatOf self.now seat.old }
         requires reply { reply_words ≡ reply_room body }
         requires all_asked { HasAskedAll seat.old board }
         ensures submitted { IfOk result (λ seq.
-            ChangesAt board seat.old seat.new (λ k. MadeInTime k (HasSubmitted k body seq))) }
+            ChangesAt board seat.old seat.new (λ k. MadeInTimeAs V.manner k (HasSubmittedAs V.manner k body seq))) }
         ensures refused { IfErr result (λ why.
-            ChangesAt board seat.old seat.new (λ k. MadeInTime k (SubmitRefused k body why))) }
+            ChangesAt board seat.old seat.new (λ k. MadeInTimeAs V.manner k (V.manner.refuses k body why))) }
     {
         let client = seat.client;
         calls::submit(
@@ -228,6 +234,25 @@ impl<L: Link + Send> Hub<L> {
             client,
             body,
             reply_words,
+        )
+    }
+
+    /// Begins another greeting of a board where one is due, by an entry of the seat's client that is of no body, and
+    /// exchanges what waits beside the board. Whether one began. It waits for the lane, and for the answer to the
+    /// greeting. A board whose lane stands in its turn itself was greeted before, and none is due.
+    #[tactic(auto, using(crate::proofs::Boards::idle_at))]
+    pub fn begin<R: Wait>(&self, rt: &R, seat: &mut Seat, board: usize) -> bool
+        requires board { board < length self.now.turns }
+        requires seat { IsSeatOf self.now seat.old }
+        ensures { ChangesAt board seat.old seat.new (BegunAs V.manner) }
+    {
+        let client = seat.client;
+        calls::begin(
+            rt,
+            &self.turns[board],
+            &self.bells[board],
+            &mut seat.passes[board],
+            client,
         )
     }
 }

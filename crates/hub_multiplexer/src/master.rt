@@ -5,10 +5,11 @@ ghost use Rattle.turn_pass.specs.Pass.{newcomer, one_more_made};
 ghost use Rattle.hub_multiplexer.specs.Ends.{HasTakenIn, HasTakenInEach, IsMaster};
 ghost use Rattle.hub_multiplexer.specs.Seats.{IsMasterOf, IsSeatOf, knows_after_join, knows_of, turns_of};
 
-use crate::hub::Hub;
+use crate::at_hub::AtHub;
+use crate::hub::BoardHub;
 use crate::passes::{join_all, split_all};
 use crate::seat::Seat;
-use hub_lane::{Link, NoMemory};
+use hub_lane::NoMemory;
 use std::alloc::Global;
 use std::marker::Model;
 use turn_pass::Pass;
@@ -67,7 +68,11 @@ impl Master {
     /// One seat more. Its client is its number among the seats, from 1, and the number of its pass on each board. It
     /// has seen what the master has. Want of memory changes nothing.
     #[tactic(auto, using(crate::proofs::Seats::idle_split, crate::proofs::Seats::master_split, crate::proofs::Seats::turns_split_off, crate::proofs::Seats::turns_after_split, crate::proofs::Seats::knows_split_off, crate::proofs::Seats::knows_after_split))]
-    pub fn seat<L: Link + Send>(&mut self, alloc: Global, hub: &Hub<L>) -> Result<Seat, NoMemory>
+    pub fn seat<V: AtHub + Send>(
+        &mut self,
+        alloc: Global,
+        hub: &BoardHub<V>,
+    ) -> Result<Seat, NoMemory>
         requires hub { IsMasterOf hub.now self.old }
         requires few { self.old.seats < 2 ^ 32 - 1 }
         ensures seat { IfOk result (λ seat. seat ≡ record {
@@ -92,7 +97,7 @@ impl Master {
 
     /// Takes a seat in, with all that it had seen and the entries that it made. Seats may be joined in any order.
     #[tactic(auto, using(crate::proofs::Seats::master_joined, crate::proofs::Seats::turns_after_join, crate::proofs::Seats::knows_joined))]
-    pub fn join<L: Link + Send>(&mut self, hub: &Hub<L>, seat: Seat)
+    pub fn join<V: AtHub + Send>(&mut self, hub: &BoardHub<V>, seat: Seat)
         requires hub { IsMasterOf hub.now self.old }
         requires seat { IsSeatOf hub.now seat }
         ensures joined { self.new ≡ record self.old { knows = knows_after_join self.old.knows seat.knows } }

@@ -1,11 +1,13 @@
 //! What a call on a lane means to a pass of the client.
 
-ghost use Rattle.std.specs.Prelude.{◌≡◌, ◌≤◌, ◌<◌, IfOk, IfErr, OnErr, Some, None};
+ghost use Rattle.std.specs.Prelude.{◌≡◌, ◌≤◌, ◌<◌, IfOk, IfErr, OnErr, Some, None, ℕ};
 ghost use Rattle.transaction_codec.specs.Answer.{reply_room};
 ghost use Rattle.lane_record.specs.Items.{asked_count, planned_count};
 ghost use Rattle.turn_pass.specs.Pass.{Knowledge, Told};
 ghost use Rattle.lane_record.specs.Legal.{IsLegal};
-ghost use Rattle.hub_multiplexer.specs.Calls.{AskMeans, FoundLane, HasSubmitted, IsNone, StepMeans, SubmitRefused};
+ghost use Rattle.hub_multiplexer.specs.Calls.{AskMeans, HasSubmitted, IsNone, StepMeans, SubmitRefused};
+ghost use Rattle.hub_multiplexer.specs.AnyCalls.{BeginsAs};
+ghost use Rattle.hub_multiplexer.specs.Calls.{lane_manner};
 ghost use Rattle.hub_multiplexer.specs.Lanes.{IsAskedNext, Means, shown_record};
 ghost use Rattle.hub_lane.specs.Lanes.{opening_of};
 ghost use Rattle.hub_lane.specs.declared.answers.PlanRefusal.TheVariants as refusals;
@@ -13,7 +15,7 @@ ghost use Rattle.hub_multiplexer.specs.OwnItems.{of_client, own_items};
 ghost use Rattle.hub_multiplexer.specs.Waiting.{FindMeans};
 
 use crate::answers::Performed;
-use hub_lane::{Asked, Lane, Link, Looked, NoMemory, PlanRefusal, Stepped, Words};
+use hub_lane::{Asked, Lane, Link, Looked, NoMemory, PlanRefusal, Stepped, Waiter, Words};
 use lane_record::laws::coding::an_entry_is_spelled_by_numbers;
 use lane_record::laws::entries::an_ask_is_of_its_plan;
 
@@ -98,28 +100,13 @@ fn found_on<L: Link>(lane: &mut Lane<L>, client: u32) -> Result<Option<Performed
 }
 
 /// Pumps once at most, and takes what became of the body.
-pub(crate) fn step_found<L: Link>(
-    lane: &mut Lane<L>,
-    client: u32,
-) -> Result<Option<Performed>, NoMemory>
+fn step_found<L: Link>(lane: &mut Lane<L>, client: u32) -> Result<Option<Performed>, NoMemory>
     requires client { 1 ≤ client }
     ensures found { IfOk result (λ found.
         Means client (shown_record L.telling lane.old) (λ k. FindMeans k found) (shown_record L.telling lane.new)) }
     ensures looked { OnErr result (Means client (shown_record L.telling lane.old) (λ _. IsNone) (shown_record L.telling lane.new)) }
 {
-    Ok(found_by(step_on(lane, client)?))
-}
-
-/// What a step found.
-fn found_by(stepped: Stepped) -> Option<Performed>
-    ensures { (k : Knowledge) (lane : FoundLane) (added : _) → StepMeans k stepped lane added
-        → FindMeans k result lane added }
-{
-    match stepped {
-        Stepped::Ready(outcome) => Some(Performed::Ready(outcome)),
-        Stepped::NotYet(_turned) => None,
-        Stepped::Nothing => Some(Performed::Nothing),
-    }
+    Ok(Performed::found_by(step_on(lane, client)?))
 }
 
 /// Plans a body of the client, and asks it. The client has asked all bodies that it planned before.
@@ -164,4 +151,19 @@ fn ask_planned<L: Link>(lane: &mut Lane<L>, client: u32, seq: u64) -> Result<u64
         Ok(Asked::Nothing) => unreachable!(),
         Err(NoMemory) => Err(PlanRefusal::NoMemory),
     }
+}
+
+/// What waits beside the lane, where its link has such. What the lane shows stays.
+pub(crate) fn waiter_of<L: Link>(lane: &mut Lane<L>) -> Option<Waiter>
+    ensures { shown_record L.telling lane.new ≡ shown_record L.telling lane.old }
+{
+    lane.waiter()
+}
+
+/// A lane is greeted once, so what it shows is as if no greeting was due. It does nothing when it runs.
+pub(crate) fn is_greeted_once<L: Link>(lane: &Lane<L>)
+    ensures { (client : ℕ)
+        → BeginsAs lane_manner client (shown_record L.telling lane.now) (shown_record L.telling lane.now) }
+{
+    tells_its_own(lane);
 }

@@ -1,45 +1,55 @@
-//! What a thread that waits does to a lane that it took.
+//! What a thread that waits does to the value of a turn that it took.
 
 ghost use Rattle.std.specs.Prelude.{◌≤◌, IfOk, OnErr};
-ghost use Rattle.hub_multiplexer.specs.Calls.{IsNone};
-ghost use Rattle.hub_multiplexer.specs.Lanes.{Means, shown_record};
-ghost use Rattle.hub_multiplexer.specs.Waiting.{FindMeans};
+ghost use Rattle.hub_multiplexer.specs.AnyCalls.{FindMeansAs, IsNone, MeansAs};
 
 use crate::answers::Performed;
-use crate::own::{look_on, step_found};
-use hub_lane::{Lane, Link, NoMemory, Waiter};
+use crate::at_hub::AtHub;
+use crate::bell::Bell;
+use hub_lane::NoMemory;
 
-/// How a lane is visited. Each visit takes what became of the client's oldest asked and untaken body, if anything did.
+/// How a board's turn is visited. Each visit takes what became of the client's oldest asked and untaken body, if
+/// anything did.
 pub(crate) enum Visit<'a> {
-    /// It sends what waits to be sent, so that nothing does while the thread waits beside the lane.
+    /// It sends what waits to be sent, so that nothing does while the thread waits beside the turn.
     Look,
     /// It pumps once at most.
     Step,
     /// It pumps once at most where the link can tell something at once. Else it only looks, since a receive would wait
-    /// while the thread holds the lane.
-    StepIfReady(&'a Waiter),
+    /// while the thread holds the value.
+    StepIfReady(&'a Bell),
 }
 
-/// Takes a lane from its turn, does one thing to it, and gives it back.
-pub(crate) fn visit_lane<L: Link>(
-    lane: &mut Lane<L>,
+/// Does one thing to the value of a turn for a client.
+pub(crate) fn visit_for<V: AtHub>(
+    value: &mut V,
     client: u32,
     how: Visit<'_>,
 ) -> Result<Option<Performed>, NoMemory>
     requires client { 1 ≤ client }
     ensures found { IfOk result (λ found.
-        Means client (shown_record L.telling lane.old) (λ k. FindMeans k found) (shown_record L.telling lane.new)) }
-    ensures looked { OnErr result (Means client (shown_record L.telling lane.old) (λ _. IsNone) (shown_record L.telling lane.new)) }
+        MeansAs V.manner client (V.entries value.old) (λ k. FindMeansAs V.manner k found) (V.entries value.new)) }
+    ensures looked { OnErr result (MeansAs V.manner client (V.entries value.old) (λ _. IsNone) (V.entries value.new)) }
 {
     match how {
-        Visit::Look => look_on(lane, client),
-        Visit::Step => step_found(lane, client),
-        Visit::StepIfReady(waiter) => {
-            if waiter.is_ready() {
-                step_found(lane, client)
+        Visit::Look => value.look_for(client),
+        Visit::Step => step_found(value, client),
+        Visit::StepIfReady(bell) => {
+            if bell.link_is_ready() {
+                step_found(value, client)
             } else {
-                look_on(lane, client)
+                value.look_for(client)
             }
         }
     }
+}
+
+/// Pumps once at most, and takes what became of the body.
+fn step_found<V: AtHub>(value: &mut V, client: u32) -> Result<Option<Performed>, NoMemory>
+    requires client { 1 ≤ client }
+    ensures found { IfOk result (λ found.
+        MeansAs V.manner client (V.entries value.old) (λ k. FindMeansAs V.manner k found) (V.entries value.new)) }
+    ensures looked { OnErr result (MeansAs V.manner client (V.entries value.old) (λ _. IsNone) (V.entries value.new)) }
+{
+    Ok(Performed::found_by(value.step_for(client)?))
 }

@@ -9,7 +9,7 @@ mod turns;
 
 use ipbus_program::{NO_MEMORY, control};
 use net_edges::{
-    Console, KeptSink, KeptSource, Progress, RealRack, StdinSource, StdoutSink, TcpDoor,
+    Console, KeptSink, KeptSource, NotedSink, Progress, RealRack, StdinSource, StdoutSink, TcpDoor,
 };
 use operator_notes::{
     Command, Ending, MEMORY_NOTE, Provenance, asks_version, closing_notes, command_of, most_given,
@@ -104,8 +104,9 @@ fn main(rt: HostRuntime) -> ExitCode {
     };
     let command = command_of(alloc, &words).unwrap_or(None);
     let mut input = KeptSource::new(alloc, StdinSource::new(&rt), most_given(command.as_ref()));
-    let mut out = KeptSink::new(alloc, StdoutSink::new(&rt), most_written(command.as_ref()));
     let console = Console::new(rt, matches!(command, Some(Command::Run)));
+    let noted = NotedSink::new(StdoutSink::new(&rt), console.again());
+    let mut out = KeptSink::new(alloc, noted, most_written(command.as_ref()));
     let progress = progress_of(alloc, command.as_ref(), console.again());
     let mut rack = RealRack::with_notes(&rt, console.again());
     let mut door = match connections_of(command.as_ref()) {

@@ -32,8 +32,5 @@ fn listing(alloc: Global, index: &Index) -> Result<Answer, NoMemory>
     ensures status { IfOk result (λ answer. answer.status ≡ spec.listing_status index.now) }
 {
     let Listing { text, overlaps } = Listing::of(alloc, index)?;
-    Ok(Answer {
-        status: done_status(overlaps == 0),
-        text,
-    })
+    Ok(Answer::new(alloc, done_status(overlaps == 0), text))
 }

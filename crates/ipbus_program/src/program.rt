@@ -32,6 +32,7 @@ use command_words::{Command, USAGE_LINE, command_of};
 use ipb_base::NoMemory;
 use ipb_outside::{Door, ReadEnd, Sink, Source, read_all, write_whole};
 use links::Rack;
+use note_lines::Notes;
 use std::alloc::Global;
 use std::marker::Sync;
 use std::sync::Wait;
@@ -100,8 +101,19 @@ fn answer_command<S: Source, R: Rack, D: Door, T: Threads + Wait + Sync, G: Gate
     }
 }
 
+/// Says lines beside what is written, one behind another.
+fn say_all<O: Sink>(out: &mut O, lines: &[String])
+    ensures written_kept { O.written out.new ≡ O.written out.old }
+    ensures faults_kept { O.faults out.new ≡ O.faults out.old }
+    ensures ended_kept { O.ended out.new ≡ O.ended out.old }
+{
+    for line in lines {
+        out.note(line.as_str());
+    }
+}
+
 /// Writes a text whole, and answers its status where that succeeds.
-fn deliver<O: Sink>(out: &mut O, text: &[u8], status: u8) -> u8
+fn write_text<O: Sink>(out: &mut O, text: &[u8], status: u8) -> u8
     ensures delivers { Delivers status text.now (O.written out.old) (O.written out.new)
         (O.faults out.old) (O.faults out.new) result }
     ensures later { O.faults out.old ≤ O.faults out.new }
@@ -112,6 +124,24 @@ fn deliver<O: Sink>(out: &mut O, text: &[u8], status: u8) -> u8
         Ok(()) => status,
         Err(_) => WRITE_FAULT,
     }
+}
+
+/// Writes a text whole, and answers its status where that succeeds. Behind the text its notes are said; where it could not
+/// be written, those on what was done.
+fn deliver<O: Sink>(out: &mut O, text: &[u8], status: u8, notes: &Notes) -> u8
+    ensures delivers { Delivers status text.now (O.written out.old) (O.written out.new)
+        (O.faults out.old) (O.faults out.new) result }
+    ensures later { O.faults out.old ≤ O.faults out.new }
+    ensures unfaulted { result ≢ write_fault_status → O.faults out.new ≡ O.faults out.old }
+    ensures ended_kept { O.ended out.new ≡ O.ended out.old }
+{
+    let ended = write_text(out, text, status);
+    let lines = match ended {
+        WRITE_FAULT => notes.lines_of_deeds(),
+        _ => notes.lines(),
+    };
+    say_all(out, lines);
+    ended
 }
 
 /// Does what the words ask. `run` reads a session document to its end, makes a link for each of its boards by the rack,
@@ -220,11 +250,11 @@ pub fn control<S: Source, O: Sink, R: Rack, D: Door, T: Threads + Wait + Sync, G
     a_load_has_a_bound();
     let command = match command_of(alloc, words) {
         Ok(Some(command)) => command,
-        Ok(None) => return deliver(out, USAGE_LINE.as_bytes(), USAGE),
+        Ok(None) => return deliver(out, USAGE_LINE.as_bytes(), USAGE, &Notes::new(alloc)),
         Err(NoMemory) => return NO_MEMORY,
     };
     match answer_command(rt, alloc, &command, input, rack, door, gate) {
-        Ok(answer) => deliver(out, answer.text.as_slice(), answer.status),
+        Ok(answer) => deliver(out, answer.text.as_slice(), answer.status, &answer.notes),
         Err(why) => why.status(),
     }
 }

@@ -5,4 +5,5 @@ pub mod AskedRows
 mod Books
 pub mod TakenRows
 mod Put
+pub mod Done
 pub mod Results

@@ -33,3 +33,8 @@ planned_words (x ∷ xs) = words_with (plan_in x.what) (planned_words xs)
 abbrev pub IsFull : List Item → ℕ → ℕ → Type 0
 IsFull items body reply =
     (most_bodies ≤ planned_bodies items) ⊎ (most_words < planned_words items + body + reply)
+
+-- so many bodies more, and so many words more of bodies and of their longest replies, are not too much
+pub record LeavesRoom (items : List Item) (bodies words : ℕ) : Type 0 where
+  pub bodies_fit : planned_bodies items + bodies ≤ most_bodies
+  pub words_fit : planned_words items + words ≤ most_words

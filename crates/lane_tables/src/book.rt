@@ -7,7 +7,7 @@ ghost use Rattle.transaction_codec.specs.Answer.{reply_room};
 ghost use Rattle.lane_record.specs.Items.{asked_count, told_by_first, is_sealed, plan_in, planned_count, took_in};
 ghost use Rattle.lane_record.specs.NextEntry.{ask_of, plan_of, the_seal, took_of};
 ghost use Rattle.lane_record.specs.Coding.{entry_of};
-ghost use Rattle.lane_tables.specs.Planned.{IsFull};
+ghost use Rattle.lane_tables.specs.Planned.{IsFull, LeavesRoom};
 
 use crate::item_log::{ItemLog, Note};
 use crate::rows::{ClientRow, add_ask, add_plan, add_took, row_of};
@@ -48,7 +48,7 @@ impl Model for Book {
 
 impl Book {
     ghost use Rattle.lane_tables.specs.Books.{HasMorePlans};
-    ghost use Rattle.lane_tables.specs.Taken.{HasTakenAll, IsAskAt, IsOldest};
+    ghost use Rattle.lane_tables.specs.Taken.{HasDoneAll, HasTakenAll, IsAllTaken, IsAskAt, IsOldest};
 
     /// A record without entries, with room for the Seal.
     pub fn new(alloc: Global) -> Result<Book, NoMemory>
@@ -89,6 +89,13 @@ impl Book {
         self.bodies >= MAX_BODIES || self.words + body as u64 + u64::from(reply) > MAX_WORDS
     }
 
+    /// Whether so many bodies more may be planned, and so many words more of bodies and longest replies.
+    pub fn leaves_room(&self, bodies: u64, words: u64) -> bool
+        ensures { IsTrue result ↔ LeavesRoom self.now.items bodies words }
+    {
+        bodies <= MAX_BODIES - self.bodies && words <= MAX_WORDS - self.words
+    }
+
     /// How many bodies a client planned.
     pub fn planned(&self, client: u32) -> u64
         ensures { result ≡ planned_count client self.now.items }
@@ -124,6 +131,28 @@ impl Book {
         ensures none { IfNone result (HasTakenAll self.now.items client) }
     {
         row_of(&self.rows, client)?.oldest()
+    }
+
+    /// Whether each body that was planned was asked, and what became of it taken.
+    pub fn is_all_taken(&self) -> bool
+        ensures { IsTrue result ↔ IsAllTaken self.now.items }
+    {
+        for at in 0..self.rows.len() {
+            if !self.has_done_all(self.rows[at].client()) {
+                return false;
+            }
+        }
+        true
+    }
+
+    /// Whether each body that a client planned was asked, and what became of it taken.
+    fn has_done_all(&self, client: u32) -> bool
+        ensures { IsTrue result ↔ HasDoneAll self.now.items client }
+    {
+        match self.oldest(client) {
+            None => self.asked(client) == self.planned(client),
+            Some(_) => false,
+        }
     }
 
     /// The number of the Ask of a client's body, where it was asked.

@@ -1,6 +1,6 @@
 //! What a hub knows of a network: a link to one board.
 
-ghost use Rattle.std.specs.Prelude.{◌≡◌, ◌≢◌, ◌≤◌, ℕ, List, Option, length, OnOk, OnErr, Err, IfSome};
+ghost use Rattle.std.specs.Prelude.{◌≡◌, ◌≢◌, ◌≤◌, ℕ, List, [], Option, None, length, OnOk, OnErr, Err, IfSome};
 ghost use Rattle.ipb_base.specs.Faults.{Rose};
 ghost use Rattle.reliable_engine.specs.Traffic.{Passed};
 ghost use Rattle.links.specs.Telling.{gots_after, IfTelling, IsCarried, IsSent, quiets_after, Receives, Telling};
@@ -115,6 +115,25 @@ pub trait Link {
     /// What waits for the next datagram beside the link. `None` where there is nothing to wait for, or no room for it.
     /// Nothing that contracts see of the link changes.
     fn waiter(&mut self, _alloc: Global) -> Option<Waiter>
+        ensures telling { telling self.new ≡ telling self.old }
+        ensures faults { faults self.new ≡ faults self.old }
+        ensures quiets { quiets self.new ≡ quiets self.old }
+        ensures gots { gots self.new ≡ gots self.old }
+        ensures traffic { traffic self.new ≡ traffic self.old }
+        ensures number { number self.new ≡ number self.old }
+        ensures held { held self.new ≡ held self.old }
+    {
+        None
+    }
+
+    /// Another link to the same board, over which nothing passed yet: what was sent or received over this one is never
+    /// heard there. It has the number of this one, and does not tell. `None` where there is none, and where the network
+    /// failed or memory ran out for it. Nothing that contracts see of this link changes.
+    fn again(&mut self, _alloc: Global) -> Option<Self>
+        ensures untold { IfSome result (λ link. telling link ≡ None) }
+        ensures unused { IfSome result (λ link. (faults link ≡ 0) × (quiets link ≡ 0) × (gots link ≡ 0)
+            × (held link ≡ 0) × (traffic link ≡ [])) }
+        ensures same_number { IfSome result (λ link. number link ≡ number self.old) }
         ensures telling { telling self.new ≡ telling self.old }
         ensures faults { faults self.new ≡ faults self.old }
         ensures quiets { quiets self.new ≡ quiets self.old }

@@ -1,7 +1,8 @@
 -- What a load leaves and answers.
 use Rattle.std.proofs.Common.{◌≡◌, inl, inr, ℕ, List, Result}
 use Rattle.std.proofs.Common.{Ok, Err}
-use Rattle.std.proofs.Common.{sym, ap, ◌∙◌}
+use Rattle.std.proofs.Common.{sym, ap, subst, ◌∙◌}
+use Rattle.std.specs.Global.{Vec}
 use Rattle.std.specs.Result.{IsErr, IsErrAnd}
 use Rattle.board_specs.specs.declared.spec.LinkSpec.{LinkSpec}
 use Rattle.board_history.specs.Links.{LinkReport}
@@ -35,18 +36,21 @@ module _ (count : ℕ) (bytes : List ℕ) (made makes : List LinkSpec) (links : 
     untouched = λ rack. leaves.untouched (ap Err (sym is ∙ same_Err why Rack rack));
   }
 
-  pub load_done : (load : Load) (status : ℕ) → status ≡ told_status load.done
+  pub load_done : (load : Load) (answer : Answer) → answer.status ≡ told_status load.done → answer.text ≡ load.text
       → LoadLeaves IsLoadOf count made makes (Ok load) links
-      → Leaves NoneCame IsRunFailure Rack (load_terms count) bytes made makes
-      (Ok (record { status = status; text = load.text })) (no_pairs links)
-  load_done load status told leaves = record {
+      → Leaves NoneCame IsRunFailure Rack (load_terms count) bytes made makes (Ok answer) (no_pairs links)
+  load_done load answer told spelled leaves = record {
     specs = leaves.links_made.specs;
     grown = leaves.links_made.grown;
     counted = leaves.links_made.many;
     in_order = leaves.links_made.in_order;
     used = inr (record { first = leaves.links_made.first; left = leaves.left });
     back = none_came;
-    owed = inl (record { done = load.done; load = leaves.tells; told = told });
+    owed = inl (record {
+      done = load.done;
+      load = subst (λ (text : Vec ℕ). IsLoadOf count links load.done text.items) (sym spelled) leaves.tells;
+      told = told;
+    });
     behind = λ fault is failed. absurd cc;
     untouched = λ rack. absurd cc;
   }

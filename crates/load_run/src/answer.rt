@@ -38,8 +38,5 @@ pub fn answer_load<R: Rack, T: Threads + Wait + Sync, G: Gate>(
     ensures rack_faults { RisesExactlyIf (result ≡ Err RunFault.Rack) (R.faults rack.old) (R.faults rack.new) }
 {
     let load = run_load(rt, alloc, count, rack, gate)?;
-    Ok(Answer {
-        status: done_status(load.done),
-        text: load.text,
-    })
+    Ok(Answer::new(alloc, done_status(load.done), load.text))
 }

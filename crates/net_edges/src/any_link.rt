@@ -86,4 +86,12 @@ impl Link for AnyLink {
             AnyLink::Udp(link) => Link::waiter(link, alloc),
         }
     }
+
+    /// Another link over UDP, where it is one. There is no other one to a board of this process.
+    fn again(&mut self, alloc: Global) -> Option<AnyLink> {
+        match self {
+            AnyLink::Sim(_link) => None,
+            AnyLink::Udp(link) => Link::again(link, alloc).map(AnyLink::Udp),
+        }
+    }
 }

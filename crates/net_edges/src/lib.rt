@@ -12,6 +12,6 @@ pub use links::{Link, LinkFault, Rack, RackFault, Received};
 pub use lossy_network::SimLink;
 pub use real_rack::RealRack;
 pub use std_edges::{
-    Console, Door, Failed, KeptSink, KeptSource, Printed, Progress, Sink, Source, StdinSource,
-    StdoutSink, Taken, TcpDoor, TcpSink, TcpSource, UdpLink,
+    Console, Door, Failed, KeptSink, KeptSource, NotedSink, Printed, Progress, Sink, Source,
+    StdinSource, StdoutSink, Taken, TcpDoor, TcpSink, TcpSource, UdpLink,
 };

@@ -1,4 +1,5 @@
 pub mod NamedLemmas
+mod ClosedNames
 pub mod Visits
 pub mod Runs
 pub mod Faults

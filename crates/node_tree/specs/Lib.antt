@@ -1,4 +1,5 @@
 pub mod Named
+pub mod ClosedNames
 pub mod Limits
 pub mod Addresses
 pub mod Maps

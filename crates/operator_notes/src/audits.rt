@@ -1,11 +1,11 @@
 //! What to look for in an input that is not audited.
 
-use crate::notes::Notes;
 use crate::refusals::say_refusal;
 use crate::sentences::{LONG_AUDIT, NO_LENGTH, NOT_AUDITED};
 use crate::unread::Refused;
 use audit_command::{AuditRefusal, AuditUnread};
 use ipb_base::number_in_text;
+use note_lines::Notes;
 use session_input::Refusal;
 
 impl Refused for AuditUnread {
@@ -22,20 +22,14 @@ impl Refused for AuditUnread {
     }
 }
 
-/// The document of an input, behind the line that tells its length.
+/// The document of an input, behind the line that tells its length. It is empty where the input has none.
 fn document_in(bytes: &[u8]) -> &[u8] {
-    let (document, _transcript) = parts_in(bytes);
-    document
-}
-
-/// The document of an input, and the transcript behind it. Both are empty where the input has no such parts.
-pub(crate) fn parts_in(bytes: &[u8]) -> (&[u8], &[u8]) {
     let Some(end) = bytes.iter().position(|byte| *byte == b'\n') else {
-        return (&[], &[]);
+        return &[];
     };
     let Some(length) = number_in_text(&bytes[..end]) else {
-        return (&[], &[]);
+        return &[];
     };
     let rest = &bytes[end + 1..];
-    rest.split_at(rest.len().min(length as usize))
+    rest.get(..length as usize).unwrap_or(rest)
 }

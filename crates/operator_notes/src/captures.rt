@@ -1,11 +1,11 @@
 //! What to look for in the text of a capture, or in a description, that is refused.
 
-use crate::notes::Notes;
 use crate::sentences::{LONG_CAPTURE, LONG_DESCRIPTION, NO_DESCRIPTION, of_capture};
 use crate::unread::Refused;
 use capture_commands::{TextRefusal, Unread};
 use capture_reader::{Capture, Caught, Id, Items, UndescribeRefusal, proved, undescribe};
 use ipb_base::NoMemory;
+use note_lines::Notes;
 use std::alloc::Global;
 
 impl Refused for Unread {

@@ -1,15 +1,13 @@
 //! What is said at the end, by the status.
 
-use crate::asked_packets::say_asked;
-use crate::denials::say_denials;
+use crate::denials::{may_have, say_denials};
 use crate::given_values::Applied;
-use crate::notes::Notes;
 use crate::refusals::say_of_input;
 use crate::statuses::{DOOR_NOTE, RACK_NOTE, READ_NOTE, memory_note, write_note};
 use crate::summaries::say_summary;
 use crate::unmatched_rules::say_unmatched;
+use crate::unread::found;
 use crate::usage::{ask_version, say_usage};
-use crate::verdicts::say_verdict;
 use audit_command::MAX_AUDIT;
 use capture_commands::MAX_CAPTURE;
 use command_terms::{
@@ -17,7 +15,9 @@ use command_terms::{
 };
 use command_words::Command;
 use ipb_base::NoMemory;
-use session_input::MAX_DOCUMENT;
+use note_lines::Notes;
+use session_input::{MAX_DOCUMENT, read_for_run};
+use session_notes::say_asked;
 use std::alloc::Global;
 
 /// How the program ends: the status, the words and the command that they are, if they are one, and the input and the
@@ -46,15 +46,10 @@ pub fn most_given(command: Option<&Command>) -> usize {
     }
 }
 
-/// The most bytes of the answer of an audit.
-const MOST_ANSWERED: usize = 64;
-
-/// How many bytes of the output are kept: more than the text of a configuration can have, to say what was read of it;
-/// and the answer of an audit, to say what of a line is wrong without a second audit.
+/// How many bytes of the output are kept: more than the text of a configuration can have, to say what was read of it.
 pub fn most_written(command: Option<&Command>) -> usize {
     match command {
         Some(Command::Save | Command::Apply) => MAX_CAPTURE,
-        Some(Command::Audit) => MOST_ANSWERED,
         _ => 0,
     }
 }
@@ -89,18 +84,11 @@ fn say_what_is_done(notes: &mut Notes, ending: Ending<'_>) {
     say_configuration(notes, ending);
 }
 
-/// Says what a policy denied, what the scripts of a document that was checked ask of its boards, where a transcript does
-/// not fit, and what was not read or written of a configuration.
+/// Says what a policy denied, what the scripts of a document that was checked ask of its boards, and what was not read or
+/// written of a configuration.
 fn say_what_is_missing(notes: &mut Notes, ending: Ending<'_>) {
     say_policy(notes, ending);
     say_plans(notes, ending);
-    if let (Some(Command::Audit), Some(bytes), Some(answer)) = (
-        ending.command,
-        ending.given,
-        ending.written,
-    ) {
-        say_verdict(notes, bytes, answer);
-    }
     say_configuration(notes, ending);
 }
 
@@ -129,8 +117,11 @@ fn say_rules(notes: &mut Notes, ending: Ending<'_>) {
 
 /// Says what the scripts of a document that was checked ask of its boards.
 fn say_plans(notes: &mut Notes, ending: Ending<'_>) {
-    if let (Some(Command::Check { table: _ }), Some(bytes)) = (ending.command, ending.given) {
-        say_asked(notes, bytes);
+    if let (Some(Command::Check { table: _ }), Some(bytes)) = (ending.command, ending.given)
+        && may_have(bytes, "script")
+        && let Some(read) = found(read_for_run(notes.alloc, bytes), notes)
+    {
+        say_asked(notes, read.session.boards.as_slice(), read.steps.as_slice());
     }
 }
 

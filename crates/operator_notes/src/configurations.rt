@@ -1,6 +1,5 @@
 //! What to look for in a document of which the configuration is not saved or applied.
 
-use crate::notes::Notes;
 use crate::refusals::say_refusal;
 use crate::seams::say_seam;
 use crate::sentences::of_state;
@@ -9,6 +8,7 @@ use crate::state_overlaps::say_overlapped;
 use crate::unread::Refused;
 use config_input::{ConfigRefusal, ConfigUnread};
 use config_store::StoreWhy;
+use note_lines::Notes;
 
 impl Refused for ConfigUnread {
     fn say(&self, notes: &mut Notes, input: &[u8]) {

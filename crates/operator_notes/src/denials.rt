@@ -1,12 +1,12 @@
 //! Which rules of a document's policy denied something.
 
-use crate::escaping::OneLine;
 use crate::keys::value_of;
-use crate::notes::Notes;
+use crate::unread::found;
 use access_policy::{Rule, read_policy, rule_text};
 use command_words::Command;
 use config_input::{read_for_apply, read_for_save};
 use ipb_base::NoMemory;
+use note_lines::{Notes, OneLine};
 use script_steps::{Step, Steps};
 use session_input::{Runnable, read_for_record, read_for_run};
 use std::{fmt, str};
@@ -42,7 +42,7 @@ pub(crate) fn may_have(bytes: &[u8], key: &str) -> bool {
 
 /// Says what is denied by the policy that a value stands for, if it does.
 fn say_denied(notes: &mut Notes, value: &Value, command: &Command, bytes: &[u8]) {
-    if let Some(policy) = notes.made(read_policy(notes.alloc, value))
+    if let Some(policy) = found(read_policy(notes.alloc, value), notes)
         && let Some(read) = read_again(notes, command, bytes)
     {
         say_counts(notes, policy.as_slice(), read.steps.as_slice());
@@ -52,10 +52,10 @@ fn say_denied(notes: &mut Notes, value: &Value, command: &Command, bytes: &[u8])
 /// What a command runs of a document, if it does.
 fn read_again(notes: &mut Notes, command: &Command, bytes: &[u8]) -> Option<Runnable> {
     match command {
-        Command::Run => notes.made(read_for_run(notes.alloc, bytes)),
-        Command::Save => notes.made(read_for_save(notes.alloc, bytes)),
-        Command::Apply => notes.made(read_for_apply(notes.alloc, bytes)),
-        Command::Record => notes.made(read_for_record(notes.alloc, bytes)),
+        Command::Run => found(read_for_run(notes.alloc, bytes), notes),
+        Command::Save => found(read_for_save(notes.alloc, bytes), notes),
+        Command::Apply => found(read_for_apply(notes.alloc, bytes), notes),
+        Command::Record => found(read_for_record(notes.alloc, bytes), notes),
         _ => None,
     }
 }

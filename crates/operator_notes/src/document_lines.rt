@@ -4,8 +4,9 @@
 //! value ends with the statement that gives it.
 
 use crate::document_ways::{Way, value_at};
-use crate::notes::Notes;
+use crate::unread::found;
 use ipb_base::NoMemory;
+use note_lines::Notes;
 use script_lang::{SessionRefusal, parse_document};
 use std::alloc::Global;
 
@@ -17,7 +18,7 @@ pub(crate) fn say_lines(notes: &mut Notes, bytes: &[u8], way: &[Way<'_>]) {
     if bytes.len() > MOST_SEARCHED {
         return;
     }
-    if let Some(Some((from, to))) = notes.made(statement_with(notes.alloc, bytes, way)) {
+    if let Some(Some((from, to))) = found(statement_with(notes.alloc, bytes, way), notes) {
         let first = count_lines(&bytes[..from.min(bytes.len())]).saturating_add(1);
         let last = count_lines(&bytes[..to.min(bytes.len()).saturating_sub(1)]).saturating_add(1);
         if first == last {

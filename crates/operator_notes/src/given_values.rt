@@ -1,10 +1,10 @@
 //! Which registers do not show the values that `apply` was to write into them.
 
 use crate::config_text::{BoardText, board_named};
-use crate::escaping::OneLine;
 use crate::keys::value_of;
-use crate::notes::Notes;
+use crate::unread::found;
 use config_store::{State, StateEntry, read_state};
+use note_lines::{Notes, OneLine};
 use std::fmt;
 
 /// What was written to the configuration of boards: the document with the values, and whether all was done that it
@@ -47,7 +47,7 @@ pub(crate) fn say_given(
 /// The values under the key `state` of a document, or of the text of a configuration.
 fn state_in(notes: &mut Notes, bytes: &[u8]) -> Option<State> {
     let value = value_of(notes, bytes, "state")?;
-    notes.made(read_state(notes.alloc, &value))
+    found(read_state(notes.alloc, &value), notes)
 }
 
 /// Says of each board some of whose registers were given no value how many were given one.

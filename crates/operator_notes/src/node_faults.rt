@@ -2,11 +2,11 @@
 
 use crate::document_lines::say_lines;
 use crate::document_ways::{Way, value_at};
-use crate::escaping::OneLine;
-use crate::notes::Notes;
 use crate::shown_values::ShownValue;
+use crate::unread::found;
 use address_table::{TableWhy, number};
 use ipb_base::NoMemory;
+use note_lines::{Notes, OneLine};
 use script_lang::parse_document;
 use std::alloc::Global;
 use toml::{Table, Value};
@@ -43,7 +43,7 @@ pub(crate) fn say_node(
     why: TableWhy,
     bytes: &[u8],
 ) {
-    let Some(document) = notes.made(parse_document(notes.alloc, bytes)) else {
+    let Some(document) = found(parse_document(notes.alloc, bytes), notes) else {
         return;
     };
     let Some(way) = notes.made(way_to(notes.alloc, table, positions)) else {

@@ -1,7 +1,7 @@
 //! What the parser says of a document that is no TOML.
 
-use crate::notes::Notes;
 use crate::sentences::of_document;
+use note_lines::Notes;
 use script_lang::DocWhy;
 use std::str;
 

@@ -1,8 +1,7 @@
 //! Where the program comes from, as the file beside it says.
 
-use crate::escaping::OneLine;
-use crate::notes::Notes;
 use ipb_base::NoMemory;
+use note_lines::{Notes, OneLine};
 use std::alloc::Global;
 use std::str;
 

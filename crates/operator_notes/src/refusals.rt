@@ -1,8 +1,6 @@
 //! What to look for in an input that is refused.
 
-use crate::escaping::OneLine;
 use crate::node_faults::say_node;
-use crate::notes::Notes;
 use crate::parsing::say_no_toml;
 use crate::script_lines::quote_line;
 use crate::sentences::{
@@ -16,6 +14,7 @@ use capture_commands::{read_for_describe, read_for_undescribe};
 use command_words::Command;
 use config_input::{read_for_apply, read_for_save};
 use ipb_base::NoMemory;
+use note_lines::{Notes, OneLine};
 use script_lang::{DocWhy, ScriptWhy};
 use session_input::{
     Refusal, Unread, read_for_check, read_for_record, read_for_run, read_for_serve,

@@ -1,15 +1,15 @@
 //! The line of a script that breaks a rule.
 
-use crate::escaping::OneLine;
-use crate::notes::Notes;
 use crate::script_words::word_at_fault;
+use crate::unread::found;
 use ipb_base::Text;
+use note_lines::{Notes, OneLine};
 use script_lang::{ScriptWhy, Scripts, parse_document, read_session_table, take_key};
 use toml::Table;
 
 /// Says a line of a script, by the numbers from 1 of its client and of itself, and the word of it that is at fault.
 pub(crate) fn quote_line(notes: &mut Notes, client: u32, line: u32, why: ScriptWhy, bytes: &[u8]) {
-    if let Some(mut document) = notes.made(parse_document(notes.alloc, bytes)) {
+    if let Some(mut document) = found(parse_document(notes.alloc, bytes), notes) {
         take_key(&mut document, "policy");
         take_key(&mut document, "state");
         quote_line_of(notes, client, line, why, document);
@@ -18,7 +18,7 @@ pub(crate) fn quote_line(notes: &mut Notes, client: u32, line: u32, why: ScriptW
 
 /// Says a line of the scripts of a session.
 fn quote_line_of(notes: &mut Notes, client: u32, line: u32, why: ScriptWhy, session: Table) {
-    if let Some(session) = notes.made(read_session_table(notes.alloc, session))
+    if let Some(session) = found(read_session_table(notes.alloc, session), notes)
         && let Some(line) = line_in(&session.scripts, client, line)
     {
         quote(notes, line.as_str(), why);

@@ -1,6 +1,6 @@
 //! Where a text of values stands behind a document whose last line has no line feed.
 
-use crate::notes::Notes;
+use note_lines::Notes;
 
 /// Says the first line in which the heading of a board's values stands behind something else, as where `cat` put the
 /// values behind a document without a last line feed. The line behind it is that of a value.

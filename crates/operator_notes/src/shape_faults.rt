@@ -2,10 +2,10 @@
 
 use crate::document_lines::say_lines;
 use crate::document_ways::{Way, value_at};
-use crate::escaping::OneLine;
-use crate::notes::Notes;
 use crate::shown_values::ShownValue;
+use crate::unread::found;
 use ipb_base::{NoMemory, number_in_text};
+use note_lines::{Notes, OneLine};
 use script_lang::parse_document;
 use std::alloc::Global;
 use toml::{Table, Value};
@@ -64,7 +64,7 @@ const RULE: Keys = &[
 /// Says why the value at a path of a document is not what belongs there: what it is, that its key is missing, or that no
 /// such key belongs there. The path is that of the refusal.
 pub(crate) fn say_shape(notes: &mut Notes, path: &str, bytes: &[u8]) {
-    let Some(document) = notes.made(parse_document(notes.alloc, bytes)) else {
+    let Some(document) = found(parse_document(notes.alloc, bytes), notes) else {
         return;
     };
     let Some(way) = notes.made(way_of(notes.alloc, path)) else {

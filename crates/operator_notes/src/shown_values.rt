@@ -1,6 +1,6 @@
 //! Values of a document, as they are shown.
 
-use crate::escaping::OneLine;
+use note_lines::OneLine;
 use std::fmt;
 use toml::Value;
 

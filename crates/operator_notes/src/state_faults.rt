@@ -2,10 +2,11 @@
 
 use crate::document_lines::say_lines;
 use crate::document_ways::{Way, value_at};
-use crate::notes::Notes;
 use crate::shown_values::ShownValue;
+use crate::unread::found;
 use config_store::StoreWhy;
 use ipb_base::NoMemory;
+use note_lines::Notes;
 use script_lang::parse_document;
 use std::alloc::Global;
 use toml::Value;
@@ -13,7 +14,7 @@ use toml::Value;
 /// Says of a value of a state that breaks a rule what it is, where that is at fault, and in which lines it stands. There
 /// is no name where the table of a board is at fault, and no board where the state is.
 pub(crate) fn say_given(notes: &mut Notes, board: &str, name: &str, why: StoreWhy, bytes: &[u8]) {
-    let Some(document) = notes.made(parse_document(notes.alloc, bytes)) else {
+    let Some(document) = found(parse_document(notes.alloc, bytes), notes) else {
         return;
     };
     let Some(way) = notes.made(way_of(notes.alloc, board, name)) else {

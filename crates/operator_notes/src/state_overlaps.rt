@@ -1,17 +1,17 @@
 //! Which register a kept one overlaps.
 
-use crate::escaping::OneLine;
-use crate::notes::Notes;
+use crate::unread::found;
 use address_table::{Mode, Permission};
 use node_tree::{Index, Register, compile};
+use note_lines::{Notes, OneLine};
 use script_lang::{Session, parse_document, read_session_table, take_key};
 
 /// Says the first kept register that shares a bit with a later one of its board.
 pub(crate) fn say_overlapped(notes: &mut Notes, board: &str, name: &str, bytes: &[u8]) {
-    if let Some(mut document) = notes.made(parse_document(notes.alloc, bytes)) {
+    if let Some(mut document) = found(parse_document(notes.alloc, bytes), notes) {
         take_key(&mut document, "policy");
         take_key(&mut document, "state");
-        if let Some(session) = notes.made(read_session_table(notes.alloc, document)) {
+        if let Some(session) = found(read_session_table(notes.alloc, document), notes) {
             say_in_session(notes, board, name, &session);
         }
     }
@@ -21,7 +21,7 @@ fn say_in_session(notes: &mut Notes, board: &str, name: &str, session: &Session)
     for spec in session.boards.as_slice() {
         if spec.name.as_str() == board {
             let table = spec.table.as_str();
-            if let Some(index) = notes.made(compile(notes.alloc, &session.tables, table)) {
+            if let Some(index) = found(compile(notes.alloc, &session.tables, table), notes) {
                 say_in_index(notes, name, &index);
             }
             return;

@@ -1,9 +1,8 @@
 //! What was written of the configuration of boards.
 
 use crate::config_text::{BoardText, boards_in, unread_in};
-use crate::escaping::OneLine;
 use crate::given_values::{Applied, say_given};
-use crate::notes::Notes;
+use note_lines::{Notes, OneLine};
 use std::str;
 
 /// How many registers a text has, and how many of those that were not read are said one by one.

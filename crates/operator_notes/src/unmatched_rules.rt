@@ -1,12 +1,12 @@
 //! Which rules of a policy match no register.
 
 use crate::denials::may_have;
-use crate::escaping::OneLine;
-use crate::notes::Notes;
+use crate::unread::found;
 use access_policy::{Policy, decide, read_policy, rule_text};
 use address_table::Permission;
 use ipb_base::NoMemory;
 use node_tree::Index;
+use note_lines::{Notes, OneLine};
 use script_lang::{Session, parse_document, read_session_table, take_key};
 use script_steps::Decision;
 use session_input::indexes_of;
@@ -20,11 +20,11 @@ const MOST_COMPARED: u64 = 10_000_000;
 /// where the document has no policy, or is no session.
 pub(crate) fn say_unmatched(notes: &mut Notes, bytes: &[u8]) {
     if may_have(bytes, "policy")
-        && let Some(mut document) = notes.made(parse_document(notes.alloc, bytes))
+        && let Some(mut document) = found(parse_document(notes.alloc, bytes), notes)
         && let Some(Value::Array(rules)) = take_key(&mut document, "policy")
     {
         take_key(&mut document, "state");
-        if let Some(session) = notes.made(read_session_table(notes.alloc, document)) {
+        if let Some(session) = found(read_session_table(notes.alloc, document), notes) {
             say_in_session(notes, rules, &session);
         }
     }
@@ -32,7 +32,7 @@ pub(crate) fn say_unmatched(notes: &mut Notes, bytes: &[u8]) {
 
 fn say_in_session(notes: &mut Notes, rules: Vec<Value>, session: &Session) {
     let boards = session.boards.as_slice();
-    if let Some(indexes) = notes.made(indexes_of(notes.alloc, &session.tables, boards)) {
+    if let Some(indexes) = found(indexes_of(notes.alloc, &session.tables, boards), notes) {
         let mut left = MOST_COMPARED;
         for (i, rule) in rules.into_iter().enumerate() {
             say_rule(notes, i + 1, rule, session, indexes.as_slice(), &mut left);
@@ -53,7 +53,7 @@ fn say_rule(
     let Some(one) = notes.made(one_rule(notes.alloc, rule)) else {
         return;
     };
-    let Some(policy) = notes.made(read_policy(notes.alloc, &one)) else {
+    let Some(policy) = found(read_policy(notes.alloc, &one), notes) else {
         return;
     };
     if matches_none(&policy, session, indexes, left)

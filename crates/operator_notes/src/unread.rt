@@ -1,25 +1,35 @@
 //! Why something is not read.
 
-use crate::notes::Notes;
+ghost use Rattle.std.specs.Prelude.{◌≡◌};
+ghost use Rattle.std.specs.Result.{result_ok};
+
 use access_policy::PolicyRefusal;
-use audit_command::AuditUnread;
 use config_input::ConfigUnread;
 use config_store::StoreRefusal;
-use ipb_base::NoMemory;
 use node_tree::CompileRefusal;
+use note_lines::Notes;
 use script_lang::SessionRefusal;
 use session_input::Unread as SessionUnread;
+
+/// What was read, if it was. Where there was not enough memory for it, that is kept.
+pub(crate) fn found<T: Drop, E: Unread>(read: Result<T, E>, notes: &mut Notes) -> Option<T>
+    ensures { result ≡ result_ok read }
+{
+    match read {
+        Ok(value) => Some(value),
+        Err(unread) => {
+            if unread.lacks_memory() {
+                notes.lack_memory();
+            }
+            None
+        }
+    }
+}
 
 /// Why something is not read or made: a rule is broken, or there was not enough memory.
 pub(crate) trait Unread: Drop {
     /// Whether there was not enough memory.
     fn lacks_memory(&self) -> bool;
-}
-
-impl Unread for NoMemory {
-    fn lacks_memory(&self) -> bool {
-        true
-    }
 }
 
 impl Unread for SessionRefusal {
@@ -55,12 +65,6 @@ impl Unread for SessionUnread {
 impl Unread for ConfigUnread {
     fn lacks_memory(&self) -> bool {
         matches!(self, ConfigUnread::NoMemory)
-    }
-}
-
-impl Unread for AuditUnread {
-    fn lacks_memory(&self) -> bool {
-        matches!(self, AuditUnread::NoMemory)
     }
 }
 

@@ -1,10 +1,9 @@
 //! Which word is wrong where words are no command.
 
-use crate::escaping::OneLine;
 use crate::help::{HELP, VERSION};
-use crate::notes::Notes;
 use command_words::{MAX_CONNECTIONS, MAX_OPERATIONS, MAX_PORT};
 use ipb_base::number_in_text;
+use note_lines::{Notes, OneLine};
 
 /// How to go on where words are no command.
 const TRY: &str =

@@ -3,9 +3,10 @@
 use crate::fixtures::{
     DOCUMENT, FIRST, FIRST_TRANSCRIPT, LENGTH, NOT_KEPT, POLICY, VALUE, words_of,
 };
+use audit_command::{Answer, audit_answer};
 use ipb_base::NoMemory;
 use ipbus_program::{DONE, NO_MEMORY, NOT_ALL_DONE, READ_FAULT, REFUSED, USAGE, WRITE_FAULT};
-use operator_notes::{Ending, closing_notes, command_of};
+use operator_notes::{Command, Ending, closing_notes, command_of};
 use std::alloc::Global;
 
 /// Values for two registers.
@@ -32,11 +33,20 @@ fn bytes_of(text: Option<&str>) -> Option<&[u8]> {
     }
 }
 
+/// What an audit says of its input beside its answer.
+fn notes_of_audit(alloc: Global, input: &[u8]) -> Result<Vec<String>, NoMemory> {
+    let Answer { notes, .. } = audit_answer(alloc, input)?;
+    notes.finish()
+}
+
 fn notes_of(alloc: Global, end: End) -> Result<Vec<String>, NoMemory> {
     let (status, words, [front, text, behind], output) = end;
     let words = words_of(alloc, words)?;
     let command = command_of(alloc, words.as_slice())?;
     let input = format!(in alloc; "{front}{text}{behind}")?;
+    if let Some(Command::Audit) = command {
+        return notes_of_audit(alloc, input.as_bytes());
+    }
     let ending = Ending {
         status,
         words: words.as_slice(),

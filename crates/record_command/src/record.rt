@@ -221,10 +221,7 @@ fn written(
     let text = write_capture(alloc, capture)?;
     let place = proved(capture);
     let all = printed.all_good && place == bodies;
-    Ok(Answer {
-        status: done_status(all),
-        text,
-    })
+    Ok(Answer::new(alloc, done_status(all), text))
 }
 
 /// How many bodies the clients ask of a board; `None` where they are more than 64 bits count.

@@ -38,6 +38,28 @@ pub struct Engine {
     gave_up: bool,
     fates: VecDeque<(u64, Fate)>,
     lates: VecDeque<(u64, Words)>,
+    told: Told,
+}
+
+/// What the board told last of its place in the order of packets.
+#[derive(Clone, Copy, PartialEq, Eq)]
+enum Told {
+    /// It expects what the hub may send next, or nothing is known.
+    InOrder,
+    /// A status reply of the round that is under way told an identifier that no place has which is open or comes next.
+    Strange,
+    /// So it was, and the hub gave up.
+    OutOfOrder,
+}
+
+impl Told {
+    /// The hub gave up.
+    fn after_giving_up(self) -> Told {
+        match self {
+            Told::InOrder => Told::InOrder,
+            Told::Strange | Told::OutOfOrder => Told::OutOfOrder,
+        }
+    }
 }
 
 impl Model for Engine {
@@ -70,6 +92,7 @@ impl Engine {
             gave_up: false,
             fates: VecDeque::new(alloc),
             lates: VecDeque::new(alloc),
+            told: Told::InOrder,
         })
     }
 
@@ -112,9 +135,13 @@ impl Engine {
         match self.told_place(status.next) {
             Some(told) => {
                 self.open_places.recover_all(told);
+                self.told = Told::InOrder;
                 true
             }
-            None => false,
+            None => {
+                self.told = Told::Strange;
+                false
+            }
         }
     }
 
@@ -130,6 +157,7 @@ impl Engine {
             return false;
         };
         self.status_requests = 0; // the round is over
+        self.told = Told::InOrder;
         if settled.waited {
             let tag = self.bodies[(settled.place - 1) as usize].tag;
             let place = settled.place;
@@ -154,6 +182,12 @@ impl Engine {
         } else {
             self.give_up();
         }
+    }
+
+    /// Whether the hub gave up on a board that told an identifier which no open place explains, and has not heard of an
+    /// open place since: the board was reset, or another hub is at it.
+    pub fn is_out_of_order(&self) -> bool {
+        self.told == Told::OutOfOrder
     }
 
     /// Whether a body that was offered has no fate yet.
@@ -255,6 +289,7 @@ impl Engine {
         self.status_requests = 0;
         self.status_wanted = false;
         self.gave_up = true;
+        self.told = self.told.after_giving_up();
     }
 
     /// Sends the body at the front of the queue as the next place, where the window has room.

@@ -1,12 +1,15 @@
 -- Bodies as keys, and the bodies of operations by the runs of boards.
-use Rattle.std.proofs.Common.{◌≡◌, ◌≢◌, ◌⊎◌, ℕ, ◌+◌, ◌==◌, Bool, true, false, List, [], ◌∷◌, map, Some}
+use Rattle.std.proofs.Common.{◌≡◌, ◌≢◌, ◌⊎◌, ℕ, ◌+◌, ◌==◌, Bool, true, false, List, [], ◌∷◌, map, Option, Some, None, cond, Vec}
 use Rattle.std.proofs.Common.{refl, sym, ap, ◌∙◌, inl, inr}
 use Rattle.std.specs.Prelude.{◌&&◌}
 use Rattle.std.specs.Ordering.{is_eq, nat_cmp, ordering_then}
+use Rattle.std.specs.BTreeMap as tree
 use Rattle.std.specs.BTreeMap.{is_at}
+use Rattle.std.specs.Option.{option_map_or, unwrap_or}
+use Rattle.std.specs.declared.alloc.Global.{Global}
 use Rattle.std.specs.declared.cmp.Ordering.{Ordering}
 use Rattle.std.specs.declared.cmp.Ordering.TheVariants.{Less, Equal, Greater}
-use Rattle.std.proofs.lemmas.Bool.{cases_eq, eqb-true, false_from_ne_true, false≢true}
+use Rattle.std.proofs.lemmas.Bool.{cases_eq, eqb-true, false≢true}
 use Rattle.std.proofs.lemmas.Map.Lookups.{exact_unsigned}
 use Rattle.std.proofs.lemmas.Option.{same_Some}
 use Rattle.board_bus.specs.Cells.{CellMap}
@@ -18,7 +21,8 @@ use Rattle.script_plans.specs.declared.planned.PieceAt.{PieceAt}
 use Rattle.script_plans.specs.declared.board_run.BoardRun.{BoardRun}
 use Rattle.script_plans.specs.declared.board_run.ClientPart.{ClientPart}
 use Rattle.script_steps.specs.declared.operation.Step.{Step}
-use Rattle.run_audit.specs.Apart.{Body, body_cmp, only_body, plans_in}
+use Rattle.run_audit.specs.Apart.{Body, Fates, fate_in, fate_of, only_body, plans_in, row_cmp}
+use Rattle.run_audit.specs.declared.fate.Fate.{Fate}
 use Rattle.run_audit.specs.AskedLines.{AskedLine, ShownPiece, pieces_of, pieces_shown}
 use Rattle.run_audit.specs.Replay.{parts_from, shown_order}
 use Rattle.run_audit.specs.Steps.{planned_pieces, plans_from, replays_from}
@@ -36,20 +40,57 @@ both_equal Less next same = cc
 both_equal Equal next same = (refl, same)
 both_equal Greater next same = cc
 
-exact : (one other : Body) → body_cmp one other ≡ Equal → one ≡ other
-exact (board, client, body) (board', client', body') same =
-    let outer = both_equal (ordering_then (nat_cmp board board') (nat_cmp client client')) (nat_cmp body body') same in
-    let inner = both_equal (nat_cmp board board') (nat_cmp client client') outer.0 in
-    let boards : board ≡ board' = exact_unsigned board board' inner.0 in
-    let clients : client ≡ client' = exact_unsigned client client' inner.1 in
-    let bodies : body ≡ body' = exact_unsigned body body' outer.1 in
+exact : (one other : ℕ × ℕ) → row_cmp one other ≡ Equal → one ≡ other
+exact (board, client) (board', client') same =
+    let both = both_equal (nat_cmp board board') (nat_cmp client client') same in
+    let boards : board ≡ board' = exact_unsigned board board' both.0 in
+    let clients : client ≡ client' = exact_unsigned client client' both.1 in
     cc
 
--- another body is another key
-pub other_key : (body other : Body) → other ≢ body → is_at (body_cmp body) other ≡ false
-other_key body other apart =
-    false_from_ne_true (is_eq (body_cmp body other))
-    (λ holds. apart (sym (exact body other (is_equal (body_cmp body other) holds))))
+abbrev RowVec : Type 0
+RowVec = Vec (Option Fate) Global
+
+-- a row that was there, or else one of nothing
+pub row_items : (found : Option RowVec) (row empty : RowVec) → row ≡ unwrap_or found empty → empty.items ≡ []
+    → row.items ≡ option_map_or (λ (r : RowVec). r.items) found []
+row_items None row empty is none = ap (λ (r : RowVec). r.items) is ∙ none
+row_items (Some there) row empty is none = ap (λ (r : RowVec). r.items) is
+
+in_row : (found : Option RowVec) (row : List (Option Fate)) (body : ℕ)
+    → row ≡ option_map_or (λ (r : RowVec). r.items) found []
+    → fate_in row body ≡ option_map_or (λ (r : RowVec). fate_in r.items body) found None
+in_row None row body is = ap (λ xs. fate_in xs body) is
+in_row (Some there) row body is = ap (λ xs. fate_in xs body) is
+
+-- where one row is exchanged, and in it one body, the others stay
+module _ (old mid new : Fates) (board client body : ℕ) (row now : RowVec)
+    (was : row.items ≡ option_map_or (λ (r : RowVec). r.items) (tree.get row_cmp old (board, client)) [])
+    (took : (q : ℕ × ℕ) → tree.get row_cmp mid q
+    ≡ cond (is_at (row_cmp (board, client)) q) None (tree.get row_cmp old q))
+    (put : (q : ℕ × ℕ) → tree.get row_cmp new q
+    ≡ cond (is_at (row_cmp (board, client)) q) (Some now) (tree.get row_cmp mid q))
+    (kept : (n : ℕ) → n ≢ body → fate_in now.items n ≡ fate_in row.items n) where
+  abbrev told_in : ℕ → Option RowVec → Option Fate
+  told_in n found = option_map_or (λ (r : RowVec). fate_in r.items n) found None
+
+  by_row : (other : Body) → other ≢ (board, client, body) → (here : Bool)
+      → is_at (row_cmp (board, client)) (other.0, other.1) ≡ here → fate_of new other ≡ fate_of old other
+  by_row (b, c, n) apart true here =
+      let same : (board, client) ≡ (b, c) = exact (board, client) (b, c) (is_equal (row_cmp (board, client) (b, c)) here) in
+      let boards : b ≡ board = sym (ap (λ (key : ℕ × ℕ). key.0) same) in
+      let clients : c ≡ client = sym (ap (λ (key : ℕ × ℕ). key.1) same) in
+      let other_body : n ≢ body = λ (is : n ≡ body). apart (rw (boards, clients, is) refl) in
+      ap (told_in n) (put (b, c) ∙ ap (λ at. cond at (Some now) (tree.get row_cmp mid (b, c))) here)
+      ∙ (kept n other_body
+      ∙ (in_row (tree.get row_cmp old (board, client)) row.items n was
+      ∙ ap (λ (key : ℕ × ℕ). told_in n (tree.get row_cmp old key)) same))
+  by_row (b, c, n) apart false here =
+      ap (told_in n)
+      (put (b, c) ∙ (ap (λ at. cond at (Some now) (tree.get row_cmp mid (b, c))) here
+      ∙ (took (b, c) ∙ ap (λ at. cond at None (tree.get row_cmp old (b, c))) here)))
+
+  pub others_kept : (other : Body) → other ≢ (board, client, body) → fate_of new other ≡ fate_of old other
+  others_kept other apart = by_row other apart (is_at (row_cmp (board, client)) (other.0, other.1)) refl
 
 both_true : (a b : Bool) → (a && b) ≡ true → (a ≡ true) × (b ≡ true)
 both_true true b both = (refl, both)

@@ -14,7 +14,7 @@ use Rattle.script_steps.specs.declared.operation.Step.{Step}
 use Rattle.transcript_reader.specs.declared.shown.Shown.{Shown}
 use Rattle.run_audit.specs.declared.fate.Fate.{Fate}
 use Rattle.run_audit.specs.Agreeing.{IsApartAt}
-use Rattle.run_audit.specs.Apart.{Body, body_in, fate_of, only_body}
+use Rattle.run_audit.specs.Apart.{Body, Fates, body_in, fate_of, only_body}
 use Rattle.run_audit.specs.AskedLines.{AskedLine, pieces_of}
 use Rattle.run_audit.specs.Replaying.{AreReplayed}
 use Rattle.run_audit.specs.Results.{TellApart, fate_in}
@@ -64,7 +64,7 @@ fate_told asking = fate_in asking.shows.0
 
 module _ (body_at : AskedLine → Option Body) where
   -- what a line tells is what was told of its body
-  abbrev pub TellsAs : BTreeMap Body Fate → AskedLine → Type 0
+  abbrev pub TellsAs : Fates → AskedLine → Type 0
   TellsAs told line = (body : Body) → body_at line ≡ Some body → fate_of told body ≡ Some (fate_told line)
 
   -- a line that tells this of this body
@@ -72,18 +72,18 @@ module _ (body_at : AskedLine → Option Body) where
   Tells body fate line = (body_at line ≡ Some body) × (fate_told line ≡ fate)
 
   -- This was told by these lines, of which no two tell different things of one body.
-  pub record IsTold (told : BTreeMap Body Fate) (lines : List AskedLine) : Type 0 where
+  pub record IsTold (told : Fates) (lines : List AskedLine) : Type 0 where
     pub each : AllByRecursion (TellsAs told) lines
     pub some : (body : Body) (fate : Fate) → fate_of told body ≡ Some fate → Any (Tells body fate) lines
 
-  pub told_none : (told : BTreeMap Body Fate) → ((body : Body) → fate_of told body ≡ None) → IsTold told []
+  pub told_none : (told : Fates) → ((body : Body) → fate_of told body ≡ None) → IsTold told []
   told_none told none = record {
     each = tt;
     some = λ body fate is. absurd (none-some fate (sym (none body) ∙ is));
   }
 
   -- a line more that tells of no body
-  pub told_past : (told : BTreeMap Body Fate) (lines : List AskedLine) (line : AskedLine) → IsTold told lines
+  pub told_past : (told : Fates) (lines : List AskedLine) (line : AskedLine) → IsTold told lines
       → body_at line ≡ None → IsTold told (lines ++ line ∷ [])
   told_past told lines line so_far none = record {
     each = AllByRecursion-append (TellsAs told) lines (line ∷ []) so_far.each
@@ -93,7 +93,7 @@ module _ (body_at : AskedLine → Option Body) where
         any_front (Tells body fate) lines (line ∷ []) any.0 any.1 any.2 any.3 any.4;
   }
 
-  module _ (told : BTreeMap Body Fate) (lines : List AskedLine) (line : AskedLine) (so_far : IsTold told lines)
+  module _ (told : Fates) (lines : List AskedLine) (line : AskedLine) (so_far : IsTold told lines)
       (body : Body) (at : body_at line ≡ Some body) (first : Fate)
       (is_first : first ≡ unwrap_or (fate_of told body) (fate_told line)) where
     first_cases : (before : Option Fate) → first ≡ unwrap_or before (fate_told line)
@@ -102,7 +102,7 @@ module _ (body_at : AskedLine → Option Body) where
     first_cases (Some fate) is = inr (ap Some (sym is))
 
     -- what was told with a line more that tells the same
-    module _ (next : BTreeMap Body Fate) (same : first ≡ fate_told line) (here : fate_of next body ≡ Some first)
+    module _ (next : Fates) (same : first ≡ fate_told line) (here : fate_of next body ≡ Some first)
         (others : (other : Body) → other ≢ body → fate_of next other ≡ fate_of told other) where
       still_tells : (earlier : AskedLine) → TellsAs told earlier → TellsAs next earlier
       still_tells earlier tells key is = elim (cases_body key body) [
@@ -176,7 +176,7 @@ module _ (boards : List BoardSpec) (scripts : List (List Step)) (shown : Shown) 
         apart = apart;
       }
 
-  none_apart : (told : BTreeMap Body Fate) (before : List AskedLine) → IsTold (body_in runs) told before
+  none_apart : (told : Fates) (before : List AskedLine) → IsTold (body_in runs) told before
       → HoldsNowhere (IsApartBehind boards scripts) before
   none_apart told before is front line behind all any =
       let earlier = any.1 in
@@ -218,14 +218,14 @@ module _ (boards : List BoardSpec) (scripts : List (List Step)) (shown : Shown) 
   }
 
   -- No line tells another thing of its body than one before it.
-  pub apart_none : (told : BTreeMap Body Fate) → IsTold (body_in runs) told lines
+  pub apart_none : (told : Fates) → IsTold (body_in runs) told lines
       → IsFirstBroken (IsApartAt boards scripts lines) None
   apart_none told is =
       first_same (HoldsAt (IsApartBehind boards scripts) lines) (IsApartAt boards scripts lines) apart_at holds_at None
       (nowhere (IsApartBehind boards scripts) lines (none_apart told lines is))
 
   -- This line does, and none before it.
-  pub apart_found : (told : BTreeMap Body Fate) (i : ℕ) (line : AskedLine) → slice_get lines i ≡ Some line
+  pub apart_found : (told : Fates) (i : ℕ) (line : AskedLine) → slice_get lines i ≡ Some line
       → IsTold (body_in runs) told (take i lines) → (body : Body) → body_in runs line ≡ Some body → (first : Fate)
       → first ≡ unwrap_or (fate_of told body) (fate_told line) → first ≢ fate_told line
       → IsFirstBroken (IsApartAt boards scripts lines) (Some line.line)

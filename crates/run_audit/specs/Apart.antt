@@ -1,5 +1,7 @@
 -- What lines tell of bodies: what private functions promise one another. No public clause speaks of these.
-use Rattle.std.specs.Prelude.{ℕ, List, [], ◌∷◌, map, Option, Some, None}
+use Rattle.std.specs.Prelude.{ℕ, List, [], ◌∷◌, map, Option, Some, None, Vec, slice_index_or}
+use Rattle.std.specs.Option.{option_map_or}
+use Rattle.std.specs.declared.alloc.Global.{Global}
 use Rattle.std.specs.BTreeMap as tree
 use Rattle.std.specs.BTreeMap.{BTreeMap}
 use Rattle.std.specs.Ordering.{nat_cmp, ordering_then}
@@ -16,13 +18,19 @@ use Rattle.run_audit.specs.Steps.{planned_pieces}
 abbrev pub Body : Type 0
 Body = ℕ × ℕ × ℕ
 
-abbrev pub body_cmp : Body → Body → Ordering
-body_cmp one other =
-    ordering_then (ordering_then (nat_cmp one.0 other.0) (nat_cmp one.1 other.1)) (nat_cmp one.2 other.2)
+-- what was told first of bodies, by their boards and clients and by their numbers
+abbrev pub Fates : Type 0
+Fates = BTreeMap (ℕ × ℕ) (Vec (Option Fate) Global)
+
+abbrev pub row_cmp : ℕ × ℕ → ℕ × ℕ → Ordering
+row_cmp one other = ordering_then (nat_cmp one.0 other.0) (nat_cmp one.1 other.1)
+
+abbrev pub fate_in : List (Option Fate) → ℕ → Option Fate
+fate_in row body = slice_index_or row body None
 
 -- what was told of a body
-abbrev pub fate_of : BTreeMap Body Fate → Body → Option Fate
-fate_of told body = tree.get body_cmp told body
+abbrev pub fate_of : Fates → Body → Option Fate
+fate_of told body = option_map_or (λ row. fate_in row.items body.2) (tree.get row_cmp told (body.0, body.1)) None
 
 -- what the clients asked of the boards of these runs
 abbrev pub plans_in : List BoardRun → List (List ClientBodies)

@@ -9,3 +9,4 @@ pub mod Replaying
 pub mod Agreeing
 pub mod Unreplayed
 pub mod Apart
+pub mod Taken

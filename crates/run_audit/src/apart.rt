@@ -1,6 +1,6 @@
 //! Lines that tell different things of one body.
 
-ghost use Rattle.std.specs.Prelude.{◌≡◌, ◌≢◌, IfOk, OnOk, Some, map, unwrap_or};
+ghost use Rattle.std.specs.Prelude.{◌≡◌, ◌≢◌, ℕ, IfOk, OnOk, Some, map, unwrap_or};
 ghost use Rattle.std.specs.Option.{ForSome};
 ghost use Rattle.transcript_reader.specs.declared.shown.Shown.{Shown};
 ghost use Rattle.run_audit.specs.Agreeing.{IsApartAt};
@@ -22,8 +22,11 @@ use std::collections::BTreeMap;
 /// A body: its board, its client, and its number among the bodies of that client there.
 type BodyAt = (u32, usize, usize);
 
-/// What was told first of bodies.
-type Fates = BTreeMap<BodyAt, Fate>;
+/// What was told first of the bodies of a client on a board.
+type Row = Vec<Option<Fate>>;
+
+/// What was told first of bodies, by their boards and clients.
+type Fates = BTreeMap<(u32, usize), Row>;
 
 /// The body of an operation that has one piece.
 fn body_in(runs: &[BoardRun], asked: &AskedOp) -> Option<BodyAt>
@@ -35,8 +38,24 @@ fn body_in(runs: &[BoardRun], asked: &AskedOp) -> Option<BodyAt>
     }
 }
 
+/// What was told first of the body of this number: this, where nothing was told of it before.
+fn first_in(row: &mut Row, body: usize, fate: Fate) -> Result<Fate, NoMemory>
+    ensures first { IfOk result (λ first. first ≡ unwrap_or (spec.fate_in row.old.items body) fate) }
+    ensures here { IfOk result (λ first. spec.fate_in row.new.items body ≡ Some first) }
+    ensures others { OnOk result ((other : ℕ) → other ≢ body →
+        spec.fate_in row.new.items other ≡ spec.fate_in row.old.items other) }
+{
+    if body >= row.len() {
+        row.resize(body.checked_add(1).ok_or(NoMemory)?, None)?;
+    }
+    let first = row[body].unwrap_or(fate);
+    row[body] = Some(first);
+    Ok(first)
+}
+
 /// What was told first of a body: this, where nothing was told of it before. `last` is a body with what was told of it.
 fn first_told(
+    alloc: Global,
     told: &mut Fates,
     last: Option<(BodyAt, Fate)>,
     body: BodyAt,
@@ -54,11 +73,11 @@ fn first_told(
     {
         return Ok(first);
     }
-    if let Some(first) = told.get(&body) {
-        return Ok(*first);
-    }
-    told.insert(body, fate)?;
-    Ok(fate)
+    let (board, client, number) = body;
+    let mut row = told.remove(&(board, client)).unwrap_or(Vec::new(alloc));
+    let first = first_in(&mut row, number, fate)?;
+    told.insert((board, client), row)?;
+    Ok(first)
 }
 
 /// The first line that tells another thing of its body than a line before it.
@@ -81,7 +100,7 @@ pub(crate) fn first_apart(
         };
         let shown = ask.shown;
         let fate = fate_in(&shown.result);
-        if first_told(&mut told, last, body, fate)? != fate {
+        if first_told(alloc, &mut told, last, body, fate)? != fate {
             return Ok(Some(ask.line));
         }
         last = Some((body, fate));

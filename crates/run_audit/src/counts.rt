@@ -10,10 +10,10 @@ ghost use Rattle.run_audit.specs.Steps.{AreOf, IsFirstBroken, asking, place_of, 
 use crate::asking::AskedOp;
 use crate::places::{PieceShown, shown_pieces, take_place};
 use crate::plans::BoardPlans;
+use crate::taken::Taken;
 use ipb_base::NoMemory;
 use script_steps::{Step, Steps};
 use std::alloc::Global;
-use std::collections::BTreeSet;
 use transcript::BoardLine;
 use transcript_reader::Shown;
 
@@ -48,13 +48,13 @@ fn count_client_lines(scripts: &[Steps]) -> u32
 fn distinct_places(alloc: Global, pieces: &[PieceShown]) -> Result<usize, NoMemory>
     ensures { IfOk result (λ count. count ≡ distinct (map place_of (map piece_kept pieces.now))) }
 {
-    let mut places = BTreeSet::new(alloc);
+    let mut places = Taken::new(alloc, pieces.len())?;
     let mut last = None;
     for piece in pieces {
         take_place(&mut places, last, piece)?;
         last = Some(*piece);
     }
-    Ok(places.len())
+    Ok(places.count())
 }
 
 /// The bodies of a board that were replied to, timed out or lost, all together; none where 64 bits do not count them.

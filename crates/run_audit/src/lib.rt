@@ -19,6 +19,7 @@ mod plans;
 mod replaying;
 mod results;
 mod run_pieces;
+mod taken;
 mod unreplayed;
 mod verdict;
 

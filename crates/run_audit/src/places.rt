@@ -2,9 +2,7 @@
 
 ghost use Rattle.std.specs.Prelude.{◌≡◌, ◌≢◌, ◌++◌, ◌+◌, ◌<◌, ◌↔◌, ◌==◌, ◌||◌, ℕ, if◌then◌else◌, true, [], IfOk, IsTrue, List};
 ghost use Rattle.std.specs.Prelude.{OnOk, length, map, option_map};
-ghost use Rattle.std.specs.BTreeSet.{btree_set_len, contains};
 ghost use Rattle.std.specs.Option.{ForSome};
-ghost use Rattle.std.specs.Ordering.{nat_cmp};
 ghost use Rattle.board_specs.specs.declared.spec.BoardSpec.{BoardSpec};
 ghost use Rattle.script_plans.specs.Claims.{Rises};
 ghost use Rattle.script_steps.specs.declared.operation.Step.{Step};
@@ -14,13 +12,14 @@ ghost use Rattle.run_audit.specs.AskedLines.{with_places};
 ghost use Rattle.run_audit.specs.Places.{AreOfOneBody, HasMisplaced, IsMisplaced, IsMisplacedAt, IsPartialAt};
 ghost use Rattle.run_audit.specs.Steps.{AreOf, IsFirstBroken, StandsBefore, asking, disagrees, earliest_of};
 ghost use Rattle.run_audit.specs.Steps.{planned_shown, piece_kept};
+ghost use Rattle.run_audit.specs.Taken.{has};
 
 use crate::asking::AskedOp;
 use crate::plans::{BoardPlans, pieces_at};
+use crate::taken::Taken;
 use ipb_base::NoMemory;
 use script_plans::PieceAt;
 use std::alloc::Global;
-use std::collections::BTreeSet;
 use transcript::BoardLine;
 use transcript_reader::Shown;
 
@@ -137,21 +136,21 @@ fn disagrees(last: Option<PieceShown>, is_taken: bool, piece: &PieceShown) -> bo
 /// Puts the place of a piece among those of the pieces before it, of which `last` is the last. Answers whether it was
 /// there.
 pub(crate) fn take_place(
-    taken: &mut BTreeSet<u64>,
+    taken: &mut Taken,
     last: Option<PieceShown>,
     piece: &PieceShown,
 ) -> Result<bool, NoMemory>
-    requires { ForSome last (λ last. contains nat_cmp taken.old last.place ≡ true) }
-    ensures was { IfOk result (λ was. was ≡ contains nat_cmp taken.old piece.now.place) }
-    ensures places { OnOk result ((place : ℕ) → contains nat_cmp taken.new place
-        ≡ (contains nat_cmp taken.old place || (place == piece.now.place))) }
-    ensures count { IfOk result (λ was. btree_set_len taken.new
-        ≡ (if was then btree_set_len taken.old else btree_set_len taken.old + 1)) }
+    requires { ForSome last (λ last. has taken.old last.place ≡ true) }
+    ensures was { IfOk result (λ was. was ≡ has taken.old piece.now.place) }
+    ensures places { OnOk result ((place : ℕ) → has taken.new place
+        ≡ (has taken.old place || (place == piece.now.place))) }
+    ensures count { IfOk result (λ was.
+        taken.new.count ≡ (if was then taken.old.count else taken.old.count + 1)) }
 {
     match last {
         // the pieces of one body are shown one behind the other
         Some(last) if last.place == piece.place => Ok(true),
-        _ => Ok(!taken.insert(piece.place)?),
+        _ => taken.take(piece.place),
     }
 }
 
@@ -165,7 +164,8 @@ fn first_misplaced_of(
     ensures { Rises StandsBefore (map piece_kept pieces.now) →
         IfOk result (IsFirstBroken (HasMisplaced sent (map piece_kept pieces.now))) }
 {
-    let mut taken = BTreeSet::new(alloc);
+    // places that are well counted are at most as many as pieces
+    let mut taken = Taken::new(alloc, pieces.len())?;
     let mut last = None;
     for piece in pieces {
         let is_taken = take_place(&mut taken, last, piece)?;

@@ -88,8 +88,6 @@ fn printed(alloc: Global, runs: &[BoardRun], steps: &[Steps]) -> Result<Answer, 
         ≡ lines.run_status (lines.transcript_of steps.now runs.now).clients) }
 {
     let printed = print_runs(alloc, runs, steps)?;
-    Ok(Answer {
-        status: done_status(printed.all_good),
-        text: printed.text,
-    })
+    let status = done_status(printed.all_good);
+    Ok(Answer::new(alloc, status, printed.text))
 }

@@ -103,8 +103,6 @@ fn printed(alloc: Global, report: &ServeReport) -> Result<Answer, NoMemory>
     ensures status { IfOk result (λ answer. answer.status ≡ texts.serve_status report.now.connections.items) }
 {
     let text = serve_text(alloc, &report.connections, &report.boards)?;
-    Ok(Answer {
-        status: done_status(all_closed(&report.connections)),
-        text,
-    })
+    let status = done_status(all_closed(&report.connections));
+    Ok(Answer::new(alloc, status, text))
 }

@@ -159,7 +159,8 @@ pub fn serve_session<R: Rack, D: Door, T: Threads + Wait + Sync>(
     ensures had_memory { IfOk result (λ report. AllByRecursion HadMemory report.connections.items) }
 
     // Whatever came of it, links were made of the specs of the first boards, and each is given back once, in board
-    // order, so that the link of a board is the one that was made of its spec, and each connection that was let in once, in the order of acceptance.
+    // order, so that the link of a board is the one that was made of its spec, and each connection that was let in once,
+    // in the order of acceptance.
     ensures links { Keeps R.Rack R.L.Link rack.old rack.new
         (λ links. AreLinksTo specs.now links × AreMadeFor specs.now links (R.made rack.old)
         (R.made rack.new)) }

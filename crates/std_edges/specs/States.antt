@@ -88,3 +88,18 @@ new_udp address port wait = new_link false address port wait
 -- the link with this number among those of its rack
 abbrev pub with_number : ℕ → UdpState → UdpState
 with_number number link = record link { number = number }
+
+-- Another link to the board of this one, with its number, that waits as long: counts of 0 and no traffic. Its socket is
+-- another one, which stands at any port of every address of the machine and was not called yet.
+abbrev pub another_link : Bool → UdpState → UdpState
+another_link tells link = record {
+  board = link.board;
+  wait = link.wait;
+  faults = 0;
+  quiets = 0;
+  gots = 0;
+  traffic = [];
+  number = link.number;
+  is_watched = false;
+  told = told_at_first tells (At every_address any_port) link.wait;
+}

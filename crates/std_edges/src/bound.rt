@@ -66,6 +66,15 @@ impl<S: LinkSocket + Drop> BoundSocket<S> {
         self.socket.receive_datagram(into)
     }
 
+    /// Another socket, of any port at every IPv4 address, of which one receive waits as long as of this one.
+    pub(crate) fn another<R: Net>(&self, rt: &R) -> io::Result<BoundSocket<S>>
+        ensures wait { IfOk result (λ bound. bound.wait ≡ self.now.wait) }
+        ensures told { IfOk result (λ bound. bound.told
+            ≡ told_at_first S.tells (At every_address any_port) self.now.wait) }
+    {
+        BoundSocket::new(rt, port_everywhere(0), self.wait)
+    }
+
     /// Another handle of it.
     pub(crate) fn other_handle(&self) -> Option<UdpSocket> {
         self.socket.other_handle()

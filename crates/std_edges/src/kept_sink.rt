@@ -68,4 +68,8 @@ impl<S: Sink + Drop> Sink for KeptSink<S> {
     fn end(&mut self) {
         self.sink.end();
     }
+
+    fn note(&mut self, line: &str) {
+        self.sink.note(line);
+    }
 }

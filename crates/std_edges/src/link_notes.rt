@@ -35,6 +35,16 @@ impl Voice {
         })
     }
 
+    /// The voice of another link to its board. `None` where memory ran out.
+    fn again(&self) -> Option<Voice> {
+        let alloc: Global = self.console.host().alloc();
+        Some(Voice {
+            console: self.console.again(),
+            name: String::from_str(alloc, self.name.as_str()).ok()?,
+            called: String::from_str(alloc, self.called.as_str()).ok()?,
+        })
+    }
+
     fn says_reason(&self, error: io::Error) {
         let called = self.called.as_str();
         self.console.say(format_args!("{called}: {error}"));
@@ -103,6 +113,14 @@ impl LinkNotes {
             steps: Steps::new(),
             has_failed: false,
             is_out_of_step: false,
+        }
+    }
+
+    /// Of another link to its board, which was not used yet. Where memory ran out that one says nothing.
+    pub(crate) fn again(&self) -> LinkNotes {
+        match &self.voice {
+            Some(voice) => LinkNotes::new(voice.again()),
+            None => LinkNotes::new(None),
         }
     }
 

@@ -88,9 +88,12 @@ impl RackNotes {
         ensures { IfOk result (λ link. link ≡ new_udp address port wait) }
     {
         let (linked, voice) = self.admit(rt.alloc(), name, place_of_board(address, port))?;
-        let Ok(link) = UdpLink::with_notes(rt, address, port, wait, voice) else {
+        let Ok(mut link) = UdpLink::with_notes(rt, address, port, wait, voice) else {
             return Err(RackFault::Failed);
         };
+        if let Some(console) = &self.console {
+            link.set_host(console.host());
+        }
         self.add(linked)?;
         Ok(link)
     }

@@ -7,7 +7,7 @@ ghost use Rattle.links.specs.Traffic.{received_after, sent_after};
 ghost use Rattle.links.specs.Sockets.{AreCalls, SendTo};
 ghost use Rattle.links.specs.Telling.{gots_after, IsCarried, quiets_after};
 ghost use Rattle.std_edges.specs.Heard.{datagram_in, ReceivesOver, told_of, with_heard_counted};
-ghost use Rattle.std_edges.specs.States.{new_link, new_udp, with_number};
+ghost use Rattle.std_edges.specs.States.{another_link, new_link, new_udp, with_number};
 
 use crate::bound::{BoundSocket, socket_that_waits};
 use crate::counting::incremented;
@@ -18,7 +18,7 @@ use crate::link_socket::LinkSocket;
 use crate::places::place_of_board;
 use ipb_base::NoMemory;
 use ipb_outside::Failed;
-use links::{Link, LinkFault, LinkNumber, MAX_DATAGRAM, Received, Sighting, TrafficLog, Waiter};
+use links::{Link, LinkFault, MAX_DATAGRAM, Received, Sighting, TrafficLog, Waiter};
 use std::alloc::Global;
 use std::io;
 use std::marker::Model;
@@ -42,8 +42,10 @@ pub struct UdpLink<S: LinkSocket + Drop = UdpSocket> {
     quiets: u64,
     gots: u64,
     traffic: TrafficLog,
-    number: LinkNumber,
+    number: usize,
     notes: LinkNotes,
+    // what another link to the board is made on, where one may be made
+    host: Option<HostRuntime>,
 }
 
 impl<S: LinkSocket + Drop> Model for UdpLink<S> {
@@ -105,8 +107,9 @@ impl<S: LinkSocket + Drop> UdpLink<S> {
                 quiets: 0,
                 gots: 0,
                 traffic: TrafficLog::new(),
-                number: LinkNumber::after(0),
+                number: 0,
                 notes,
+                host: None,
             }),
             Err(error) => {
                 notes.failed(error);
@@ -116,11 +119,38 @@ impl<S: LinkSocket + Drop> UdpLink<S> {
         }
     }
 
-    /// Numbers the link among those that its rack made, of which so many were made before. It does nothing when it runs.
+    /// Numbers the link among those that its rack made, of which so many were made before.
     pub fn set_number(&mut self, others: usize)
         ensures { self.new ≡ with_number others self.old }
     {
-        self.number = LinkNumber::after(others);
+        self.number = others;
+    }
+
+    /// From now on another link to its board can be made, on this machine.
+    pub fn set_host(&mut self, host: HostRuntime)
+        ensures { self.new ≡ self.old }
+    {
+        self.host = Some(host);
+    }
+
+    // Another link to the board, over a socket of its own.
+    fn another(&self, alloc: Global, host: HostRuntime) -> io::Result<UdpLink<S>>
+        ensures { IfOk result (λ link. link ≡ another_link S.tells self.now) }
+    {
+        let socket = self.socket.another(&host)?;
+        Ok(UdpLink {
+            socket,
+            board: self.board,
+            buffer: Vec::new(alloc),
+            sighting: None,
+            faults: 0,
+            quiets: 0,
+            gots: 0,
+            traffic: TrafficLog::new(),
+            number: self.number,
+            notes: self.notes.again(),
+            host: Some(host),
+        })
     }
 
     // Whether the waiter waited as long as a receive does, and found nothing, and nothing was sent since.
@@ -295,6 +325,23 @@ impl<S: LinkSocket + Drop> Link for UdpLink<S> {
                 Some(waiter)
             }
             Err(_error) => None,
+        }
+    }
+
+    /// A link over a new socket to the same address and port, which waits as long: what comes for this link's socket
+    /// never comes there. `None` where it was not said on which machine it is made, and where the machine refuses the
+    /// socket, of which an error is said.
+    fn again(&mut self, alloc: Global) -> Option<UdpLink<S>>
+        ensures another { IfSome result (λ link. link ≡ another_link S.tells self.old) }
+        ensures same { self.new ≡ self.old }
+    {
+        let host = self.host?;
+        match self.another(alloc, host) {
+            Ok(link) => Some(link),
+            Err(error) => {
+                self.notes.failed(error);
+                None
+            }
         }
     }
 }

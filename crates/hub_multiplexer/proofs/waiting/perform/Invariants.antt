@@ -8,4 +8,4 @@ invariant-loop g l =
     ((goal.iterator-loop g).can_next l.iterator' × (goal.iterator-loop g).is_finite l.iterator')
     × (l.pass ≡ record l.fn.pass { knows = l.pass.knows })
     × (l.pass.knows.number ≡ l.fn.client)
-    × HasLooked l.fn.pass.knows l.pass.knows
+    × HasLooked g.V.AtHub.manner l.fn.pass.knows l.pass.knows

@@ -1,4 +1,4 @@
-use Rattle.std.proofs.Common.{map}
+use Rattle.std.proofs.Common.{◌∙◌, map}
 use Rattle.board_greeting.specs.Reports.{shown_by}
 use Rattle.load_run.proofs.Answered.{load_done, load_stopped}
 use Rattle.load_run.proofs.answer.answer_load.Goals as goal
@@ -21,5 +21,5 @@ returns-clause-leaves g c = λ bytes.
       left.0,
       left.1,
       load_done c.args.count bytes (g.R.Rack.made c.args.rack.now) (g.R.Rack.made c.run_load.new.rack) (map shown left.0)
-          c.in_ok-load.load c.done_status.result c.done_status.ensures.status left.2,
+          c.in_ok-load.load c.new.result (c.new.ensures.status ∙ c.done_status.ensures.status) c.new.ensures.text left.2,
     )

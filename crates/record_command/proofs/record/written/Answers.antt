@@ -23,12 +23,13 @@ returns-clause-writes c =
     let lines = c.in_ok-printed.ensures.good
     ∙ ap (λ (rs : List BoardRun). all_good (transcript_of steps rs).clients) c.deref.ensures.value in
     let bodies = c.in-Some.ensures ∙ ap body_count c.deref-2.ensures.value in
-    subst (λ (found : Result (Vec BoardRun) _). WritesOf steps found c.args.capture.now
-    (record { status = c.done_status.result; text = c.in_ok-text.text })) (sym c.in_ok-runs.was) (record {
+    let spelled = ap (λ (text : Vec ℕ). text.items) c.new.ensures.text in
+    subst (λ (found : Result (Vec BoardRun) _). WritesOf steps found c.args.capture.now c.new.result)
+    (sym c.in_ok-runs.was) (record {
       has_text = c.in_ok-text.ensures.capture;
-      spelled = c.in_ok-text.ensures.spelling;
+      spelled = spelled ∙ c.in_ok-text.ensures.spelling;
       proved = place;
       is_proved = c.proved-place.ensures;
-      told = c.done_status.ensures.status ∙ ap told_status (all ∙ (ap (λ b. b && (place == c.in-Some.bodies)) lines
-          ∙ ap (λ (n : ℕ). all_good (transcript_of steps runs.items).clients && (place == n)) bodies));
+      told = c.new.ensures.status ∙ (c.done_status.ensures.status ∙ ap told_status (all ∙ (ap (λ b. b && (place == c.in-Some.bodies)) lines
+          ∙ ap (λ (n : ℕ). all_good (transcript_of steps runs.items).clients && (place == n)) bodies)));
     })

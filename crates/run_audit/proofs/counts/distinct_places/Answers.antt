@@ -1,11 +1,10 @@
 use Rattle.std.proofs.Common.{◌≡◌, ◌++◌, ◌∷◌, [], ◌+◌, ◌||◌, ◌==◌, Some, get_or, map, option_map, sym, ap, ◌∙◌, cond}
 use Rattle.std.proofs.Common.{take}
-use Rattle.std.specs.BTreeSet.{btree_set_len, contains}
 use Rattle.std.specs.List.{slice_get}
-use Rattle.std.specs.Ordering.{nat_cmp}
 use Rattle.std.proofs.lemmas.Option.{slice_get-map}
 use Rattle.run_audit.specs.declared.places.PieceShown.{PieceShown}
 use Rattle.run_audit.specs.Counts.{distinct}
+use Rattle.run_audit.specs.Taken.{has}
 use Rattle.run_audit.specs.Steps.{place_of, piece_kept}
 use Rattle.run_audit.proofs.Distinct.{among_push, distinct_push, is_among}
 use Rattle.run_audit.proofs.Keys.{last_there}
@@ -28,7 +27,7 @@ loop-piece-preserved c =
     let next : take (i + 1) places ≡ take i places ++ place ∷ [] = take_next places i place at in
     let was = c.in_ok-take_place.ensures.was ∙ c.loop-piece.invariant.places place in
     record {
-      last' = last_there (contains nat_cmp c.take_place.new.taken) _ (get_or c.args.pieces.now i nothing)
+      last' = last_there (has c.take_place.new.taken) _ (get_or c.args.pieces.now i nothing)
           (c.in_ok-take_place.ensures.places place);
       places = λ other.
           c.in_ok-take_place.ensures.places other
@@ -36,7 +35,7 @@ loop-piece-preserved c =
           ∙ (sym (among_push other place (take i places)) ∙ ap (is_among other) (sym next)));
       count =
           c.in_ok-take_place.ensures.count
-          ∙ (ap (λ b. cond b (btree_set_len c.loop-piece.places) (btree_set_len c.loop-piece.places + 1)) was
+          ∙ (ap (λ b. cond b c.loop-piece.places.count (c.loop-piece.places.count + 1)) was
           ∙ (ap (λ n. cond (is_among place (take i places)) n (n + 1)) c.loop-piece.invariant.count
           ∙ (sym (distinct_push (take i places) place) ∙ ap distinct (sym next))));
     }

@@ -1,10 +1,9 @@
 use Rattle.std.proofs.Common.{◌≡◌, ◌||◌, ◌==◌, map, get_or, arith, sym, ap, ◌∙◌, inl, inr, Some, option_map}
-use Rattle.std.specs.BTreeSet.{contains}
 use Rattle.std.specs.List.{slice_get}
-use Rattle.std.specs.Ordering.{nat_cmp}
 use Rattle.std.proofs.lemmas.Bool.{false≢true}
 use Rattle.std.proofs.lemmas.List.{length-map}
 use Rattle.run_audit.specs.declared.places.PieceShown.{PieceShown}
+use Rattle.run_audit.specs.Taken.{has}
 use Rattle.run_audit.specs.Steps.{piece_kept}
 use Rattle.run_audit.proofs.Keys.{last_there}
 use Rattle.run_audit.proofs.Misplacing.{place_more, placing_all, placing_found, placing_more, read_mapped}
@@ -44,7 +43,7 @@ loop-piece-preserved c =
           (option_map piece_kept c.loop-piece.last) (c.loop-piece.invariant.placing rises)
           (λ wrong. false≢true (sym c.if-is_misplaced.false ∙ c.is_misplaced.ensures.1 wrong))
           (sym c.disagrees.ensures ∙ c.if-disagrees.false);
-      last' = last_there (contains nat_cmp c.take_place.new.taken) _ (get_or c.args.pieces.now i nothing)
+      last' = last_there (has c.take_place.new.taken) _ (get_or c.args.pieces.now i nothing)
           (c.in_ok-is_taken.ensures.places piece.place);
       places = λ place.
           c.in_ok-is_taken.ensures.places place

@@ -1,8 +1,7 @@
 use Rattle.std.proofs.Common.{◌≡◌, ℕ, map, take, true}
-use Rattle.std.specs.BTreeSet as tree
 use Rattle.std.specs.Option.{ForSome, option_map}
-use Rattle.std.specs.Ordering.{nat_cmp}
 use Rattle.script_plans.specs.Claims.{Rises}
+use Rattle.run_audit.specs.Taken.{has}
 use Rattle.run_audit.specs.Steps.{StandsBefore, piece_kept}
 use Rattle.run_audit.proofs.Misplacing.{IsPlacing, has_place}
 use Rattle.run_audit.proofs.places.first_misplaced_of.Given as goal
@@ -12,7 +11,7 @@ abbrev pub invariant-loop-piece : goal.invariant-loop-piece
 invariant-loop-piece l = record {
   placing : Rises StandsBefore (map piece_kept l.pieces)
       → IsPlacing l.sent (map piece_kept l.pieces) l.piece-index (option_map piece_kept l.last);
-  last' : ForSome l.last (λ last. tree.contains nat_cmp l.taken last.place ≡ true);
-  places : (place : ℕ) → tree.contains nat_cmp l.taken place
+  last' : ForSome l.last (λ last. has l.taken last.place ≡ true);
+  places : (place : ℕ) → has l.taken place
       ≡ has_place place (take l.piece-index (map piece_kept l.pieces));
 }

@@ -1,3 +1,4 @@
+use denote.Param.Send.{sendable}
 use Rattle.std.proofs.Common.{◌≡◌, ◌+◌, ℕ, Vec, arith, inl, inr, length, map, subst, sym}
 use Rattle.std.proofs.lemmas.Grind.{common_steps}
 use Rattle.std.specs.List.{AllByRecursion}
@@ -5,6 +6,7 @@ use Rattle.std.proofs.lemmas.Result.{IfOk-weaker}
 use Rattle.turn_pass.specs.Pass.{first_knowledge}
 use Rattle.hub_multiplexer.specs.Ends.{HasTakenIn}
 use Rattle.hub_multiplexer.specs.Lanes.{shown_record}
+use Rattle.hub_multiplexer.proofs.Shares.{lane_send}
 use Rattle.client_threads.specs.Clients.{AreOfClientsFrom, AreResultsFor, AwaitClients, HaveRun, IsPlanFor}
 use Rattle.client_threads.specs.declared.result.ClientResult.{ClientResult}
 use Rattle.session_run.specs.Hubs.{RanAtHub}
@@ -101,3 +103,9 @@ returns-in-Err-clause-lanes g c = grind (arith, common_steps)
 
 pub returns-in-Err-clause-ran : goal.returns-in-Err-clause-ran
 returns-in-Err-clause-ran g c = grind (arith, common_steps)
+
+pub new-requires-send-V : goal.new-requires-send-V
+new-requires-send-V g c κs within = search (lane_send, sendable)
+
+pub finish-requires-send-V : goal.finish-requires-send-V
+finish-requires-send-V g c κs within = search (lane_send, sendable)

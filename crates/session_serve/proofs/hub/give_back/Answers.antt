@@ -1,8 +1,10 @@
+use denote.Param.Send.{sendable}
 use Rattle.std.proofs.Common.{◌≡◌, ◌∙◌, ◌∷◌, ◌++◌, ◌+◌, [], ℕ, List, ap, append_assoc, length, length-append, refl}
 use Rattle.std.proofs.Common.{subst, sym, arith}
 use Rattle.std.proofs.lemmas.Grind.{common_steps}
 use Rattle.std.proofs.lemmas.List.{length-map, map-append}
 use Rattle.ipb_outside.specs.Pairs.{Went}
+use Rattle.hub_multiplexer.proofs.Shares.{lane_send}
 use Rattle.hub_multiplexer.specs.Ends.{HasTakenIn}
 use Rattle.hub_multiplexer.specs.Seats.{SeatState}
 use Rattle.session_serve.specs.Hubs.{pairs_of, seats_of}
@@ -113,3 +115,6 @@ join-requires-clause-hub g c κs within = grind (arith, common_steps)
 
 pub keep-requires : goal.keep-requires
 keep-requires g c = grind (arith, common_steps)
+
+pub join-requires-send-V : goal.join-requires-send-V
+join-requires-send-V g c κs within = search (lane_send, sendable)

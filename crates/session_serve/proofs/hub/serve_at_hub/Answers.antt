@@ -1,7 +1,9 @@
+use denote.Param.Send.{sendable}
 use Rattle.std.proofs.Common.{[], ℕ, List, Vec, Global, length, subst, sym, arith}
 use Rattle.std.proofs.lemmas.Grind.{common_steps}
 use Rattle.std.specs.List.{AllByRecursion}
 use Rattle.ipb_outside.specs.Pairs.{GivesBack, pair_shown}
+use Rattle.hub_multiplexer.proofs.Shares.{lane_send}
 use Rattle.hub_multiplexer.specs.Seats.{SeatState}
 use Rattle.hub_session.specs.declared.served.Served.{Served}
 use Rattle.hub_session.specs.Serving.{IsLaneBelow}
@@ -128,3 +130,9 @@ returns-in-Err-clause-door_faults g c = grind (arith, common_steps)
 
 pub returns-in-Err-clause-not_rack : goal.returns-in-Err-clause-not_rack
 returns-in-Err-clause-not_rack g c = grind (arith, common_steps)
+
+pub new-requires-send-V : goal.new-requires-send-V
+new-requires-send-V g c κs within = search (lane_send, sendable)
+
+pub finish-requires-send-V : goal.finish-requires-send-V
+finish-requires-send-V g c κs within = search (lane_send, sendable)

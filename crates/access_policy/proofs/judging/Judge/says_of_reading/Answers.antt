@@ -1,7 +1,7 @@
 use Rattle.std.proofs.Common.{subst, sym}
 use Rattle.std.specs.Prelude.{IfSome}
 use Rattle.access_policy.specs.ById.{AreById}
-use Rattle.access_policy.specs.Candidates.{IsKnown}
+use Rattle.access_policy.specs.KnownNames.{AreKnown}
 use Rattle.access_policy.specs.declared.policy.Access.TheVariants.{Reading}
 use Rattle.access_policy.proofs.judging.Judge.says_of_reading.Goals as goal
 
@@ -14,5 +14,5 @@ pub invariant_of-self : goal.invariant_of-self
 invariant_of-self c =
     let same = c.as_slice-rules.ensures.value in
     let sorted = subst (λ rules. IfSome c.judged.new.sorted (AreById rules)) same c.judged.ensures.sorted in
-    let known = subst (λ rules. IsKnown Reading rules c.judged.new.known) same c.judged.ensures.known in
+    let known = subst (λ rules. AreKnown Reading rules c.judged.new.known) same c.judged.ensures.known in
     (c.self.invariant.0, (sorted, (known, c.self.invariant.1.1.1)))

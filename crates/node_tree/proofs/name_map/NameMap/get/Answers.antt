@@ -8,5 +8,5 @@ pub returns : goal.returns
 returns g c =
     c.get.ensures.value ∙ lookup-named c.args.name.now c.self.inside.by_name.entries
     ∙ sym (get-from_sorted by_bytes (named_entries c.self.inside.by_name.entries) c.args.name.now
-    (sorted c.self.inside.by_name.entries c.self.invariant))
+    (sorted c.self.inside.by_name.entries c.self.invariant.0))
     ∙ ap (λ m. get m c.args.name.now) c.self.view_is

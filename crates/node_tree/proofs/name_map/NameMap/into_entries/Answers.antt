@@ -5,5 +5,5 @@ use Rattle.node_tree.proofs.name_map.NameMap.into_entries.Goals as goal
 
 pub returns : goal.returns
 returns g c =
-    sym (entries-from_sorted by_bytes _ (sorted c.self.inside.by_name.entries c.self.invariant))
+    sym (entries-from_sorted by_bytes _ (sorted c.self.inside.by_name.entries c.self.invariant.0))
     ∙ ap entries c.self.view_is

@@ -1,0 +1,4 @@
+pub mod Growing
+pub mod Beginning
+pub mod Tellings
+pub mod Past

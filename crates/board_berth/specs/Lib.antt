@@ -1,0 +1,6 @@
+pub mod Greetings
+pub mod Records
+pub mod Berths
+pub mod Calls
+pub mod Laws
+pub mod Examples
