@@ -144,15 +144,17 @@ def not_kept(draw: random.Random, document: Table) -> None:
     entries = entries_of(document)
     names = [name for name, entry in entries.items() if entry.mode != "single" or entry.permission != "rw"]
     names += [name.rpartition(".")[0] for name in entries if "." in name]
-    if names:
-        of_a_board(draw, document)[draw.choice(names)] = draw.choice([0, WHOLE])
+    if not names:
+        put_node(draw, document, {"id": "z", "address": 0xF000, "permission": "r"})
+    of_a_board(draw, document)[draw.choice(names or ["z"])] = draw.choice([0, WHOLE])
 
 
 @breaks("state BitsOutside")
 def a_value_too_wide(draw: random.Random, document: Table) -> None:
     names = [name for name, entry in entries_of(document).items() if entry.mask != WHOLE]
-    if names:
-        of_a_board(draw, document)[draw.choice(names)] = draw.choice([WHOLE, 0x10000, 0x80000000])
+    if not names:
+        put_node(draw, document, {"id": "z", "address": 0xF000, "mask": 0xF0})
+    of_a_board(draw, document)[draw.choice(names or ["z"])] = draw.choice([WHOLE, 0x10000, 0x80000000])
 
 
 # ---- scripts
@@ -198,11 +200,14 @@ def line_of_no_register(draw: random.Random, document: Table) -> None:
     put_line(draw, document, f"{verb} b0:{draw.choice(names)} 1")
 
 
-def line_for(rule: str, fits: Any, lines: list[str]) -> None:
-    """A line on a register that fits."""
+def line_for(rule: str, fits: Any, lines: list[str], made: Table) -> None:
+    """A line on a register that fits. Where none does, a node is made."""
 
     def way(draw: random.Random, document: Table) -> None:
         register = register_of(draw, document, fits)
+        if register is None:
+            put_node(draw, document, {"id": draw.choice(["A", "z"]), "address": 0xF000, **made})
+            register = register_of(draw, document, fits)
         if register:
             put_line(draw, document, draw.choice(lines).format(register))
 
@@ -211,16 +216,19 @@ def line_for(rule: str, fits: Any, lines: list[str]) -> None:
 
 READS = ["read {}", "readblock {} 1", "readblock {} 99999", "rmwsum {} 1", "rmwbits {} 1 1"]
 WRITES = ["write {} 4294967295", "write {} 0", "writeblock {} 1", "writeblock {} 1 2 3", "rmwsum {} 1"]
-line_for("NoPermission", lambda entry: entry.permission == "w", READS)
-line_for("NoPermission", lambda entry: entry.permission == "r", WRITES)
-line_for("WrongMode", lambda entry: entry.mode == "hierarchical", [*READS, *WRITES])
-line_for("PastSize", lambda entry: entry.size < 99_999, ["readblock {} 99999"])
-line_for("PastSize", lambda entry: entry.size < 99_999, ["writeblock {}" + " 1" * 16, "writeblock {} 1 2"])
-line_for("PastSize", lambda entry: entry.mask != WHOLE, ["readblock {} 2", "writeblock {} 1 2"])
-line_for("PastSize", lambda entry: entry.mode == "port", ["readblock {} 4294967295", "readblock {} 2"])
-line_for("BitsOutside", lambda entry: entry.mask != WHOLE, ["write {} 4294967295", "write {} 0x10000", "write {} 16"])
+line_for("NoPermission", lambda entry: entry.permission == "w", READS, {"permission": "w"})
+line_for("NoPermission", lambda entry: entry.permission == "r", WRITES, {"permission": "r"})
+line_for("WrongMode", lambda entry: entry.mode == "hierarchical", [*READS, *WRITES], {"mode": "hierarchical"})
+line_for("PastSize", lambda entry: entry.size < 99_999, ["readblock {} 99999"], {})
+line_for("PastSize", lambda entry: entry.size < 99_999, ["writeblock {}" + " 1" * 16, "writeblock {} 1 2"], {})
+TWO_WORDS = ["readblock {} 2", "writeblock {} 1 2"]
+line_for("PastSize", lambda entry: entry.mask != WHOLE, TWO_WORDS, {"mask": 1})
+OF_A_PORT = ["readblock {} 4294967295", "readblock {} 3"]
+line_for("PastSize", lambda entry: entry.mode == "port" and entry.size > 1, OF_A_PORT, {"mode": "port", "size": 2})
+TOO_WIDE = ["write {} 4294967295", "write {} 0x10000", "write {} 16"]
+line_for("BitsOutside", lambda entry: entry.mask != WHOLE, TOO_WIDE, {"mask": 0xF0})
 MASKED = ["readblock {} 1", "writeblock {} 7", "rmwbits {} 1 2", "rmwsum {} 1"]
-line_for("NotWhole", lambda entry: entry.mask != WHOLE, MASKED)
+line_for("NotWhole", lambda entry: entry.mask != WHOLE, MASKED, {"mask": 0xF0})
 
 
 @breaks("script TooMany")

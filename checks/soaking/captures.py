@@ -22,8 +22,8 @@ def one_board(number: int) -> bytes:
 
 def drawn(number: int) -> Case:
     kind = number % 8
-    if number % SELDOM < 2:
-        words = ("describe", "undescribe")[number % SELDOM]
+    if number % SELDOM in (1, 2):
+        words = ("describe", "undescribe")[number % SELDOM - 1]
         return Case((words,), {TEXT: drawn_capture(number).ljust(MOST_BYTES + 1, b"\n")}, is_costly=True)
     if kind == 6:
         return Case(("record",), {DOCUMENT: one_board(number)})

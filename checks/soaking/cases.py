@@ -2,7 +2,7 @@
 
 A part is a module with two functions. `drawn(number)` gives the case of a number: the same number draws the same case.
 `tried(case, program)` runs it and tells what comes of it. A case is texts alone, so that a shrinker can shorten them and
-a folder can keep them.
+a folder can keep them. `soaking.parts` has a line for each part.
 """
 from collections import Counter
 from collections.abc import Callable, Iterable
@@ -64,7 +64,8 @@ def as_bytes(value: object) -> bytes:
 
 
 class Part(Protocol):
-    """A module that is a part."""
+    """A module that is a part. It may have `FORMS`, which it alone meets, and `SHARE`, how much time it has beside others
+    that have 1."""
 
     __doc__: str | None
     drawn: Callable[[int], Case]

@@ -5,7 +5,7 @@ import random
 import socket
 import tempfile
 
-from model.notes import NOTES, UNWRITTEN, usage_line
+from model.notes import NOTES, UNWRITTEN, memory_note, usage_line
 from net.peers import free_port
 from soaking import forms
 from soaking.cases import Case, Tried
@@ -14,7 +14,10 @@ from soaking.program import Done, Program
 from soaking.toml_text import toml_of
 
 DOCUMENT = "document.toml"
-READERS = ("run", "check", "save", "apply", "audit", "describe", "undescribe", "record")
+READERS = ("run", "check", "save", "apply", "audit", "describe", "undescribe", "record", "serve")
+CAPTURES = ("describe", "undescribe")
+# those that make links to boards behind ports
+LINKING = ("run", "serve", "save", "apply")
 WORDS = """run check serve load audit record describe undescribe save apply main 1 0 64 Run RUN --help -h --version -x -- x
 """.split()
 PORTS = "0 1 65535 65536 0000000001 00000000001 x".split()
@@ -42,11 +45,12 @@ def drawn(number: int) -> Case:
     if kind == "load":
         return Case((kind, "load", str(draw.choice([1, 2, 5, 64, 300, 1000]))), {})
     if kind in ("rack", "door"):
-        command = draw.choice(["run", "serve"]) if kind == "rack" else "serve"
-        return Case((kind, command), {DOCUMENT: of_two_boards(draw)})
+        command = draw.choice(LINKING) if kind == "rack" else "serve"
+        return Case((kind, command), {DOCUMENT: b"state = {}\n" * (command == "apply") + of_two_boards(draw)})
     if kind == "memory":
-        command = draw.choice(["run", "check", "save", "apply", "record", "audit"])
-        return Case((kind, *words_of(command)), {DOCUMENT: document_of(draw, command)})
+        command = draw.choice([*READERS, "load"])
+        data = b"" if command in (*CAPTURES, "load") else document_of(draw, command)
+        return Case((kind, *words_of(command)), {DOCUMENT: data})
     return at_an_end(draw, kind)
 
 
@@ -62,9 +66,9 @@ def drawn_words(draw: random.Random) -> list[str]:
 
 def at_an_end(draw: random.Random, kind: str) -> Case:
     """An input that cannot be read, or an output that cannot be written."""
-    commands = READERS if kind == "unread" else (*READERS, "load", "words", "serve", "refused")
+    commands = READERS if kind == "unread" else (*READERS, "load", "words", "refused")
     command = draw.choice(commands)
-    if command in ("describe", "undescribe"):
+    if command in CAPTURES:
         return Case((kind, command), {DOCUMENT: CAPTURE if command == "describe" else DESCRIPTION})
     if command in ("load", "words"):
         return Case((kind, *(("load", "5") if command == "load" else ("no", "command"))), {DOCUMENT: b""})
@@ -77,7 +81,8 @@ def at_an_end(draw: random.Random, kind: str) -> Case:
 
 
 def words_of(command: str) -> tuple[str, ...]:
-    return {"check": ("check", "main"), "serve": ("serve", "1", "1")}.get(command, (command,))
+    many = {"check": ("check", "main"), "serve": ("serve", "1", "1"), "load": ("load", "100000")}
+    return many.get(command, (command,))
 
 
 def of_two_boards(draw: random.Random) -> bytes:
@@ -100,7 +105,7 @@ def tried(case: Case, program: Program) -> Tried:
     elif kind == "load":
         load(found, program, int(words[1]))
     elif kind == "rack":
-        done = program.run(["run"] if words == ["run"] else ["serve", str(free_port()), "1"], data)
+        done = program.run(["serve", str(free_port()), "1"] if words == ["serve"] else words, data)
         found.meet([f"status {words[0]} {done.status}", *forms.of_note(done.note)])
         found.compare("rack", (done.text, done.status, b"have one address" in done.note), (b"", 7, True))
     elif kind == "door":
@@ -196,14 +201,20 @@ def port_in_use(found: Tried, program: Program, data: bytes) -> None:
 
 
 def little_memory(found: Tried, program: Program, words: list[str], data: bytes) -> None:
-    """A document of the most bytes where there is memory for a part of it: no text, or what is owed."""
-    full = data + b"#" * (16_777_216 - len(data))
-    given = b"%d\n%b" % (len(full), full) if words[0] == "audit" else full
+    """An input of many bytes, or a long load, where there is memory for a part of it: no text."""
     with tempfile.TemporaryFile() as file:
-        file.write(given)
+        file.write(much(words[0], data))
         file.seek(0)
         done = program.run_on(words, file.fileno(), memory=LITTLE)
     found.meet([f"status {words[0]} {done.status}"])
-    found.compare("little memory", done, Done(6, b"", NOTES[6]))
+    found.compare("little memory", done, Done(6, b"", memory_note(words[0])))
 
 
+def much(command: str, data: bytes) -> bytes:
+    """A document of the most bytes, or a text of captures of twice the memory that there is."""
+    if command == "load":
+        return b""
+    if command in CAPTURES:
+        return b"first 1\n" + b"> raw ffff\n" * (2 * LITTLE // 11)
+    full = data + b"#" * (16_777_216 - len(data))
+    return b"%d\n%b" % (len(full), full) if command == "audit" else full

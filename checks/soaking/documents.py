@@ -20,6 +20,8 @@ PAIRS = [(command, rule) for command in forms.COMMANDS for rule in forms.rules_o
 # what takes a second or more: each is drawn once where the others are drawn so often
 COSTLY = ("document TooLong", "compile TooMany", "state TooMany", "script TooMany")
 SELDOM = 20
+# it has most rules to meet
+SHARE = 3.0
 DOCUMENT, TRANSCRIPT, INPUT = "document.toml", "transcript.txt", "input.txt"
 NO_TOML = [b"= 1\n", b"a b\n", b"[\n", b"x = \n", b'x = "\n', b"\xff\xfe\n", b"x = 1\nx = 2\n", b"x = 'a\n", b"[x]]\n"]
 NO_TOML += [b"x = {\n", b"x = [1 2]\n", b"\0", b"x = \x80\n", b"[[tables.main]\n", b"x = 1 y = 2\n", b"x = 0xg\n"]
@@ -40,13 +42,17 @@ def broken(draw: random.Random, document: Table, rule: str) -> None:
 def rules_for(draw: random.Random, number: int) -> tuple[str, list[str]]:
     """The command of a case and the rules that it breaks."""
     command, rule = PAIRS[number % len(PAIRS)]
-    if is_costly(rule) and number // len(PAIRS) % SELDOM != 0:
+    turn = number // len(PAIRS)
+    if is_costly(rule) and turn % SELDOM != 0:
         rule = "document Shape"
+    # what is costly is broken alone at first
+    if is_costly(rule) and turn % (2 * SELDOM) == 0:
+        return command, [rule]
     others = [each for each in forms.rules_of(command) if not is_costly(each)]
     kind = draw.randrange(10)
     if kind == 0:
         return command, []
-    count = 0 if kind < 4 else 1 if kind < 9 else 2
+    count = 0 if kind < 5 else 1 if kind < 9 else 2
     return command, [rule, *(draw.choice(others) for _ in range(count))]
 
 
@@ -73,13 +79,15 @@ def drawn(number: int) -> Case:
         lines.insert(draw.randint(0, len(lines)), draw.choice(NO_TOML))
         data = b"".join(lines)
     if "document TooLong" in rules:
-        data += b"#" * (MOST_BYTES + draw.choice([0, 1, 1, 2]) - len(data))
+        more = draw.choice([1, 2] if len(rules) == 1 else [0, 1, 2])
+        data += b"#" * (MOST_BYTES + more - len(data))
     return case_of(draw, command, data, rules)._replace(is_costly=any(map(is_costly, rules)))
 
 
 def case_of(draw: random.Random, command: str, data: bytes, rules: list[str]) -> Case:
     if command == "check":
-        root = draw.choice(["main", "main", "main", "group", "spare", "none"])
+        roots = ["main"] * (9 if any(rule.startswith("compile") for rule in rules) else 3)
+        root = draw.choice([*roots, "group", "spare", "none"])
         return Case(("check", root), {DOCUMENT: data})
     if command != "audit":
         return Case((command,), {DOCUMENT: data})

@@ -47,9 +47,9 @@ RULES = [f"rule {command} {rule}" for command in COMMANDS for rule in rules_of(c
 RULES += each("rule describe capture", "TooLong First Form Long")
 RULES += each("rule undescribe description", "TooLong NotDescription")
 
-ENDS = {"run": "0 1 3 4 5 6 7", "serve": "0 1 3 5 7 8", "check": "0 1 3 4 5 6", "save": "0 1 3 4 5 6", "load": "0 5"}
-ENDS |= {"apply": "0 1 3 4 5 6", "record": "0 1 3 4 5 6", "audit": "0 1 3 4 5 6"}
-ENDS |= {"describe": "0 3 4 5", "undescribe": "0 3 4 5", "words": "2 5"}
+ENDS = {"run": "0 1 3 4 5 6 7", "serve": "0 1 3 4 5 6 7 8", "check": "0 1 3 4 5 6", "load": "0 5 6"}
+ENDS |= {"save": "0 1 3 4 5 6 7", "apply": "0 1 3 4 5 6 7", "record": "0 1 3 4 5 6", "audit": "0 1 3 4 5 6"}
+ENDS |= {"describe": "0 3 4 5 6", "undescribe": "0 3 4 5 6", "words": "2 5"}
 STATUSES = [f"status {command} {status}" for command, statuses in ENDS.items() for status in statuses.split()]
 
 ANSWERS = ["=", "done", "was", "error 4", "error 5", "error 6", "error 7", "skipped", "garbled"]
@@ -83,10 +83,16 @@ NOTES = {
     "end of the transcript": rb"the transcript ends before it",
     "greeting": rb"MTU \d+, \d+ buffers, next ",
     "silence": rb"does not answer",
+    "answers again": rb"answers again",
+    "out of step": rb"expects \d+ where \d+ is next",
+    "asks of a board": rb"client \d+, board .*: packets \d+, words read ",
+    "assumed MTU": rb"counted for an MTU of 1500",
+    "waits long": rb"waited .* for a board that does not answer",
     "listens": rb"listens on port ",
     "last connection": rb"is the last one",
     "board full": rb"takes no more packets",
     "one address": rb"have one address",
+    "port in use": rb"port \d+: ",
 }
 SAID = [f"said {name}" for name in NOTES]
 FORMS = [*RULES, *STATUSES, *RESULTS, *LINES, *CODES, *CLOSINGS, *AUDITS, *DESCRIBED, *LISTED, *STATES, *SAID]

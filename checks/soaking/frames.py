@@ -90,7 +90,7 @@ def drawn_board(draw: random.Random, is_calm: bool) -> tuple[int, int, int, str]
 
 def drawn(number: int) -> Case:
     draw = random.Random(f"frames {number}")
-    if number % SELDOM == SELDOM - 1:
+    if number % SELDOM == 7:
         return Case(("serve", "full"), {TEXT: b""}, is_costly=True)
     if number % 2:
         connections = [drawn_stream(8 * number + place) for place in range(draw.choice([2, 4, 8]))]

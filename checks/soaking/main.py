@@ -21,7 +21,8 @@ MINUTE = 60.0
 ABOUT = """The same number draws the same case. With --only and --seed and without --minutes the case of that number alone
 is tried. A case that differs is made as small as can be and left in a folder, out/soak/PART_NUMBER by default. Without
 PROGRAM the proved one is tried. An unproved program is tried on all cases but those that take it minutes. The last line is
-'N cases, M differed'; the lines before it say how often each rule, status, result, code and form of a line was met."""
+'N cases, M differed'; the lines before it say how often each rule, status, result, code and form of a line was met. The
+status is 1 if a case differed, or no case met some form: the latter is no failure with --some or --only."""
 
 
 def told() -> argparse.Namespace:
@@ -30,6 +31,7 @@ def told() -> argparse.Namespace:
     parser.add_argument("--minutes", type=float, help="how long cases are drawn (10)")
     parser.add_argument("--seed", type=int, help="the number of the first case of each part (1)")
     parser.add_argument("--only", choices=list(PARTS), metavar="PART", help="the cases of one part")
+    parser.add_argument("--some", action="store_true", help="a form that no case met is no failure, as in a short run")
     parser.add_argument("--jobs", type=int, default=os.cpu_count() or 1, help="how many processes work (all)")
     parser.add_argument("--kept", type=pathlib.Path, default=KEPT, help="the folder for cases that differ")
     parser.add_argument("--planted", nargs="*", metavar="NAME", help="find planted bugs, all or those of these names")
@@ -88,6 +90,10 @@ def soak(
                 take(report)
                 if not waited:
                     break
+        lost = options.jobs - len(workers.readers)
+        if lost:
+            account.is_cut = True
+            print(f"{lost} processes ended before the time, and their cases are lost: see what they said", flush=True)
     except KeyboardInterrupt:
         account.is_stopped = True
         print("stopped", flush=True)
@@ -113,4 +119,5 @@ def main() -> None:
         sys.exit(try_one(options, program))
     account = soak([options.only] if options.only else list(PARTS), options, program)
     print(account.end())
-    sys.exit(1 if account.differing.total() else 0)
+    are_all_wanted = not (options.some or options.only)
+    sys.exit(account.status(are_all_wanted))

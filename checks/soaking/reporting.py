@@ -2,7 +2,7 @@
 import time
 from collections import Counter
 
-from soaking.forms import FORMS
+from soaking.parts import all_forms
 from soaking.working import Report
 
 KINDS = ("document", "table", "policy", "compile", "board", "state", "script", "capture", "description")
@@ -16,8 +16,9 @@ class Account:
     def __init__(self, names: list[str]) -> None:
         self.names = names
         self.began = time.monotonic()
-        # whether somebody ended the run before its time
+        # whether somebody ended the run before its time, and whether processes ended by themselves
         self.is_stopped = False
+        self.is_cut = False
         self.cases: Counter[str] = Counter()
         self.seconds: Counter[str] = Counter()
         self.unjudged: Counter[str] = Counter()
@@ -46,7 +47,7 @@ class Account:
         kinds: Counter[str] = Counter()
         for form, count in rules.items():
             kinds[form.split()[2]] += count
-        counts = ", ".join(f"{kind} {kinds[kind]}" for kind in KINDS if kinds[kind])
+        counts = ", ".join(f"{kind} {kinds[kind]}" for kind in dict.fromkeys([*KINDS, *kinds]) if kinds[kind])
         return f"{sum(kinds.values())} refusals by {len(rules)} rules of commands ({counts or 'none'})"
 
     def line(self) -> str:
@@ -57,20 +58,28 @@ class Account:
         differing = f"{self.differing.total()} differed" + f" ({numbers})" * bool(numbers)
         return f"{minutes:4.0f} min: {self.cases.total()} cases, {self.refusals()}, {differing}{unjudged}"
 
+    def missing(self) -> list[str]:
+        """The forms that no case met."""
+        return [form for form in all_forms() if not self.met[form]]
+
+    def status(self, are_all_wanted: bool) -> int:
+        """The status of the soak: 1 if a case differed, the run was cut off, or no case met some form that is wanted."""
+        return int(self.differing.total() > 0 or self.is_cut or are_all_wanted and bool(self.missing()))
+
     def end(self) -> str:
         """How many cases each part had, how often each form was met, and which were not."""
         lines = [f"{name}: {self.of_part(name)}" for name in self.names]
+        forms, missing = all_forms(), self.missing()
         groups: dict[str, list[str]] = {}
-        for form in FORMS:
+        for form in forms:
             kind, rest = form.split(" ", 1)
             key = f"{kind} {rest.split()[0]}" if kind in ("rule", "status") else kind
             groups.setdefault(key, []).append(f"{form.removeprefix(key).strip()} {self.met[form]}")
         lines += [f"{key}: {', '.join(counts)}" for key, counts in groups.items()]
-        others = sorted(form for form in self.met if form not in set(FORMS))
+        others = sorted(set(self.met) - set(forms))
         if others:
             lines.append(f"met, and on no list: {', '.join(others)}")
-        missing = [form for form in FORMS if not self.met[form]]
-        lines.append(f"{len(FORMS) - len(missing)} of {len(FORMS)} forms were met")
+        lines.append(f"{len(forms) - len(missing)} of {len(forms)} forms were met")
         if missing:
             lines.append(f"not met: {', '.join(missing)}")
         lines.append(f"{self.cases.total()} cases, {self.differing.total()} differed")

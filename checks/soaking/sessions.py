@@ -9,8 +9,16 @@ from model.compiled import compiled, listing
 from model.configuration import Configuration
 from model.configuration import told as configuration_told
 from model.network import run_session
-from model.notes import NOTES, configuration_notes, denial_notes, is_note_of_verdict, unmatched_notes
+from model.notes import (
+    NOTES,
+    asked_notes,
+    configuration_notes,
+    denial_notes,
+    is_note_of_verdict,
+    unmatched_notes,
+)
 from model.recorded import recorded
+from model.refusals import refusal
 from model.replay import Undecided, check_same_but_for_order, check_transcript
 from model.session import Session
 from model.told import Wrong
@@ -102,9 +110,16 @@ def check(tried: Tried, program: Program, data: bytes, root: str) -> None:
         return
     tried.meet(forms.of_listing(done.text.decode()))
     tried.compare("listing", (done.text.decode(), done.status), listing(entries))
+    tried.meet(forms.of_note(done.note))
     names = [board["table"] for board in document["board"]]
-    if "policy" in document and all(is_compiled(document, name) for name in names):
-        tried.compare("note of a listing", done.note, unmatched_notes(Listed(data)))
+    if all(is_compiled(document, name) for name in names):
+        tried.compare("note of a listing", done.note, listing_notes(document, data))
+
+
+def listing_notes(document: dict[str, Any], data: bytes) -> bytes:
+    """What is said beside a listing: which rules of a policy match no register, and what scripts ask that can run."""
+    asked = b"" if refusal("run", data) else asked_notes(Session(data))
+    return (unmatched_notes(Listed(data)) if "policy" in document else b"") + asked
 
 
 def is_compiled(document: dict[str, Any], root: str) -> bool:

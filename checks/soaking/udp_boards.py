@@ -17,7 +17,8 @@ QUIET = 0.5
 
 class Network(NamedTuple):
     """What befalls the datagrams of a board: of a hundred so many are lost, and they are late by so many milliseconds at
-    most. 0 of both is a calm network. The board answers so many packets, and then no more, if that is not 0."""
+    most. 0 of both is a calm network. The board falls silent with the packet of the number `answers` that it executes, if
+    that is not 0."""
 
     seed: int = 0
     lost: int = 0

@@ -15,15 +15,13 @@ from multiprocessing import connection
 from typing import Any
 
 from soaking.cases import Case, Tried
-from soaking.parts import PARTS
+from soaking.parts import PARTS, share_of
 from soaking.program import Program, TooLong, ends_with_its_parent
 from soaking.shrinking import shrunk
 
 # the memory that one process of the second programs may have, in bytes, and the seconds that a case may take there
 MEMORY = 4 << 30
 CASE_SECONDS = 300
-# how much of the time a part has beside the others
-SHARES = {"documents": 3.0}
 # so many cases that differ in one way are made small and kept by each process
 MOST_KEPT = 2
 END_SECONDS = 20
@@ -117,7 +115,7 @@ class Schedule:
     def next(self) -> tuple[int, int]:
         """A part by its place, and the number of its next case."""
         with self.lock:
-            place = min(range(len(self.names)), key=lambda each: self.spent[each] / SHARES.get(self.names[each], 1.0))
+            place = min(range(len(self.names)), key=lambda each: self.spent[each] / share_of(self.names[each]))
             number = self.numbers[place]
             self.numbers[place] = number + 1
             # what is under way counts for a little, so that not all processes take the same part

@@ -18,6 +18,16 @@ NOTES = {
     b"only the text is missing\n",
 }
 
+# the commands that ask no board
+ASK_NO_BOARD = ("check", "audit", "describe", "undescribe")
+
+
+def memory_note(command):
+    """What a command says where memory ran out: one that asks no board says nothing of boards."""
+    front, mark, _ = NOTES[6].partition(b"nothing was written")
+    return front + mark + b"\n" if command in ASK_NO_BOARD else NOTES[6]
+
+
 # where the output could not be written, by what it was to have
 CUT = "ipbus: the output could not be written: {}\n"
 UNWRITTEN = {
