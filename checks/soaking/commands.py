@@ -73,7 +73,7 @@ def at_an_end(draw: random.Random, kind: str) -> Case:
     if command in ("load", "words"):
         return Case((kind, *(("load", "5") if command == "load" else ("no", "command"))), {DOCUMENT: b""})
     if command == "refused":
-        return Case((kind, draw.choice(["run", "save", "apply", "record"])), {DOCUMENT: b"board = 1\n"})
+        return Case((kind, draw.choice(["run", "save", "apply", "record", *CAPTURES])), {DOCUMENT: b"board = 1\n"})
     data = document_of(draw, command)
     if command == "audit":
         return Case((kind, command), {DOCUMENT: b"%d\n%b" % (len(data), data)})
@@ -175,9 +175,12 @@ def unwritten(found: Tried, program: Program, words: list[str], data: bytes) -> 
     listed = program.run(words, data)
     wanted = 5 if listed.text else listed.status
     found.compare("unwritten", done.status, wanted)
-    what = {2: "usage", 3: "refusal"}.get(listed.status, command)
+    refused = {"describe": "refused capture", "undescribe": "refused description"}.get(command, "refusal")
+    what = {2: "usage", 3: refused}.get(listed.status, command)
     if wanted == 5 and what in UNWRITTEN:
-        found.compare("note of unwritten", done.note.endswith(UNWRITTEN[what].encode()), True)
+        # what is said of a refusal stands behind it
+        note = UNWRITTEN[what].encode() + (listed.note if what == refused else b"")
+        found.compare("note of unwritten", done.note.endswith(note), True)
 
 
 def load(found: Tried, program: Program, count: int) -> None:

@@ -41,8 +41,8 @@ def broken(draw: random.Random, document: Table, rule: str) -> None:
 
 def rules_for(draw: random.Random, number: int) -> tuple[str, list[str]]:
     """The command of a case and the rules that it breaks."""
-    command, rule = PAIRS[number % len(PAIRS)]
-    turn = number // len(PAIRS)
+    turn, place = divmod(number - 1, len(PAIRS))
+    command, rule = PAIRS[place]
     if is_costly(rule) and turn % SELDOM != 0:
         rule = "document Shape"
     # what is costly is broken alone at first
