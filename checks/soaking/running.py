@@ -4,6 +4,7 @@ import random
 import re
 from typing import Any, NamedTuple
 
+from hostile.cases import KEPT
 from hostile.datagrams import try_datagrams
 from model.audit import YES, Broken, Lines, audit, audit_input, check_places
 from model.network import run_session
@@ -24,6 +25,8 @@ from soaking.udp_boards import Network, UdpBoards
 SETTINGS, SCRIPTS = "settings.txt", "scripts.txt"
 # an address without a route takes a network of its own, and a long wait some seconds
 SELDOM = 60
+# a board that lies at its greeting, and never expects what the hub sends
+(OUT_OF_STEP,) = KEPT
 LONG_WAIT = re.compile(r"ipbus: client \d+ waited .* in its first 3 dispatches for a board that does not answer; .*\n")
 
 
@@ -82,8 +85,11 @@ def drawn(number: int) -> Case:
     if number % SELDOM == SELDOM - 2:
         told, text = Settings(rounds=2, wait=50, answers=1), "client\n" + "read b0:count\ndispatch\n" * 40
         return Case(("run",), {SETTINGS: settings_text(told), SCRIPTS: text.encode()})
+    if number % SELDOM == SELDOM - 3:
+        return Case(("run", "strange datagrams", str(OUT_OF_STEP)), {})
     if number % 6 == 5:
-        return Case(("run", "strange datagrams", str(number)), {})
+        # of odd numbers the board lies, of even ones it sends what is strange beside its answers
+        return Case(("run", "strange datagrams", str(number // 6)), {})
     is_hasty, boards = number % 3 == 2, draw.choice([1, 2, 3])
     clients = boards if number % 3 == 0 else draw.choice([1, 2, 4])
     scripts = drawn_scripts(draw, boards, clients)
