@@ -276,6 +276,15 @@ def a_block_past_the_end(draw: random.Random, document: Table) -> None:
     put_node(draw, document, {"id": "end", "address": 0xFFFFFFFF, "mode": draw.choice(["block", "port"]), "size": size})
 
 
+@breaks("compile AddressPastEnd")
+def one_word_past_the_end(draw: random.Random, document: Table) -> None:
+    """A block, a node below another one or the second of an array has the address 0x100000000."""
+    more = draw.choice([{"mode": "block", "size": 2}, {"nodes": [{"id": "a", "address": 1}]}, {"count": 2}])
+    if "count" in more:
+        document["format"] = 2
+    put_node(draw, document, {"id": "end", "address": 0xFFFFFFFF, **more})
+
+
 @breaks("compile TooMany")
 def too_many_names(draw: random.Random, document: Table) -> None:
     document["format"] = 2
