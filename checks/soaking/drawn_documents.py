@@ -120,7 +120,7 @@ class DrawDocument:
     def board(self, place: int) -> Table:
         board: Table = {"name": f"b{place}", "table": "main"}
         # what scripts ask of a board on a network is said beside a listing
-        if self.command == "check" and self.maybe(0.2):
+        if self.command == "check" and self.maybe(0.4):
             board |= {"link": "udp", "address": f"127.0.0.1:{place + 1}"}
             return board | ({"wait": self.number(self.draw.choice([1, 10_000]))} if self.maybe(0.5) else {})
         settings = {

@@ -63,7 +63,8 @@ class UdpBoard(threading.Thread):
             self.answers_left -= 1
         for strange in self.going.strange(self.device.expected):
             self.socket.sendto(strange, peer)
-        if answer is not None and self.answers_left != 0:
+        is_silent = self.answers_left is not None and self.answers_left <= 0
+        if answer is not None and not is_silent:
             self.carry(False, answer, peer)
 
     def arrive(self) -> None:
