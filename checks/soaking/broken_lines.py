@@ -243,5 +243,6 @@ def many_words(draw: random.Random, document: Table) -> None:
 
 @breaks("script TooMany")
 def many_lines(draw: random.Random, document: Table) -> None:
-    lines = draw.choice([["#"] * 200_001, ["read b0:n0"] * 100_001, ["dispatch"] * 200_001])
+    put_node(draw, document, {"id": "lines", "address": 0x100})
+    lines = draw.choice([["#"] * 200_001, ["read b0:lines"] * 100_001, ["dispatch"] * 200_001])
     document["client"] = [{"script": []}, {"script": lines}]

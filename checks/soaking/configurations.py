@@ -21,7 +21,21 @@ def other_state(number: int) -> bytes:
     return toml_of(document)
 
 
+def denied_writes(number: int) -> bytes:
+    """A session whose policy denies each write of the value that the register has: the status alone tells of it."""
+    draw = random.Random(f"denied {number}")
+    document = DrawDocument(draw, "apply").document()
+    for board in document["board"]:
+        board["ranges"] = [{"base": 0, "size": 0x10000}]
+        document["state"][board["name"]] = dict.fromkeys(document["state"].get(board["name"], []), 0)
+    rules = [("deny", "w"), ("allow", "r")]
+    document["policy"] = [{"effect": effect, "access": access, "name": "*:**"} for effect, access in rules]
+    return toml_of(document)
+
+
 def drawn(number: int) -> Case:
+    if number % 24 == 5:
+        return Case(("apply",), {DOCUMENT: denied_writes(number)})
     kind = number % 6
     if kind == 0:
         return Case(("save",), {DOCUMENT: drawn_boards(number)})

@@ -50,7 +50,8 @@ def rules_for(draw: random.Random, number: int) -> tuple[str, list[str]]:
         return command, [rule]
     others = [each for each in forms.rules_of(command) if not is_costly(each)]
     kind = draw.randrange(10)
-    if kind == 0:
+    # no other part has documents that are listed
+    if kind == 0 or command == "check" and kind < 4:
         return command, []
     count = 0 if kind < 5 else 1 if kind < 9 else 2
     return command, [rule, *(draw.choice(others) for _ in range(count))]

@@ -70,6 +70,8 @@ class DrawDocument:
         node: Table = {"id": id, "address": self.number(address), "mode": "hierarchical"}
         if self.maybe(0.2):
             del node["mode"]
+        if self.maybe(0.3):
+            node["permission"] = self.draw.choice(PERMISSIONS)
         if depth == 0 and self.maybe(0.5):
             node["module"] = "group"
         else:
@@ -95,6 +97,9 @@ class DrawDocument:
 
     def tables(self) -> Table:
         main = [self.node(f"n{place}", ROOM * place) for place in range(self.draw.randint(1, 5))]
+        # registers that overlap are told beside a listing
+        if self.command == "check" and self.maybe(0.3):
+            main.append(self.word("over", ROOM * self.draw.randrange(len(main))))
         found = {"main": main, "group": [self.node(f"g{place}", INNER * place, 1) for place in range(2)]}
         if self.maybe(0.2):
             found["spare"] = [self.word("s", 0)] if self.maybe(0.5) else []

@@ -69,7 +69,8 @@ DESCRIBED = [f"described {row}" for row in [*ROWS, "reply read 1", "proved 0", "
 PERMISSIONS, KINDS = ("r", "w", "rw"), ("single", "block", "port", "hierarchical")
 MODES = [f"{permission} {mode}" for permission in PERMISSIONS for mode in KINDS]
 LISTED = [f"listed {mode}" for mode in [*MODES, "overlap"]]
-STATES = [f"state {line}" for line in ("value", "error", "timeout", "late", "skipped", "unsent", "denied")]
+# nothing is asked of a board behind the reads of its registers, so none of them is answered late
+STATES = [f"state {line}" for line in ("value", "error", "timeout", "skipped", "unsent", "denied")]
 NOTES = {
     "rule denied": rb"policy rule \d+ denied ",
     "no rule allowed": rb"no rule of the policy allowed ",
