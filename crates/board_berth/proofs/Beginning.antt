@@ -97,7 +97,7 @@ module _ {L : Type 0} (seen : Ghosts L) where
 
   -- ---- the record grows
 
-  new_entries : (settings : Limits) (number client before : ℕ) (greeting : Greeting L)
+  pub new_entries : (settings : Limits) (number client before : ℕ) (greeting : Greeting L)
       → IsNew seen settings number client greeting → AreMadeBy client (entries_from before (stretch_of seen.telling greeting))
   new_entries settings number client before (Answered by lane) new =
       let none : lane.items ≡ [] = ap (λ (l : LaneState L). l.items) new.new in

@@ -53,7 +53,7 @@ module _ {L : Type 0} (tells : L → Option Telling) where
 
   -- ---- a call on the lane of the present one
 
-  same_head : (client : ℕ) (old new : LaneState L) → LaneGrows tells client old new
+  pub same_head : (client : ℕ) (old new : LaneState L) → LaneGrows tells client old new
       → head_shown tells new ≡ head_shown tells old
   same_head client old new grows =
       let settings : new.settings ≡ old.settings = grows.settings in
