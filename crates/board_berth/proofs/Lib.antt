@@ -6,3 +6,4 @@ pub mod Found
 pub mod Means
 pub mod Submitting
 pub mod Beginnings
+pub mod AskedAll

@@ -44,7 +44,7 @@ use Rattle.board_berth.proofs.Means.{asks_in, grew, planned_is, same}
 -- ---- what a pass knows of its client, greeting by greeting
 
 -- all entries of the maker are those of the opening and those past it
-all_made : (k : Knowledge) (r : Record) → Told k r
+pub all_made : (k : Knowledge) (r : Record) → Told k r
     → made_by k.number k.opening.entries ++ k.mine ≡ made_by k.number r.entries
 all_made k r told =
     let rest = told.opening_begins.entries in
@@ -58,7 +58,7 @@ abbrev pub own_in : ℕ → List Stretch → List Item
 own_in n [] = []
 own_in n (s ∷ later) = of_client n s.items ++ own_in n later
 
-read_made : CanBeRead → (n : ℕ) (items : List Item)
+pub read_made : CanBeRead → (n : ℕ) (items : List Item)
     → filter_map item_from (made_by n (map as_recorded items)) ≡ of_client n items
 read_made read n [] = refl
 read_made read n (x ∷ xs) = cases (eqb x.client n) (read_made read n xs)
@@ -70,7 +70,7 @@ read_made read n (x ∷ xs) = cases (eqb x.client n) (read_made read n xs)
     cases false e = e
 
 -- the entry in front of a greeting is of no body
-read_greeted : (n before : ℕ) (s : Stretch) (rest : List Recorded)
+pub read_greeted : (n before : ℕ) (s : Stretch) (rest : List Recorded)
     → filter_map item_from (made_by n (greeted_entry before s ∷ rest)) ≡ filter_map item_from (made_by n rest)
 read_greeted n before s rest = cases (eqb s.by n)
   where
@@ -79,7 +79,7 @@ read_greeted n before s rest = cases (eqb s.by n)
     cases true = refl
     cases false = refl
 
-read_all : CanBeRead → (n before : ℕ) (ss : List Stretch)
+pub read_all : CanBeRead → (n before : ℕ) (ss : List Stretch)
     → filter_map item_from (made_by n (entries_from before ss)) ≡ own_in n ss
 read_all read n before [] = refl
 read_all read n before (s ∷ later) =
@@ -91,12 +91,12 @@ read_all read n before (s ∷ later) =
     ∙ (ap (λ (l : List Item). l ++ filter_map item_from (made_by n rest)) (read_made read n s.items)
     ∙ ap (λ (l : List Item). of_client n s.items ++ l) (read_all read n (before + 1) later))))
 
-asked_more : (n : ℕ) (some more : List Item)
+pub asked_more : (n : ℕ) (some more : List Item)
     → asked_count n (some ++ more) ≡ asked_count n some + asked_count n more
 asked_more n some more = ap length (numbers_append ask_in n some more)
     ∙ length-append (numbers ask_in n some) (numbers ask_in n more)
 
-planned_with : (n : ℕ) (some more : List Item)
+pub planned_with : (n : ℕ) (some more : List Item)
     → planned_count n (some ++ more) ≡ planned_count n some + planned_count n more
 planned_with n some more = ap length (numbers_append plan_in n some more)
     ∙ length-append (numbers plan_in n some) (numbers plan_in n more)
