@@ -1,5 +1,5 @@
 -- Whether every planned body of a client was asked, after a call on a hub of berths.
-use Rattle.std.proofs.Common.{◌≡◌, ◌∙◌, ℕ, ◌+◌, List, [], ◌∷◌, ◌++◌, map, length, refl, sym, ap, subst, arith, ⊎_elim}
+use Rattle.std.proofs.Common.{◌≡◌, ◌∙◌, ℕ, List, [], ◌∷◌, ◌++◌, map, length, refl, sym, ap, subst, arith, ⊎_elim}
 use Rattle.std.proofs.Common.{append_assoc, append-nil, eqb}
 use Rattle.std.specs.List.{AllByRecursion, filter_map}
 use Rattle.std.proofs.lemmas.List.Elements.{filter-append, filter_map-append}
@@ -62,12 +62,12 @@ asked_all_found read k lane added told f all =
     let last = of_client n lane.items in
     let items = map as_recorded lane.items in
     let own : own_items k ≡ own_in n f.past ++ last =
-        ap (filter_map item_from) (all_made k (berth_manner.shows lane) told)
-        ∙ (ap (filter_map item_from) (filter-append (λ (x : Recorded). eqb x.entry.maker n) lane.front items)
-        ∙ (filter_map-append item_from (made_by n lane.front) (made_by n items)
-        ∙ (ap (λ (l : List Item). l ++ filter_map item_from (made_by n items))
-        (front_own_of read n (with_more lane added) f)
-        ∙ ap (λ (l : List Item). own_in n f.past ++ l) (read_made read n lane.items)))) in
+    ap (filter_map item_from) (all_made k (berth_manner.shows lane) told)
+    ∙ (ap (filter_map item_from) (filter-append (λ (x : Recorded). eqb x.entry.maker n) lane.front items)
+    ∙ (filter_map-append item_from (made_by n lane.front) (made_by n items)
+    ∙ (ap (λ (l : List Item). l ++ filter_map item_from (made_by n items))
+    (front_own_of read n (with_more lane added) f)
+    ∙ ap (λ (l : List Item). own_in n f.past ++ l) (read_made read n lane.items)))) in
     let over = over_all lane.head n f.past f.over in
     let asked = asked_more n (own_in n f.past) last in
     let planned = planned_with n (own_in n f.past) last in
@@ -85,8 +85,8 @@ begun_still k after b all =
     let opened = made_by k.number k.opening.entries in
     let number : after.number ≡ k.number = ap (λ (z : Knowledge). z.number) b.rest_same in
     let own : own_items after ≡ own_items k =
-        (λ i. filter_map item_from (made_by (b.rest_same i).number (b.rest_same i).opening.entries ++ b.mine_now i))
-        ∙ (ap (filter_map item_from) (sym (append_assoc opened k.mine b.grew.added))
-        ∙ (filter_map-append item_from (opened ++ k.mine) b.grew.added
-        ∙ (ap (λ (l : List Item). own_items k ++ l) b.no_body ∙ append-nil (own_items k)))) in
+    (λ i. filter_map item_from (made_by (b.rest_same i).number (b.rest_same i).opening.entries ++ b.mine_now i))
+    ∙ (ap (filter_map item_from) (sym (append_assoc opened k.mine b.grew.added))
+    ∙ (filter_map-append item_from (opened ++ k.mine) b.grew.added
+    ∙ (ap (λ (l : List Item). own_items k ++ l) b.no_body ∙ append-nil (own_items k)))) in
     (λ i. asked_count (number i) (own i)) ∙ (all ∙ (λ i. planned_count (sym number i) (sym own i)))

@@ -2,24 +2,22 @@
 use Rattle.std.proofs.Common.{◌≡◌, ◌∙◌, ◌⊎◌, ℕ, List, [], ◌∷◌, ◌++◌, length, map, refl, sym, ap, subst, inl, inr, append-nil}
 use Rattle.std.specs.Prelude.{Result, Ok, Err, IfOk, OnErr}
 use Rattle.std.specs.List.{filter_map}
-use Rattle.turn_pass.specs.Record.{AreMadeBy, GrowsBy, Record, Recorded}
+use Rattle.turn_pass.specs.Record.{GrowsBy, Record, Recorded}
 use Rattle.world_model.specs.Settings.{Limits}
 use Rattle.links.specs.declared.link.Link.{Ghosts}
 use Rattle.lane_record.specs.declared.item.Item.{Item}
-use Rattle.lane_record.specs.declared.outcome.Outcome.{Outcome}
-use Rattle.lane_record.specs.Coding.{Head, as_recorded, item_from}
+use Rattle.lane_record.specs.Coding.{as_recorded, item_from}
 use Rattle.lane_tables.specs.Taken.{IsAllTaken}
 use Rattle.hub_lane.specs.Lanes.{LaneState}
 use Rattle.hub_lane.specs.Records.{head_shown}
 use Rattle.hub_multiplexer.specs.AnyCalls.{BeginsAs}
-use Rattle.hub_multiplexer.specs.Manner.{FoundLane}
 use Rattle.board_berth.specs.declared.answers.Begun.{Begun}
 use Rattle.board_berth.specs.declared.answers.NotBegun.{NotBegun}
 use Rattle.board_berth.specs.declared.greeting.Greeting.{Greeting}
 use Rattle.board_berth.specs.declared.greeting.Greeting.TheVariants.{Answered, Silent, Down}
 use Rattle.board_berth.specs.Berths.{BerthState, IsBerth, berth_record}
 use Rattle.board_berth.specs.Calls.{Begins, IsSameBerth}
-use Rattle.board_berth.specs.Greetings.{IsNew, IsOver, IsSameGreeting, items_in}
+use Rattle.board_berth.specs.Greetings.{IsNew, IsSameGreeting, items_in}
 use Rattle.board_berth.specs.Manner.{IsBegun, berth_manner}
 use Rattle.board_berth.specs.Records.{entries_from, greeted_entry, stretch_of, stretches}
 use Rattle.board_berth.proofs.Beginning.{new_entries, same_record}
@@ -51,7 +49,7 @@ module _ {L : Type 0} (seen : Ghosts L) where
       let none = sym (no_items settings number client by lane new) in
       let before = entries_from 0 (stretches seen.telling past) in
       let first = greeted_entry (length (stretches seen.telling past))
-          (record { by = by; head = head_shown seen.telling lane; items = [] }) in
+      (record { by = by; head = head_shown seen.telling lane; items = [] }) in
       ap (λ (items : List Item). before ++ first ∷ (map as_recorded items ++ [])) none
   front_is s n settings number client past (Silent link) new = sym (append-nil _)
   front_is s n settings number client past (Down link) new = sym (append-nil _)
@@ -62,9 +60,13 @@ module _ {L : Type 0} (seen : Ghosts L) where
       (record { by = by; head = (found_in seen s n past greeting).head; items = [] }) ∷ []))
   told_is s n settings number client past (Answered by lane) new =
       let first = greeted_entry (length (stretches seen.telling past))
-          (record { by = by; head = head_shown seen.telling lane; items = [] }) in
-      inr (length (stretches seen.telling past), by, ap (λ (items : List Item). first ∷ (map as_recorded items ++ []))
-      (no_items settings number client by lane new))
+      (record { by = by; head = head_shown seen.telling lane; items = [] }) in
+      inr (
+        length (stretches seen.telling past),
+        by,
+        ap (λ (items : List Item). first ∷ (map as_recorded items ++ []))
+            (no_items settings number client by lane new),
+      )
   told_is s n settings number client past (Silent link) new = inl refl
   told_is s n settings number client past (Down link) new = inl refl
 

@@ -1,10 +1,9 @@
 -- What a pass finds of a berth, and what the greetings make of it.
-use Rattle.std.proofs.Common.{◌≡◌, ◌∙◌, ℕ, ◌+◌, ◌<◌, List, [], ◌∷◌, ◌++◌, length, map, Option, None, refl, sym, ap, inl, inr}
+use Rattle.std.proofs.Common.{◌≡◌, ◌∙◌, ℕ, List, [], ◌∷◌, ◌++◌, length, map, Option, None, refl, sym, ap, inl, inr}
 use Rattle.std.proofs.Common.{subst, arith, append_assoc, append-nil}
 use Rattle.std.specs.List.{AllByRecursion}
 use Rattle.turn_pass.specs.Record.{Record, Recorded}
 use Rattle.world_model.specs.Settings.{Limits}
-use Rattle.links.specs.Telling.{Telling}
 use Rattle.links.specs.declared.link.Link.{Ghosts}
 use Rattle.lane_record.specs.declared.outcome.Outcome.{Outcome}
 use Rattle.lane_record.specs.declared.item.Item.{Item}
@@ -16,11 +15,11 @@ use Rattle.hub_lane.specs.Records.{head_shown}
 use Rattle.hub_multiplexer.specs.Manner.{FoundLane}
 use Rattle.board_berth.specs.declared.greeting.Greeting.{Greeting}
 use Rattle.board_berth.specs.declared.greeting.Greeting.TheVariants.{Answered, Silent, Down}
-use Rattle.board_berth.specs.Berths.{BerthState, IsBerth, berth_record, greetings_of}
+use Rattle.board_berth.specs.Berths.{BerthState, IsBerth, berth_record}
 use Rattle.board_berth.specs.Calls.{Calls, LaneGrows, OnLane}
 use Rattle.board_berth.specs.Greetings.{IsMet, IsOver, IsPast, IsPresent, items_in}
 use Rattle.board_berth.specs.Manner.{IsFoundBerth, IsOverBefore, berth_manner}
-use Rattle.board_berth.specs.Records.{Stretch, entries_from, greeted_entry, record_of_all, stretch_of, stretches}
+use Rattle.board_berth.specs.Records.{entries_from, greeted_entry, record_of_all, stretches}
 use Rattle.board_berth.proofs.Growing.{all_entries, same_head}
 
 -- ---- a greeting without entries
@@ -122,11 +121,11 @@ module _ {L : Type 0} (seen : Ghosts L) where
   shows_is settings number past (Answered by lane) met =
       let front = entries_from 0 (stretches seen.telling past) in
       let first = greeted_entry (length (stretches seen.telling past))
-          (record { by = by; head = head_shown seen.telling lane; items = [] }) in
+      (record { by = by; head = head_shown seen.telling lane; items = [] }) in
       let items = map as_recorded lane.items in
       let entries = all_entries seen.telling past (Answered by lane)
-          ∙ (ap (λ (l : List Recorded). front ++ first ∷ l) (append-nil items)
-          ∙ sym (append_assoc front (first ∷ []) items)) in
+      ∙ (ap (λ (l : List Recorded). front ++ first ∷ l) (append-nil items)
+      ∙ sym (append_assoc front (first ∷ []) items)) in
       let limits = sym met.same_settings in
       let numbers = sym met.same_number in
       λ i. record {

@@ -1,9 +1,9 @@
 -- How the record of a berth grows.
-use Rattle.std.proofs.Common.{◌≡◌, ◌∙◌, ℕ, ◌+◌, ◌<◌, List, [], ◌∷◌, ◌++◌, length, map, Option, refl, sym, ap, subst, arith}
-use Rattle.std.proofs.Common.{append_assoc, append-nil, length-append}
-use Rattle.std.proofs.lemmas.List.{length-map, map-append}
+use Rattle.std.proofs.Common.{◌≡◌, ◌∙◌, ℕ, ◌+◌, List, [], ◌∷◌, ◌++◌, length, map, Option, refl, sym, ap, subst, arith}
+use Rattle.std.proofs.Common.{append_assoc, append-nil}
+use Rattle.std.proofs.lemmas.List.{map-append}
 use Rattle.std.specs.List.{AllByRecursion}
-use Rattle.turn_pass.specs.Record.{AreMadeBy, GrowsBy, Record, Recorded}
+use Rattle.turn_pass.specs.Record.{AreMadeBy, GrowsBy, Recorded}
 use Rattle.world_model.specs.Settings.{Limits}
 use Rattle.links.specs.Telling.{Telling}
 use Rattle.lane_record.specs.declared.item.Item.{Item}

@@ -7,3 +7,4 @@ pub mod Means
 pub mod Submitting
 pub mod Beginnings
 pub mod AskedAll
+pub mod Shares

@@ -1,8 +1,8 @@
 -- What a call on a berth means to whoever finds it.
-use Rattle.std.proofs.Common.{◌≡◌, ◌∙◌, ℕ, ◌<◌, List, [], ◌∷◌, ◌++◌, Some, None, refl, sym, ap, subst, arith, append-nil}
+use Rattle.std.proofs.Common.{◌≡◌, ◌∙◌, ℕ, ◌<◌, List, [], ◌∷◌, ◌++◌, Some, None, refl, sym, ap, subst, append-nil}
 use Rattle.std.specs.List.{AllByRecursion}
 use Rattle.turn_pass.specs.Record.{Record}
-use Rattle.turn_pass.specs.Pass.{Knowledge, Told}
+use Rattle.turn_pass.specs.Pass.{Knowledge}
 use Rattle.lane_record.specs.declared.item.Item.{Item}
 use Rattle.lane_record.specs.Items.{asked_count, planned_count}
 use Rattle.lane_record.specs.NextEntry.{ask_of, took_of}
@@ -33,7 +33,7 @@ use Rattle.board_berth.specs.Berths.{BerthState, IsBerth, berth_record}
 use Rattle.board_berth.specs.Calls.{Calls, LaneGrows, OnLane}
 use Rattle.board_berth.specs.Greetings.{IsPresent, items_in}
 use Rattle.board_berth.specs.Manner.{IsFoundBerth, berth_manner}
-use Rattle.board_berth.proofs.Found.{Found, KeepsHead, found_by_call, keeps_head, nothing_to_take, same_keeps_head}
+use Rattle.board_berth.proofs.Found.{Found, found_by_call, keeps_head, nothing_to_take, same_keeps_head}
 
 -- ---- by what was found
 

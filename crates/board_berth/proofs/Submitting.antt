@@ -1,6 +1,6 @@
 -- A body that is planned and asked in one call on a berth.
 use Rattle.std.proofs.Common.{◌≡◌, ◌∙◌, ◌<◌, ◌+◌, inl, inr, ℕ, eqb, Bool, true, false, cond, List, [], ◌∷◌, ◌++◌, length, drop}
-use Rattle.std.proofs.Common.{map, Some, refl, sym, ap, subst, arith, append-nil, append_assoc, length-append, IfErr, Result, Ok, Err}
+use Rattle.std.proofs.Common.{map, refl, sym, ap, subst, arith, append-nil, append_assoc, length-append}
 use Rattle.std.specs.List.{AllByRecursion, filter_map}
 use Rattle.std.proofs.Math.Seq.{drop-append_seam}
 use Rattle.std.proofs.lemmas.List.Elements.{filter-append, filter_map-append}
@@ -14,8 +14,6 @@ use Rattle.lane_record.specs.Coding.{as_recorded, item_from}
 use Rattle.lane_record.specs.Items.{ask_in, asked_count, numbers, plan_in, planned_count}
 use Rattle.lane_record.specs.NextEntry.{ask_of, plan_of}
 use Rattle.lane_record.proofs.Lookups.{numbers_append}
-use Rattle.lane_tables.specs.Taken.{IsAllTaken}
-use Rattle.hub_lane.specs.Calls.{AsksAs}
 use Rattle.hub_lane.specs.Lanes.{LaneState}
 use Rattle.hub_lane.specs.Plans.{CanPlan, IsRefused, Plans}
 use Rattle.hub_lane.specs.declared.answers.Asked.TheVariants as asks
@@ -23,7 +21,7 @@ use Rattle.hub_lane.specs.declared.answers.PlanRefusal.{PlanRefusal}
 use Rattle.hub_lane.specs.declared.answers.PlanRefusal.TheVariants as refusals
 use Rattle.hub_multiplexer.specs.AnyCalls.{HasSubmittedAs, MeansAs}
 use Rattle.hub_multiplexer.specs.Manner.{FoundLane, IsAllAsked}
-use Rattle.hub_multiplexer.specs.OwnItems.{asked_by, of_client, own_items, planned_by}
+use Rattle.hub_multiplexer.specs.OwnItems.{of_client, own_items}
 use Rattle.hub_multiplexer.proofs.LaneCalls.{IsPlanLaw}
 use Rattle.hub_multiplexer.proofs.OwnItems.{CanBeRead, asked_own, planned_own}
 use Rattle.hub_multiplexer.proofs.Submits.{asked_same, planned_more}
@@ -35,10 +33,9 @@ use Rattle.board_berth.specs.Berths.{BerthState, IsBerth, berth_record, greeting
 use Rattle.board_berth.specs.Calls.{Calls, CallsLane, IsAskedIn, IsRefusedAt, LaneGrows, OnLane}
 use Rattle.board_berth.specs.Greetings.{IsPast, items_in}
 use Rattle.board_berth.specs.Manner.{BerthRefused, RefusedByLane, berth_manner}
-use Rattle.board_berth.specs.Records.{Stretch, entries_from, greeted_entry, stretch_of, stretches}
-use Rattle.board_berth.proofs.Found.{Found, KeepsHead, found_by_call, found_in, keeps_head}
+use Rattle.board_berth.specs.Records.{Stretch, entries_from, greeted_entry, stretches}
+use Rattle.board_berth.proofs.Found.{KeepsHead, found_by_call, found_in, keeps_head}
 use Rattle.board_berth.proofs.Found.{on_lane_twice, outcomes_in, same_keeps_head}
-use Rattle.board_berth.proofs.Growing.{with_present}
 use Rattle.board_berth.proofs.Means.{asks_in, grew, planned_is, same}
 
 -- ---- what a pass knows of its client, greeting by greeting
@@ -145,11 +142,11 @@ module _ {L : Type 0} (seen : Ghosts L) where
       let n = k.number in
       let items = items_in berth.present in
       let own : own_items k ≡ own_in n (stretches seen.telling berth.past) ++ of_client n items =
-          ap (filter_map item_from) (all_made k (berth_record seen.telling berth) told)
-          ∙ (read_all read n 0 (stretches seen.telling (greetings_of berth))
-          ∙ own_of_last n berth.past berth.present) in
+      ap (filter_map item_from) (all_made k (berth_record seen.telling berth) told)
+      ∙ (read_all read n 0 (stretches seen.telling (greetings_of berth))
+      ∙ own_of_last n berth.past berth.present) in
       let last = all_but_present berth.settings berth.number n berth.past (of_client n items) sound.of_past
-          (subst (λ (l : List Item). asked_count n l ≡ planned_count n l) own all) in
+      (subst (λ (l : List Item). asked_count n l ≡ planned_count n l) own all) in
       subst (λ (c : ℕ). asked_count c items ≡ planned_count c items) number
       (sym (asked_own n items) ∙ (last ∙ planned_own n items))
 
@@ -205,95 +202,95 @@ module _ {L : Type 0} (seen : Ghosts L) where
   }
 
   module _ (client : ℕ) (body : List ℕ) (old mid new : BerthState L) (was : IsBerth seen old) (is : IsBerth seen new)
-      where
-    pub submit_means : IsPlanLaw → IsBerth seen mid → (seq : ℕ)
-        → asked_count client (items_in old.present) ≡ planned_count client (items_in old.present)
-        → CallsLane (λ lane after. Plans lane client body after seq) old mid
-        → Calls (LaneGrows seen.telling client) (Unit {0}) old mid → IsAskedIn mid client new
-        → Calls (LaneGrows seen.telling client) (Unit {0}) mid new
-        → MeansAs berth_manner client (berth_record seen.telling old) (λ k. HasSubmittedAs berth_manner k body seq)
-        (berth_record seen.telling new)
-    submit_means law between seq all planned grew_first asked grew_then =
-        let before = berth_record seen.telling old in
-        let after = berth_record seen.telling new in
-        let f = found_by_call seen old new was is (both_keep old mid new (keeps_head seen client old mid grew_first)
-            (keeps_head seen client mid new grew_then)) in
-        let n = asked.seq in
-        let on = asks_in seen law mid.settings mid.number client (asks.Asked n) mid.present new.present between.of_present
-            asked.as_next.on_lane in
-        let items = items_planned client seq body old.present mid.present planned.on_lane in
-        let number' = planned_next client seq body old.present mid.present planned.on_lane in
-        let n_is : n ≡ seq = on.0 ∙ (ap (asked_count client) items
-            ∙ (asked_same client seq body (items_in old.present) ∙ (all ∙ sym number'))) in
-        let g = on.2 in
-        let whole : items_in new.present
-            ≡ items_in old.present ++ plan_of client seq body ∷ ask_of client seq g ∷ [] = on.3
-            ∙ ((λ i. items i ++ ask_of client (n_is i) g ∷ [])
-            ∙ append_assoc (items_in old.present) (plan_of client seq body ∷ []) (ask_of client seq g ∷ [])) in
-        record {
-          added = plan_of client seq body ∷ ask_of client seq g ∷ [];
-          grew = grew seen client before after f (plan_of client seq body ∷ ask_of client seq g ∷ []) whole
-              (refl, (refl, tt));
-          to_finder = λ k told number. record {
-            next = number' ∙ sym (planned_is seen client before after f k number);
-            can = planned_can old.settings old.number client seq body old.past old.present mid.present planned.on_lane;
-            give_ups = g;
-            entries = λ i. plan_of (sym number i) seq body ∷ ask_of (sym number i) seq g ∷ [];
-          };
-        }
+    where
+      pub submit_means : IsPlanLaw → IsBerth seen mid → (seq : ℕ)
+          → asked_count client (items_in old.present) ≡ planned_count client (items_in old.present)
+          → CallsLane (λ lane after. Plans lane client body after seq) old mid
+          → Calls (LaneGrows seen.telling client) (Unit {0}) old mid → IsAskedIn mid client new
+          → Calls (LaneGrows seen.telling client) (Unit {0}) mid new
+          → MeansAs berth_manner client (berth_record seen.telling old) (λ k. HasSubmittedAs berth_manner k body seq)
+          (berth_record seen.telling new)
+      submit_means law between seq all planned grew_first asked grew_then =
+          let before = berth_record seen.telling old in
+          let after = berth_record seen.telling new in
+          let f = found_by_call seen old new was is (both_keep old mid new (keeps_head seen client old mid grew_first)
+          (keeps_head seen client mid new grew_then)) in
+          let n = asked.seq in
+          let on = asks_in seen law mid.settings mid.number client (asks.Asked n) mid.present new.present between.of_present
+          asked.as_next.on_lane in
+          let items = items_planned client seq body old.present mid.present planned.on_lane in
+          let number' = planned_next client seq body old.present mid.present planned.on_lane in
+          let n_is : n ≡ seq = on.0 ∙ (ap (asked_count client) items
+          ∙ (asked_same client seq body (items_in old.present) ∙ (all ∙ sym number'))) in
+          let g = on.2 in
+          let whole : items_in new.present
+          ≡ items_in old.present ++ plan_of client seq body ∷ ask_of client seq g ∷ [] = on.3
+          ∙ ((λ i. items i ++ ask_of client (n_is i) g ∷ [])
+          ∙ append_assoc (items_in old.present) (plan_of client seq body ∷ []) (ask_of client seq g ∷ [])) in
+          record {
+            added = plan_of client seq body ∷ ask_of client seq g ∷ [];
+            grew = grew seen client before after f (plan_of client seq body ∷ ask_of client seq g ∷ []) whole
+                (refl, (refl, tt));
+            to_finder = λ k told number. record {
+              next = number' ∙ sym (planned_is seen client before after f k number);
+              can = planned_can old.settings old.number client seq body old.past old.present mid.present planned.on_lane;
+              give_ups = g;
+              entries = λ i. plan_of (sym number i) seq body ∷ ask_of (sym number i) seq g ∷ [];
+            };
+          }
 
-    -- planned, and then memory ran out
-    pub planned_means : (seq : ℕ) → CallsLane (λ lane after. Plans lane client body after seq) old mid
-        → Calls (LaneGrows seen.telling client) (Unit {0}) old mid → new ≡ mid
-        → MeansAs berth_manner client (berth_record seen.telling old)
-        (λ k. BerthRefused k body (refuses.ByLane refusals.NoMemory)) (berth_record seen.telling new)
-    planned_means seq planned grows stays =
-        let before = berth_record seen.telling old in
-        let after = berth_record seen.telling new in
-        let f = found_by_call seen old new was is (both_keep old mid new (keeps_head seen client old mid grows)
-            (same_keeps_head seen mid new stays)) in
-        let number' = planned_next client seq body old.present mid.present planned.on_lane in
-        let items = ap (λ (b : BerthState L). items_in b.present) stays
-            ∙ items_planned client seq body old.present mid.present planned.on_lane in
-        record {
-          added = plan_of client seq body ∷ [];
-          grew = grew seen client before after f (plan_of client seq body ∷ []) items (refl, tt);
-          to_finder = λ k told number. inr (λ i. plan_of (sym number i)
-              ((number' ∙ sym (planned_is seen client before after f k number)) i) body ∷ []);
-        }
+      -- planned, and then memory ran out
+      pub planned_means : (seq : ℕ) → CallsLane (λ lane after. Plans lane client body after seq) old mid
+          → Calls (LaneGrows seen.telling client) (Unit {0}) old mid → new ≡ mid
+          → MeansAs berth_manner client (berth_record seen.telling old)
+          (λ k. BerthRefused k body (refuses.ByLane refusals.NoMemory)) (berth_record seen.telling new)
+      planned_means seq planned grows stays =
+          let before = berth_record seen.telling old in
+          let after = berth_record seen.telling new in
+          let f = found_by_call seen old new was is (both_keep old mid new (keeps_head seen client old mid grows)
+          (same_keeps_head seen mid new stays)) in
+          let number' = planned_next client seq body old.present mid.present planned.on_lane in
+          let items = ap (λ (b : BerthState L). items_in b.present) stays
+          ∙ items_planned client seq body old.present mid.present planned.on_lane in
+          record {
+            added = plan_of client seq body ∷ [];
+            grew = grew seen client before after f (plan_of client seq body ∷ []) items (refl, tt);
+            to_finder = λ k told number. inr (λ i. plan_of (sym number i)
+                ((number' ∙ sym (planned_is seen client before after f k number)) i) body ∷ []);
+          }
 
-    refused_by : (k : Knowledge) (why : PlanRefusal) (lane : FoundLane)
-        → IsRefused lane.items (payload_of lane.head.mtu) body why → RefusedByLane k body why lane []
-    refused_by k refusals.Sealed lane r = (refl, r)
-    refused_by k refusals.TooLong lane r = (refl, r)
-    refused_by k refusals.ReplyTooLong lane r = (refl, r)
-    refused_by k refusals.Overfull lane r = (refl, r)
-    refused_by k refusals.NoMemory lane r = inl refl
+      refused_by : (k : Knowledge) (why : PlanRefusal) (lane : FoundLane)
+          → IsRefused lane.items (payload_of lane.head.mtu) body why → RefusedByLane k body why lane []
+      refused_by k refusals.Sealed lane r = (refl, r)
+      refused_by k refusals.TooLong lane r = (refl, r)
+      refused_by k refusals.ReplyTooLong lane r = (refl, r)
+      refused_by k refusals.Overfull lane r = (refl, r)
+      refused_by k refusals.NoMemory lane r = inl refl
 
-    abbrev pub found_there : Greeting L → FoundLane
-    found_there greeting = record (found_in seen old.settings old.number old.past greeting)
-        { items = items_in greeting; outcomes = outcomes_in new.present }
+      abbrev pub found_there : Greeting L → FoundLane
+      found_there greeting = record (found_in seen old.settings old.number old.past greeting)
+          { items = items_in greeting; outcomes = outcomes_in new.present }
 
-    refused_at : (k : Knowledge) (why : BerthRefusal) (greeting : Greeting L) → IsRefusedAt greeting body why
-        → BerthRefused k body why (found_there greeting) []
-    refused_at k refuses.Silent (Answered by lane) r = absurd r
-    refused_at k refuses.Down (Answered by lane) r = absurd r
-    refused_at k refuses.Later (Answered by lane) r = (refl, r)
-    refused_at k (refuses.ByLane why) (Answered by lane) r = refused_by k why (found_there (Answered by lane)) r
-    refused_at k why (Silent link) r = subst (λ (w : BerthRefusal). BerthRefused k body w (found_there (Silent link)) [])
-        (sym r) (refl, stretches seen.telling old.past, record { front = refl; none = refl })
-    refused_at k why (Down link) r = subst (λ (w : BerthRefusal). BerthRefused k body w (found_there (Down link)) [])
-        (sym r) (refl, stretches seen.telling old.past, record { front = refl; none = refl })
+      refused_at : (k : Knowledge) (why : BerthRefusal) (greeting : Greeting L) → IsRefusedAt greeting body why
+          → BerthRefused k body why (found_there greeting) []
+      refused_at k refuses.Silent (Answered by lane) r = absurd r
+      refused_at k refuses.Down (Answered by lane) r = absurd r
+      refused_at k refuses.Later (Answered by lane) r = (refl, r)
+      refused_at k (refuses.ByLane why) (Answered by lane) r = refused_by k why (found_there (Answered by lane)) r
+      refused_at k why (Silent link) r = subst (λ (w : BerthRefusal). BerthRefused k body w (found_there (Silent link)) [])
+          (sym r) (refl, stretches seen.telling old.past, record { front = refl; none = refl })
+      refused_at k why (Down link) r = subst (λ (w : BerthRefusal). BerthRefused k body w (found_there (Down link)) [])
+          (sym r) (refl, stretches seen.telling old.past, record { front = refl; none = refl })
 
-    pub refused_means : (why : BerthRefusal) → new ≡ old → IsRefusedAt old.present body why
-        → MeansAs berth_manner client (berth_record seen.telling old) (λ k. BerthRefused k body why)
-        (berth_record seen.telling new)
-    refused_means why stays refused =
-        let before = berth_record seen.telling old in
-        let after = berth_record seen.telling new in
-        let f = found_by_call seen old new was is (same_keeps_head seen old new stays) in
-        record {
-          added = [];
-          grew = same seen client before after f (ap (λ (b : BerthState L). items_in b.present) stays);
-          to_finder = λ k told number. refused_at k why old.present refused;
-        }
+      pub refused_means : (why : BerthRefusal) → new ≡ old → IsRefusedAt old.present body why
+          → MeansAs berth_manner client (berth_record seen.telling old) (λ k. BerthRefused k body why)
+          (berth_record seen.telling new)
+      refused_means why stays refused =
+          let before = berth_record seen.telling old in
+          let after = berth_record seen.telling new in
+          let f = found_by_call seen old new was is (same_keeps_head seen old new stays) in
+          record {
+            added = [];
+            grew = same seen client before after f (ap (λ (b : BerthState L). items_in b.present) stays);
+            to_finder = λ k told number. refused_at k why old.present refused;
+          }

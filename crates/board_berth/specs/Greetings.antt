@@ -1,5 +1,5 @@
 -- A greeting of a board: what it came to, and what holds of it while it is the present one and once it is past. Profile.
-use Rattle.std.specs.Prelude.{◌≡◌, ◌⊎◌, ℕ, ◌*◌, ◌+◌, ◌≤◌, Bool, true, List, [], Option, Some, None, IfSome}
+use Rattle.std.specs.Prelude.{◌≡◌, ℕ, ◌*◌, ◌+◌, ◌≤◌, Bool, true, List, [], Option, Some, None, IfSome}
 use Rattle.ipb_base.specs.Numbers.{most_others, payload_of}
 use Rattle.world_model.specs.Settings.{Limits}
 use Rattle.links.specs.Receives.{first_status, receives_in}

@@ -1,5 +1,4 @@
 use Rattle.std.proofs.Common.{subst}
-use Rattle.hub_lane.specs.declared.step.Stepped.TheVariants as steps
 use Rattle.hub_multiplexer.specs.AnyCalls.{MeansAs, StepMeansAs}
 use Rattle.board_berth.specs.Berths.{berth_record}
 use Rattle.board_berth.specs.Manner.{berth_manner}
