@@ -3,21 +3,20 @@ use Rattle.std.proofs.Common.{◌≡◌, ◌∙◌, ℕ, ◌+◌, ◌-◌, ◌^�
 use Rattle.std.proofs.Common.{subst, arith, append-nil, length-append}
 use Rattle.std.specs.Prelude.{IfOk, OnErr, OnOk, Result, Ok, Err}
 use Rattle.std.specs.List.{AllByRecursion}
-use Rattle.turn_pass.specs.Record.{AreMadeBy, GrowsBy, Record, Recorded}
+use Rattle.turn_pass.specs.Record.{AreMadeBy, GrowsBy, Record}
 use Rattle.world_model.specs.Settings.{Limits}
 use Rattle.links.specs.Telling.{Telling}
 use Rattle.links.specs.declared.link.Link.{Ghosts}
 use Rattle.lane_record.specs.declared.item.Item.{Item}
 use Rattle.lane_record.specs.Coding.{as_recorded}
-use Rattle.hub_lane.specs.Lanes.{LaneState, new_lane, opening_of}
-use Rattle.hub_lane.specs.Records.{head_shown}
+use Rattle.hub_lane.specs.Lanes.{LaneState}
 use Rattle.board_berth.specs.declared.answers.Begun.{Begun}
 use Rattle.board_berth.specs.declared.answers.NotBegun.{NotBegun}
 use Rattle.board_berth.specs.declared.greeting.Greeting.{Greeting}
 use Rattle.board_berth.specs.declared.greeting.Greeting.TheVariants.{Answered, Silent, Down}
 use Rattle.board_berth.specs.Berths.{BerthState, IsKept, berth_record, greetings_of}
 use Rattle.board_berth.specs.Calls.{Begins, Follows, IsSameBerth, OnLane}
-use Rattle.board_berth.specs.Greetings.{IsMet, IsNew, IsNewLane, IsOver, IsPast, IsSameGreeting, IsSameLane, KeepsAllIn}
+use Rattle.board_berth.specs.Greetings.{IsMet, IsNew, IsOver, IsPast, IsSameGreeting, IsSameLane, KeepsAllIn}
 use Rattle.board_berth.specs.Greetings.{number_in}
 use Rattle.board_berth.specs.Records.{Stretch, entries_from, record_of_all, stretch_of, stretches}
 use Rattle.board_berth.proofs.Growing.{all_entries, with_present}
@@ -97,7 +96,7 @@ module _ {L : Type 0} (seen : Ghosts L) where
 
   -- ---- the record grows
 
-  new_entries : (settings : Limits) (number client before : ℕ) (greeting : Greeting L)
+  pub new_entries : (settings : Limits) (number client before : ℕ) (greeting : Greeting L)
       → IsNew seen settings number client greeting → AreMadeBy client (entries_from before (stretch_of seen.telling greeting))
   new_entries settings number client before (Answered by lane) new =
       let none : lane.items ≡ [] = ap (λ (l : LaneState L). l.items) new.new in

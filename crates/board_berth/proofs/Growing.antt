@@ -1,9 +1,9 @@
 -- How the record of a berth grows.
-use Rattle.std.proofs.Common.{◌≡◌, ◌∙◌, ℕ, ◌+◌, ◌<◌, List, [], ◌∷◌, ◌++◌, length, map, Option, refl, sym, ap, subst, arith}
-use Rattle.std.proofs.Common.{append_assoc, append-nil, length-append}
-use Rattle.std.proofs.lemmas.List.{length-map, map-append}
+use Rattle.std.proofs.Common.{◌≡◌, ◌∙◌, ℕ, ◌+◌, List, [], ◌∷◌, ◌++◌, length, map, Option, refl, sym, ap, subst, arith}
+use Rattle.std.proofs.Common.{append_assoc, append-nil}
+use Rattle.std.proofs.lemmas.List.{map-append}
 use Rattle.std.specs.List.{AllByRecursion}
-use Rattle.turn_pass.specs.Record.{AreMadeBy, GrowsBy, Record, Recorded}
+use Rattle.turn_pass.specs.Record.{AreMadeBy, GrowsBy, Recorded}
 use Rattle.world_model.specs.Settings.{Limits}
 use Rattle.links.specs.Telling.{Telling}
 use Rattle.lane_record.specs.declared.item.Item.{Item}
@@ -53,7 +53,7 @@ module _ {L : Type 0} (tells : L → Option Telling) where
 
   -- ---- a call on the lane of the present one
 
-  same_head : (client : ℕ) (old new : LaneState L) → LaneGrows tells client old new
+  pub same_head : (client : ℕ) (old new : LaneState L) → LaneGrows tells client old new
       → head_shown tells new ≡ head_shown tells old
   same_head client old new grows =
       let settings : new.settings ≡ old.settings = grows.settings in

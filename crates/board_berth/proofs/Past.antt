@@ -1,5 +1,5 @@
 -- What follows of past greetings and the present one.
-use Rattle.std.proofs.Common.{◌≡◌, ℕ, zero, suc, ◌++◌, Bool, List, [], ◌∷◌, Option, Some, None, ◌||◌, refl, true}
+use Rattle.std.proofs.Common.{◌≡◌, ℕ, suc, ◌++◌, Bool, List, [], ◌∷◌, Option, Some, None, ◌||◌, refl, true}
 use Rattle.std.specs.Prelude.{IfSome, is_some}
 use Rattle.std.specs.List.{AllByRecursion, slice_get}
 use Rattle.links.specs.Receives.{receives_in}
@@ -10,7 +10,7 @@ use Rattle.world_model.specs.Hub.{Hub}
 use Rattle.world_model.specs.Settings.{Limits}
 use Rattle.lane_record.specs.declared.item.Item.{Item}
 use Rattle.lane_record.specs.declared.outcome.Outcome.{Outcome}
-use Rattle.lane_record.specs.Claims.{Claim, IsFinished, IsTaken, claims, outcome_taken}
+use Rattle.lane_record.specs.Claims.{IsFinished, IsTaken, claims, outcome_taken}
 use Rattle.lane_record.specs.Legal.{IsLegal}
 use Rattle.lane_record.proofs.Asks.{apart}
 use Rattle.lane_tables.specs.Taken.{IsAllTaken}

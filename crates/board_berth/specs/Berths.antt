@@ -1,5 +1,5 @@
 -- A berth as contracts see it: a board in greetings, one after another. Profile.
-use Rattle.std.specs.Prelude.{◌≡◌, ℕ, ◌+◌, ◌-◌, ◌^◌, ◌<◌, ◌≤◌, List, [], ◌∷◌, ◌++◌, length, min, Option}
+use Rattle.std.specs.Prelude.{◌≡◌, ℕ, ◌+◌, ◌-◌, ◌^◌, ◌<◌, List, [], ◌∷◌, ◌++◌, length, min, Option}
 use Rattle.std.specs.List.{AllByRecursion}
 use Rattle.turn_pass.specs.Record.{Record}
 use Rattle.world_model.specs.Settings.{Limits}

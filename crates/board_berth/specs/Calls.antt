@@ -7,9 +7,11 @@ use Rattle.links.specs.declared.link.Link.{Ghosts}
 use Rattle.world_model.specs.Settings.{Limits}
 use Rattle.lane_record.specs.declared.item.Item.{Item}
 use Rattle.lane_tables.specs.Taken.{IsAllTaken}
+use Rattle.hub_lane.specs.Calls.{AsksAs}
 use Rattle.hub_lane.specs.Greeting.{StaysFresh}
 use Rattle.hub_lane.specs.Lanes.{LaneState, opening_of}
 use Rattle.hub_lane.specs.Plans.{IsRefused}
+use Rattle.hub_lane.specs.declared.answers.Asked.TheVariants as asks
 use Rattle.board_berth.specs.declared.answers.BerthRefusal.{BerthRefusal}
 use Rattle.board_berth.specs.declared.answers.BerthRefusal.TheVariants as refuses
 use Rattle.board_berth.specs.declared.answers.Begun.{Begun}
@@ -49,6 +51,11 @@ pub record LaneGrows {L : Type 0} (tells : L → Option Telling) (client : ℕ) 
   pub added : List Item
   pub items : new.items ≡ old.items ++ added
   pub makers : AllByRecursion (λ (x : Item). x.client ≡ client) added
+
+-- the client's next planned body was asked in the present greeting
+pub record IsAskedIn {L : Type 0} (old : BerthState L) (client : ℕ) (new : BerthState L) : Type 0 where
+  pub seq : ℕ
+  pub as_next : Calls (λ lane after. AsksAs lane client after (asks.Asked seq)) (asks.Asked seq ≡ asks.Nothing) old new
 
 -- Why a body is refused where the board answered, and where it may have or not.
 abbrev pub IsRefusedBy : {L : Type 0} → LaneState L → List ℕ → BerthRefusal → Type 0

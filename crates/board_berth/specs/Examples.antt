@@ -1,12 +1,12 @@
 -- Values for worked examples.
 use Rattle.std.specs.Prelude.{ℕ, List, [], ◌∷◌, Option, None}
 use Rattle.links.specs.Telling.{Telling}
-use Rattle.turn_pass.specs.Record.{Record, Recorded}
+use Rattle.turn_pass.specs.Record.{Recorded}
 use Rattle.world_model.specs.Settings.{Limits}
 use Rattle.lane_record.specs.declared.item.Item.{Item}
 use Rattle.lane_record.specs.declared.outcome.Outcome.TheVariants.{Replied}
 use Rattle.lane_record.specs.NextEntry.{ask_of, plan_of, took_of}
-use Rattle.hub_lane.specs.Lanes.{BoardStatus, LaneState, new_lane}
+use Rattle.hub_lane.specs.Lanes.{LaneState, new_lane}
 use Rattle.board_berth.specs.declared.greeting.Greeting.TheVariants.{Answered, Silent}
 use Rattle.board_berth.specs.Berths.{BerthState}
 

@@ -1,9 +1,10 @@
 -- A greeting of a board: what it came to, and what holds of it while it is the present one and once it is past. Profile.
-use Rattle.std.specs.Prelude.{◌≡◌, ◌⊎◌, ℕ, ◌*◌, ◌+◌, ◌≤◌, Bool, true, Option, Some, None, IfSome}
+use Rattle.std.specs.Prelude.{◌≡◌, ℕ, ◌*◌, ◌+◌, ◌≤◌, Bool, true, List, [], Option, Some, None, IfSome}
 use Rattle.ipb_base.specs.Numbers.{most_others, payload_of}
 use Rattle.world_model.specs.Settings.{Limits}
 use Rattle.links.specs.Receives.{first_status, receives_in}
 use Rattle.links.specs.declared.link.Link.{Ghosts}
+use Rattle.lane_record.specs.declared.item.Item.{Item}
 use Rattle.lane_record.specs.Bounds.{HasReached}
 use Rattle.lane_tables.specs.Taken.{IsAllTaken}
 use Rattle.hub_lane.specs.Calls.{has_stopped}
@@ -30,6 +31,12 @@ abbrev pub number_in : {L : Type 0} → (L → ℕ) → Greeting L → ℕ
 number_in numbers (Answered by lane) = lane.number
 number_in numbers (Silent link) = numbers link
 number_in numbers (Down link) = numbers link
+
+-- the entries of its lane; none where the board did not answer
+abbrev pub items_in : {L : Type 0} → Greeting L → List Item
+items_in (Answered by lane) = lane.items
+items_in (Silent link) = []
+items_in (Down link) = []
 
 -- the words of the longest packet of a board that answered
 abbrev pub payload_in : {L : Type 0} → Greeting L → Option ℕ

@@ -1,5 +1,5 @@
 -- What follows of the greetings of a berth. Profile.
-use Rattle.std.specs.Prelude.{◌≡◌, ℕ, List, IfSome}
+use Rattle.std.specs.Prelude.{List, IfSome}
 use Rattle.std.specs.List.{AllByRecursion}
 use Rattle.links.specs.Receives.{receives_in}
 use Rattle.links.specs.declared.link.Link.{Ghosts}

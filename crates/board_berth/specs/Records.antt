@@ -1,13 +1,11 @@
 -- The record of a berth: the greetings that were answered, one behind the other. In front of the entries of each stands
 -- one entry that tells who began it, which it is, and what the board told. Profile.
-use Rattle.std.specs.Prelude.{◌≡◌, ℕ, ◌+◌, List, [], ◌∷◌, ◌++◌, map, Option}
-use Rattle.std.specs.List.{AllByRecursion}
+use Rattle.std.specs.Prelude.{ℕ, ◌+◌, List, [], ◌∷◌, ◌++◌, map, Option}
 use Rattle.turn_pass.specs.Record.{Record, Recorded}
 use Rattle.world_model.specs.Settings.{Limits}
 use Rattle.links.specs.Telling.{Telling}
 use Rattle.lane_record.specs.declared.item.Item.{Item}
 use Rattle.lane_record.specs.Coding.{Head, as_recorded, head_numbers}
-use Rattle.hub_lane.specs.Lanes.{LaneState, opening_of}
 use Rattle.hub_lane.specs.Records.{head_shown}
 use Rattle.board_berth.specs.declared.greeting.Greeting.{Greeting}
 use Rattle.board_berth.specs.declared.greeting.Greeting.TheVariants.{Answered, Silent, Down}

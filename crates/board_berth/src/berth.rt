@@ -13,7 +13,8 @@ ghost use Rattle.hub_lane.specs.declared.step.Looked.TheVariants as looks;
 ghost use Rattle.hub_lane.specs.declared.step.Stepped.TheVariants as steps;
 ghost use Rattle.board_berth.specs.declared.answers.NotBegun.TheVariants as not_begun;
 ghost use Rattle.board_berth.specs.Berths.{IsBerth, berth_record, greeting_count};
-ghost use Rattle.board_berth.specs.Calls.{Begins, Calls, CallsLane, Follows, IsNotBegun, IsRefusedAt, IsSameBerth, Opens};
+ghost use Rattle.board_berth.specs.Calls.{Begins, Calls, CallsLane, Follows, IsNotBegun, IsRefusedAt, IsSameBerth, LaneGrows};
+ghost use Rattle.board_berth.specs.Calls.{Opens};
 ghost use Rattle.board_berth.specs.Greetings.{IsMet, IsOver, has_stopped_in, link_in, payload_in};
 
 use crate::answers::{Begun, BerthRefusal, NotBegun};
@@ -136,6 +137,7 @@ impl<L: Link> Berth<L> {
             CallsLane (λ lane after. Plans lane client body after seq) self.old self.new) }
         ensures refused { IfErr result (IsRefusedAt self.old.present body) }
         ensures unchanged { OnErr result (self.new ≡ self.old) }
+        ensures on_lane { Calls (LaneGrows L.telling client) (Unit {0}) self.old self.new }
         ensures grows { GrowsBy client (berth_record L.telling self.old) (berth_record L.telling self.new) }
     {
         plan_in(&mut self.present, client, body, reply_words)
@@ -150,6 +152,7 @@ impl<L: Link> Berth<L> {
         ensures down { Calls (IsDownByFault L.Link) (Unit {0}) self.old self.new }
         ensures unreceived { Calls (λ lane after. ReceivesNothing L.Link lane.link after.link) (Unit {0}) self.old
             self.new }
+        ensures on_lane { Calls (LaneGrows L.telling client) (Unit {0}) self.old self.new }
         ensures grows { GrowsBy client (berth_record L.telling self.old) (berth_record L.telling self.new) }
     {
         ask_in(&mut self.present, client)
@@ -175,6 +178,7 @@ impl<L: Link> Berth<L> {
             Calls (λ lane after. LooksAs lane client after looked) (looked ≡ looks.Nothing) self.old self.new) }
         ensures unchanged { OnErr result (self.new ≡ self.old) }
         ensures link { Calls (λ lane after. after.link ≡ lane.link) (Unit {0}) self.old self.new }
+        ensures on_lane { Calls (LaneGrows L.telling client) (Unit {0}) self.old self.new }
         ensures grows { GrowsBy client (berth_record L.telling self.old) (berth_record L.telling self.new) }
     {
         look_in(&mut self.present, client)
@@ -192,6 +196,7 @@ impl<L: Link> Berth<L> {
         ensures received { IfOk result (λ stepped.
             Calls (λ lane after. RoseInVain L.Link stepped lane.link after.link) (Unit {0}) self.old self.new) }
         ensures counts { Calls (λ lane after. KeepsCounting L.Link lane.link after.link) (Unit {0}) self.old self.new }
+        ensures on_lane { Calls (LaneGrows L.telling client) (Unit {0}) self.old self.new }
         ensures grows { GrowsBy client (berth_record L.telling self.old) (berth_record L.telling self.new) }
     {
         step_in(&mut self.present, client)

@@ -2,10 +2,12 @@
 #![tactic(auto)]
 
 mod answers;
+mod at_hub;
 mod berth;
 mod calls;
 mod chronicle;
 pub mod examples;
+mod for_client;
 mod greeting;
 pub mod laws;
 

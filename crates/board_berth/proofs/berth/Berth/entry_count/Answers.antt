@@ -1,4 +1,4 @@
-use Rattle.std.proofs.Common.{◌≡◌, ◌∙◌, ◌+◌, ap, sym, length, length-append, subst, arith}
+use Rattle.std.proofs.Common.{◌≡◌, ◌∙◌, ◌+◌, ap, length, length-append, subst, arith}
 use Rattle.board_berth.specs.Berths.{BerthState, berth_record}
 use Rattle.board_berth.specs.Records.{entries_from, stretch_of, stretches}
 use Rattle.board_berth.proofs.Growing.{all_entries}

@@ -1,7 +1,6 @@
-use Rattle.std.proofs.Common.{◌≡◌, ◌∙◌, ◌<◌, ◌^◌, ap, sym, length, subst, arith}
+use Rattle.std.proofs.Common.{ap, length, arith}
 use Rattle.board_berth.specs.Berths.{BerthState, berth_record}
 use Rattle.board_berth.proofs.Beginning.{on_any_ok, record_stays, same_number_in, same_stretch}
-use Rattle.board_berth.proofs.Growing.{state_with}
 use Rattle.board_berth.proofs.berth.Berth.next_link.Goals as goal
 
 pub returns-clause-few : goal.returns-clause-few

@@ -1,4 +1,4 @@
-use Rattle.std.proofs.Common.{◌≡◌, ◌∙◌, ◌<◌, ◌^◌, ◌++◌, ◌∷◌, [], List, ap, sym, length, subst, arith}
+use Rattle.std.proofs.Common.{◌∙◌, ◌<◌, ◌^◌, List, ap, sym, length, subst, arith}
 use Rattle.board_berth.specs.declared.greeting.Greeting.{Greeting}
 use Rattle.board_berth.specs.Berths.{BerthState, IsKept, berth_record}
 use Rattle.board_berth.specs.Greetings.{IsMet, IsOver, number_in}
